@@ -1,0 +1,29 @@
+-- Laws of a table's cells.
+-- Assumes nothing.
+use Prim.Native.Nat.{ℕ, suc, _+_, _*_, _≤_, _<_}
+use mathlib.Core.Path.{_≡_, refl, sym, ap, ap₂, _∙_}
+use mathlib.Core.List.{List}
+use native.Mathlib.Omega.{arith}
+use native.Mathlib.Nat.{mul-le-mul-left, mul-suc}
+use lib.Dec.{ltb}
+use borrow.Author.Tests.{lt-ltb, le-ltb}
+use Rattle.position.specs.Layout.{byte, cell}
+
+-- a record of the table lies within the table
+pub inside : (size n k f : ℕ) → k < n → f < size → size * k + f < size * n
+inside size n k f l m =
+    let most : size * suc k ≤ size * n = mul-le-mul-left size l in
+    omega (arith, mul-suc size k)
+
+module _ (p : List ℕ) (start size n k f : ℕ) where
+  pub cell-in : k < n → cell p start size n k f ≡ byte p (start + size * k + f)
+  unfolding cell
+  cell-in l = simp (lt-ltb k n l)
+
+  pub cell-out : n ≤ k → cell p start size n k f ≡ 0
+  unfolding cell
+  cell-out l = simp (le-ltb k n l)
+
+-- the same table, by other names of its start and its length
+pub cell-at : (p : List ℕ) {s s′ n n′ : ℕ} (size k f : ℕ) → s ≡ s′ → n ≡ n′ → cell p s size n k f ≡ cell p s′ size n′ k f
+cell-at p size k f e g = ap₂ (λ (a b : ℕ). cell p a size b k f) e g

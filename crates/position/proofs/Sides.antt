@@ -1,0 +1,100 @@
+-- Laws of the ground: which side lies between two hexes, and from both of them the same; where a step leads; where a unit may stand.
+-- Assumes nothing.
+use Prim.Native.Nat.{ℕ, zero, suc, _+_, _-_, _/_, _%_, _≤_, _<_}
+use mathlib.Core.Path.{_≡_, refl, sym, ap, ap₂, _∙_}
+use mathlib.Core.List.{List}
+use mathlib.Core.Bool.{Bool, false, not, and-false}
+use native.Mathlib.Omega.{arith}
+use native.Mathlib.Decide.{decLt}
+use lib.Dec.{eqb}
+use borrow.Author.Tests.{lt-ltb, le-ltb, le-leb, lt-leb, eq-eqb, ne-eqb}
+use Rattle.grid.specs.declared.Beside.{Beside}
+use Rattle.grid.specs.declared.Beside.the-variants.{At, Off}
+use Rattle.grid.specs.Map.{neighbourOf}
+use Rattle.grid.proofs.Laws.{opposite, direction}
+use Rattle.position.specs.declared.View.{View}
+use Rattle.position.specs.Layout.{ViewOf}
+use Rattle.position.specs.Tally.{any}
+use Rattle.position.specs.Board.{Board, Map, ground}
+use Rattle.position.specs.Ground.{beside, stored, storedAt, side, blockedSide, next, isAt, joined, standable}
+
+-- the neighbour, by the view's width and height
+pub beside-view : {p : List ℕ} {v : View} → ViewOf p v → (h d : ℕ) → neighbourOf (v .width) (v .height) h d ≡ beside (ground p) h d
+beside-view o h d = ap₂ (λ (w t : ℕ). neighbourOf w t h d) (o .width) (o .height)
+
+module _ (m : Map) (h : ℕ) where
+  -- the three sides that a hex keeps
+  pub stored-north : (d : ℕ) → d ≡ 0 → stored m h d ≡ m .sides h % 4
+  unfolding stored
+  stored-north d e = rw e refl
+
+  pub stored-north-east : (d : ℕ) → d ≡ 1 → stored m h d ≡ m .sides h / 4 % 4
+  unfolding stored
+  stored-north-east d e = rw e refl
+
+  pub stored-south-east : (d : ℕ) → 2 ≤ d → stored m h d ≡ m .sides h / 16 % 4
+  unfolding stored
+  stored-south-east zero l = absurd (omega arith)
+  stored-south-east (suc zero) l = absurd (omega arith)
+  stored-south-east (suc (suc d)) l = refl
+
+  module _ (d : ℕ) where
+    -- a side is kept by the hex or by the neighbour beyond it
+    pub side-own : d < 3 → side m h d ≡ stored m h d
+    unfolding side
+    side-own l = simp (lt-ltb d 3 l)
+
+    side-other : 3 ≤ d → side m h d ≡ storedAt m (beside m h d) d
+    unfolding side
+    side-other l = simp (le-ltb d 3 l)
+
+    pub side-beyond : (n : ℕ) → 3 ≤ d → beside m h d ≡ At n → side m h d ≡ stored m n (d - 3)
+    unfolding storedAt
+    side-beyond n l e = side-other l ∙ ap (λ (b : Beside). storedAt m b d) e
+
+    pub side-edge : 3 ≤ d → beside m h d ≡ Off → side m h d ≡ 0
+    unfolding storedAt
+    side-edge l e = side-other l ∙ ap (λ (b : Beside). storedAt m b d) e
+
+    -- over a blocked side there is no step, over any other it leads to the neighbour
+    pub next-blocked : side m h d ≡ blockedSide → next m h d ≡ Off
+    unfolding next
+    next-blocked e = simp (eq-eqb (side m h d) blockedSide e)
+
+    pub next-beside : (side m h d ≡ blockedSide → ⊥) → next m h d ≡ beside m h d
+    unfolding next
+    next-beside e = simp (ne-eqb (side m h d) blockedSide e)
+
+-- a side is one side, seen from either hex
+pub side-symmetric : (m : Map) (h d n : ℕ) → beside m h d ≡ At n → side m h d ≡ side m n ((d + 3) % 6)
+side-symmetric m h d n e = at (decLt d 3)
+  where
+    at : Dec (d < 3) → side m h d ≡ side m n ((d + 3) % 6)
+    at (yes l) =
+        let o = opposite (m .width) (m .height) h d n e in
+        side-own m h d l ∙ sym (side-beyond m n ((d + 3) % 6) h (omega arith) o ∙ ap (stored m h) (omega arith))
+    at (no k) =
+        let l = direction (m .width) (m .height) h d n e in
+        side-beyond m h d n (omega arith) e ∙ sym (side-own m n ((d + 3) % 6) (omega arith) ∙ ap (stored m n) (omega arith))
+
+-- a step in direction d leads from hex h to hex x
+unfoldable pub reaches : Map → ℕ → ℕ → ℕ → Bool
+reaches m h x d = isAt (next m h d) x
+
+pub joined-is : (m : Map) (h x : ℕ) → joined m h x ≡ any (reaches m h x) 6
+unfolding joined reaches
+joined-is m h x = refl
+
+module _ (b : Board) (h : ℕ) where
+  -- off the map, on water, and on land or coast
+  pub standable-off : b .map .hexes ≤ h → standable b h ≡ false
+  unfolding standable
+  standable-off l = simp (le-ltb h (b .map .hexes) l)
+
+  pub standable-sea : 1 < b .map .surface h → standable b h ≡ false
+  unfolding standable
+  standable-sea l = simp (lt-leb (b .map .surface h) 1 l, and-false)
+
+  pub standable-land : h < b .map .hexes → b .map .surface h ≤ 1 → standable b h ≡ not (eqb (b .chart .cost (b .map .terrain h)) 0)
+  unfolding standable
+  standable-land l k = simp (lt-ltb h (b .map .hexes) l, le-leb (b .map .surface h) 1 k)

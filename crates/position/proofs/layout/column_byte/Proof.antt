@@ -1,0 +1,23 @@
+-- `layout::column_byte` meets its contract: the view says how many columns there are.
+-- Assumes nothing.
+use mathlib.Core.Path.{refl, _∙_}
+use borrow.Author.Needs.{needs}
+use Rattle.position.specs.Layout.{columnByte}
+use Rattle.position.proofs.Cells.{cell-at}
+use Rattle.position.proofs.layout.column_byte.Statement.{statement}
+use Rattle.position.proofs.layout.column_byte.Tie as tie
+
+add-cell : tie.Need-add-cell
+add-cell c = search needs
+
+cell-requires : tie.Need-cell-requires
+cell-requires c κs = search needs
+
+returns : tie.Need-returns
+unfolding columnByte
+returns c =
+    let v = c .before .before .pre .0 .view in
+    record { is = c .cell .ensures .is ∙ cell-at _ 8 _ _ refl (v .columns); small = c .cell .ensures .small }
+
+pub column-byte-spec : {M : Type 1} → statement M
+column-byte-spec = tie.close (tie.spec add-cell cell-requires returns)

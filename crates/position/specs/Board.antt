@@ -1,0 +1,123 @@
+-- What a ruling may look at: everything of a position but the strengths that are face down. Each part is read off the bytes by
+-- accessors that show nothing past their tables, so positions that differ only in face-down strengths have one board.
+-- Assumes nothing.
+use Prim.Native.Nat.{ℕ, _*_}
+use mathlib.Core.Bool.{Bool, not, cond}
+use mathlib.Core.List.{List}
+use lib.Dec.{eqb}
+use Rattle.position.specs.Bits.{has, tried}
+use Rattle.position.specs.Kind as Kind
+use Rattle.position.specs.Layout as Layout
+
+-- cost and defence multiple of the terrains 0..15; 16 is the river side and 17 the major river side
+pub record Chart : Type 0 where
+  pub cost : ℕ → ℕ
+  pub multiple : ℕ → ℕ
+
+-- the columns of the results table, counted from 0: odds a to d, and a code for each die
+pub record Results : Type 0 where
+  pub columns : ℕ
+  pub attack : ℕ → ℕ
+  pub defence : ℕ → ℕ
+  pub code : ℕ → ℕ → ℕ
+
+pub record Map : Type 0 where
+  pub width : ℕ
+  pub height : ℕ
+  pub hexes : ℕ
+  pub terrain : ℕ → ℕ
+  pub surface : ℕ → ℕ
+  pub flags : ℕ → ℕ
+  pub country : ℕ → ℕ
+  pub sides : ℕ → ℕ
+
+-- `shown` is the strength of a unit that is tried, else 0
+pub record Units : Type 0 where
+  pub count : ℕ
+  pub nationality : ℕ → ℕ
+  pub kind : ℕ → ℕ
+  pub hex : ℕ → ℕ
+  pub shown : ℕ → ℕ
+  pub allowance : ℕ → ℕ
+  pub marks : ℕ → ℕ
+  pub role : ℕ → ℕ
+
+pub record Desk : Type 0 where
+  pub turn : ℕ
+  pub lastTurn : ℕ
+  pub force : ℕ
+  pub phase : ℕ
+  pub stage : ℕ
+  pub owed : ℕ
+  pub need : ℕ
+  pub route : ℕ → ℕ → ℕ
+
+pub record Board : Type 0 where
+  pub chart : Chart
+  pub results : Results
+  pub map : Map
+  pub units : Units
+  pub desk : Desk
+
+abbrev pub chart : List ℕ → Chart
+chart p = record { cost = Layout.cost p; multiple = Layout.multiple p }
+
+abbrev pub results : List ℕ → Results
+results p = record { columns = Layout.columns p; attack = Layout.attackOdds p; defence = Layout.defenceOdds p; code = Layout.code p }
+
+abbrev pub ground : List ℕ → Map
+ground p =
+    record {
+      width = Layout.width p;
+      height = Layout.height p;
+      hexes = Layout.hexes p;
+      terrain = Layout.terrain p;
+      surface = Layout.surface p;
+      flags = Layout.flags p;
+      country = Layout.country p;
+      sides = Layout.sides p;
+    }
+
+unfoldable pub shown : List ℕ → ℕ → ℕ
+shown p u = cond (has tried (Layout.marks p u)) (Layout.strength p u) 0
+
+abbrev pub units : List ℕ → Units
+units p =
+    record {
+      count = Layout.count p;
+      nationality = Layout.nationality p;
+      kind = Layout.kind p;
+      hex = Layout.hex p;
+      shown = shown p;
+      allowance = Layout.allowance p;
+      marks = Layout.marks p;
+      role = Layout.role p;
+    }
+
+abbrev pub desk : List ℕ → Desk
+desk p =
+    record {
+      turn = Layout.turn p;
+      lastTurn = Layout.lastTurn p;
+      force = Layout.phasing p;
+      phase = Layout.phase p;
+      stage = Layout.stage p;
+      owed = Layout.owed p;
+      need = Layout.need p;
+      route = Layout.route p;
+    }
+
+abbrev pub board : List ℕ → Board
+board p = record { chart = chart p; results = results p; map = ground p; units = units p; desk = desk p }
+
+-- the number that stands for no hex: a destroyed unit's, and an empty place of a route
+abbrev pub nowhere : ℕ
+nowhere = 65535
+
+-- the force of a unit
+unfoldable pub forceOf : Board → ℕ → ℕ
+forceOf b u = Kind.force (b .units .nationality u)
+
+-- "Every other force is Enemy."
+unfoldable pub enemy : Board → ℕ → ℕ → Bool
+enemy b f g = not (eqb f g)

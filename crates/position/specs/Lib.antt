@@ -1,0 +1,15 @@
+pub mod Tally
+pub mod Bits
+pub mod Kind
+pub mod Layout
+pub mod Board
+pub mod Ground
+pub mod Crowd
+pub mod Accepted
+pub mod Decide
+pub mod Broken
+pub mod Checked
+pub mod Change
+pub mod Effect
+pub mod Alike
+pub mod Examples

@@ -1,0 +1,123 @@
+// How many units: in a hex, with a role; and how many routes are filled.
+ghost use mathlib.Core.Path.{_≡_};
+ghost use Prim.Native.Nat.{_<_, _≤_};
+ghost use Rattle.position.specs.Tally.{any};
+ghost use Rattle.position.specs.Board.{board};
+ghost use Rattle.position.specs.Crowd.{crowd, others, holders, owesAt, owingHexes, filled, routes};
+ghost use Rattle.position.specs.Checked.{Laid, Read};
+use crate::View;
+use crate::read;
+
+pub const NOWHERE: usize = 65535;
+
+// How many units stand in hex `h`.
+pub fn crowd(p: &[u8], v: View, h: usize) -> usize
+    requires { ⌜ Laid (now p) v ⌝ }
+    ensures { λ r. ⌜ Read (crowd (board (now (p .entry))) h) 401 r ⌝ }
+{
+    let count = v.count;
+    let mut n = 0;
+    for u in 0..count {
+        if read::hex(p, v, u) == h {
+            n += 1;
+        }
+    }
+    n
+}
+
+// How many units other than `w` stand in hex `h`.
+pub fn others(p: &[u8], v: View, w: usize, h: usize) -> usize
+    requires { ⌜ Laid (now p) v ⌝ }
+    ensures { λ r. ⌜ Read (others (board (now (p .entry))) w h) 401 r ⌝ }
+{
+    let count = v.count;
+    let mut n = 0;
+    for u in 0..count {
+        if read::hex(p, v, u) == h {
+            if u != w {
+                n += 1;
+            }
+        }
+    }
+    n
+}
+
+// How many units have the role `r`.
+pub fn holders(p: &[u8], v: View, r: usize) -> usize
+    requires { ⌜ Laid (now p) v ⌝ }
+    ensures { λ n. ⌜ Read (holders (board (now (p .entry))) r) 401 n ⌝ }
+{
+    let count = v.count;
+    let mut n = 0;
+    for u in 0..count {
+        if read::role(p, v, u) == r {
+            n += 1;
+        }
+    }
+    n
+}
+
+// Whether unit `u` owes and stands in hex `h`.
+pub fn owes_at(p: &[u8], v: View, h: usize, u: usize) -> bool
+    requires { ⌜ Laid (now p) v ⌝ }
+    ensures { λ r. ⌜ r ≡ owesAt (board (now (p .entry))) h u ⌝ }
+{
+    if read::role(p, v, u) == 1 {
+        return read::hex(p, v, u) == h;
+    }
+    false
+}
+
+// Whether a unit below `n` owes and stands in hex `h`.
+pub fn owed_below(p: &[u8], v: View, h: usize, n: usize) -> bool
+    requires { ⌜ Laid (now p) v ⌝ }
+    ensures { λ r. ⌜ r ≡ any (owesAt (board (now (p .entry))) h) n ⌝ }
+{
+    let mut u = 0;
+    while u < n {
+        if owes_at(p, v, h, u) {
+            return true;
+        }
+        u += 1;
+    }
+    false
+}
+
+// In how many hexes units stand that owe: each is counted at the lowest-numbered of them.
+pub fn owing_hexes(p: &[u8], v: View) -> usize
+    requires { ⌜ Laid (now p) v ⌝ }
+    ensures { λ r. ⌜ Read (owingHexes (board (now (p .entry)))) 401 r ⌝ }
+{
+    let count = v.count;
+    let mut n = 0;
+    for u in 0..count {
+        if read::role(p, v, u) == 1 {
+            if !owed_below(p, v, read::hex(p, v, u), u) {
+                n += 1;
+            }
+        }
+    }
+    n
+}
+
+// Whether route `r` is filled.
+pub fn filled(p: &[u8], v: View, r: usize) -> bool
+    requires { ⌜ Laid (now p) v ⌝ }
+    ensures { λ b. ⌜ b ≡ filled (board (now (p .entry))) r ⌝ }
+{
+    read::route(p, v, r, 0) != NOWHERE
+}
+
+// How many routes are filled.
+pub fn routes(p: &[u8], v: View) -> usize
+    requires { ⌜ Laid (now p) v ⌝ }
+    ensures { λ n. ⌜ Read (routes (board (now (p .entry)))) 7 n ⌝ }
+{
+    let mut n = 0;
+    for r in 0..6 {
+        if filled(p, v, r) {
+            n += 1;
+        }
+    }
+    n
+}

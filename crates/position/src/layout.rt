@@ -1,0 +1,145 @@
+// Where each number of a position stands: the one file of the code that knows the format.
+ghost use mathlib.Core.Path.{_≡_};
+ghost use Prim.Native.Nat.{_+_, _*_, _<_, _≤_};
+ghost use lib.ListN.{length};
+ghost use Rattle.position.specs.Layout.{byte, word, cell, columnByte, hexByte, unitByte, deskByte, setUnit, setDesk};
+ghost use Rattle.position.specs.Checked.{Laid, Read};
+use crate::View;
+
+// Where the first two bodies begin, how long their records are, and the desk's length.
+pub const CHART: usize = 20;
+
+pub const RESULTS: usize = 56;
+
+// The fields of a terrain's record, of a column's, of a hex's, of a unit's and of the desk.
+pub const COST: usize = 0;
+
+pub const MULTIPLE: usize = 1;
+
+pub const ATTACK: usize = 0;
+
+pub const DEFENCE: usize = 1;
+
+pub const CODES: usize = 1;
+
+pub const TERRAIN: usize = 0;
+
+pub const SURFACE: usize = 1;
+
+pub const FLAGS: usize = 2;
+
+pub const COUNTRY: usize = 3;
+
+pub const SIDES: usize = 4;
+
+pub const NATIONALITY: usize = 0;
+
+pub const KIND: usize = 1;
+
+pub const HEX: usize = 2;
+
+pub const STRENGTH: usize = 4;
+
+pub const ALLOWANCE: usize = 5;
+
+pub const MARKS: usize = 6;
+
+pub const ROLE: usize = 7;
+
+pub const TURN: usize = 0;
+
+pub const LAST_TURN: usize = 1;
+
+pub const FORCE: usize = 2;
+
+pub const PHASE: usize = 3;
+
+pub const STAGE: usize = 4;
+
+pub const OWED: usize = 5;
+
+pub const NEED: usize = 6;
+
+pub const ROUTES: usize = 8;
+
+pub fn wide(x: u8) -> usize
+    ensures { λ r. ⌜ Read x 256 r ⌝ }
+{
+    x as usize
+}
+
+// The 16-bit number at `at`.
+pub fn word(p: &[u8], at: usize) -> usize
+    requires { ⌜ at + 1 < length (now p) ⌝ }
+    ensures { λ r. ⌜ Read (word (now (p .entry)) at) 65536 r ⌝ }
+{
+    wide(p[at]) + 256 * wide(p[at + 1])
+}
+
+// Byte `f` of record `k`, in a table of `n` records of `size` bytes that begins at `start`; 0 past its last record.
+fn cell(p: &[u8], start: usize, size: usize, n: usize, k: usize, f: usize) -> usize
+    requires { ⌜ (f < size) × (start + size * n ≤ length (now p)) ⌝ }
+    ensures { λ r. ⌜ Read (cell (now (p .entry)) start size n k f) 256 r ⌝ }
+{
+    if n <= k {
+        return 0;
+    }
+    wide(p[start + size * k + f])
+}
+
+pub fn chart_byte(p: &[u8], v: View, t: usize, f: usize) -> usize
+    requires { ⌜ Laid (now p) v × (f < 2) ⌝ }
+    ensures { λ r. ⌜ Read (cell (now (p .entry)) 20 2 18 t f) 256 r ⌝ }
+{
+    cell(p, CHART, 2, 18, t, f)
+}
+
+pub fn column_byte(p: &[u8], v: View, c: usize, f: usize) -> usize
+    requires { ⌜ Laid (now p) v × (f < 8) ⌝ }
+    ensures { λ r. ⌜ Read (columnByte (now (p .entry)) c f) 256 r ⌝ }
+{
+    cell(p, RESULTS + 1, 8, v.columns, c, f)
+}
+
+pub fn hex_byte(p: &[u8], v: View, h: usize, f: usize) -> usize
+    requires { ⌜ Laid (now p) v × (f < 5) ⌝ }
+    ensures { λ r. ⌜ Read (hexByte (now (p .entry)) h f) 256 r ⌝ }
+{
+    cell(p, v.tiles, 5, v.hexes, h, f)
+}
+
+pub fn unit_byte(p: &[u8], v: View, u: usize, f: usize) -> usize
+    requires { ⌜ Laid (now p) v × (f < 8) ⌝ }
+    ensures { λ r. ⌜ Read (unitByte (now (p .entry)) u f) 256 r ⌝ }
+{
+    cell(p, v.units, 8, v.count, u, f)
+}
+
+pub fn desk_byte(p: &[u8], v: View, f: usize) -> usize
+    requires { ⌜ Laid (now p) v × (f < 56) ⌝ }
+    ensures { λ r. ⌜ Read (deskByte (now (p .entry)) f) 256 r ⌝ }
+{
+    let at = v.desk + f;
+    wide(p[at])
+}
+
+// Byte `f` of unit `u` becomes `x`; nothing changes where there is no such unit.
+pub fn set_unit(p: &mut [u8], v: View, u: usize, f: usize, x: usize)
+    requires { ⌜ Laid (now p) v × (f < 8) × (x < 256) ⌝ }
+    ensures { λ _. ⌜ now (p .exit) ≡ setUnit (now (p .entry)) u f x ⌝ }
+{
+    let count = v.count;
+    if u < count {
+        let at = v.units + 8 * u + f;
+        p[at] = x as u8;
+    }
+}
+
+// Byte `f` of the desk becomes `x`.
+pub fn set_desk(p: &mut [u8], v: View, f: usize, x: usize)
+    requires { ⌜ Laid (now p) v × (f < 56) × (x < 256) ⌝ }
+    ensures { λ _. ⌜ now (p .exit) ≡ setDesk (now (p .entry)) f x ⌝ }
+{
+    let at = v.desk + f;
+    p[at] = x as u8;
+}

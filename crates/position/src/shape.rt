@@ -1,0 +1,129 @@
+// The contents: five entries, and the bodies that they name, without gap or tail.
+ghost use mathlib.Core.Path.{_≡_};
+ghost use Prim.Native.Nat.{_+_, _*_, _<_, _≤_};
+ghost use lib.ListN.{length};
+ghost use Rattle.position.specs.Layout.{columns, width, height};
+ghost use Rattle.position.specs.Accepted.{In, Entry};
+ghost use Rattle.position.specs.Checked.{LaidOf, SizedOf, Says};
+use crate::Checked;
+use crate::View;
+use crate::layout;
+
+// The units' count, and the whole: what the columns and the map leave to ask.
+fn with_units(p: &[u8], cols: usize, wide: usize, high: usize) -> Checked
+    requires { ⌜ (cols ≡ columns (now p)) × In 1 cols 12 ⌝ }
+    requires { ⌜ (wide ≡ width (now p)) × In 1 wide 64 ⌝ }
+    requires { ⌜ (high ≡ height (now p)) × In 1 high 64 ⌝ }
+    ensures { λ r. ⌜ SizedOf (now (p .entry)) r ⌝ }
+{
+    let hexes = wide * high;
+    let tiles = layout::RESULTS + 1 + 8 * cols + 2;
+    let units = tiles + 5 * hexes + 2;
+    if p.len() < units {
+        return Checked::Broken;
+    }
+    let count = layout::word(p, units - 2);
+    if 400 < count {
+        return Checked::Broken;
+    }
+    let desk = units + 8 * count;
+    if p.len() != desk + 56 {
+        return Checked::Broken;
+    }
+    Checked::Whole(View {
+        width: wide,
+        height: high,
+        hexes,
+        columns: cols,
+        count,
+        tiles,
+        units,
+        desk,
+    })
+}
+
+// The map's width and height, and what follows them.
+fn with_map(p: &[u8], cols: usize) -> Checked
+    requires { ⌜ (cols ≡ columns (now p)) × In 1 cols 12 ⌝ }
+    ensures { λ r. ⌜ SizedOf (now (p .entry)) r ⌝ }
+{
+    let map = layout::RESULTS + 1 + 8 * cols;
+    if p.len() < map + 2 {
+        return Checked::Broken;
+    }
+    let wide = layout::wide(p[map]);
+    let high = layout::wide(p[map + 1]);
+    if !within(1, wide, 64) {
+        return Checked::Broken;
+    }
+    if !within(1, high, 64) {
+        return Checked::Broken;
+    }
+    with_units(p, cols, wide, high)
+}
+
+// Whether n is lo..hi.
+pub fn within(lo: usize, n: usize, hi: usize) -> bool
+    ensures { λ r. ⌜ Says r (In lo n hi) ⌝ }
+{
+    if n < lo {
+        return false;
+    }
+    if hi < n {
+        return false;
+    }
+    true
+}
+
+// The counts that the bodies hold, each within its limits; the bodies that they ask for fill the position.
+fn sized(p: &[u8]) -> Checked
+    ensures { λ r. ⌜ SizedOf (now (p .entry)) r ⌝ }
+{
+    if p.len() < layout::RESULTS + 1 {
+        return Checked::Broken;
+    }
+    let cols = layout::wide(p[layout::RESULTS]);
+    if !within(1, cols, 12) {
+        return Checked::Broken;
+    }
+    with_map(p, cols)
+}
+
+// Whether entry `k` of the contents names a body that begins at `at` and is `long` bytes long.
+fn entry(p: &[u8], k: usize, at: usize, long: usize) -> bool
+    requires { ⌜ (k < 5) × (20 ≤ length (now p)) ⌝ }
+    ensures { λ r. ⌜ Says r (Entry (now (p .entry)) k at long) ⌝ }
+{
+    if layout::word(p, 4 * k) != at {
+        return false;
+    }
+    if layout::word(p, 4 * k + 2) != long {
+        return false;
+    }
+    true
+}
+
+// The view of a position whose bodies lie as they should.
+pub fn shape(p: &[u8]) -> Checked
+    ensures { λ r. ⌜ LaidOf (now (p .entry)) r ⌝ }
+{
+    let Checked::Whole(v) = sized(p) else {
+        return Checked::Broken;
+    };
+    if !entry(p, 0, layout::CHART, 36) {
+        return Checked::Broken;
+    }
+    if !entry(p, 1, layout::RESULTS, 1 + 8 * v.columns) {
+        return Checked::Broken;
+    }
+    if !entry(p, 2, v.tiles - 2, 2 + 5 * v.hexes) {
+        return Checked::Broken;
+    }
+    if !entry(p, 3, v.units - 2, 2 + 8 * v.count) {
+        return Checked::Broken;
+    }
+    if !entry(p, 4, v.desk, 56) {
+        return Checked::Broken;
+    }
+    Checked::Whole(v)
+}
