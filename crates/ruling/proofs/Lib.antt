@@ -1,0 +1,3 @@
+pub mod Meets
+pub mod Secrets
+pub mod Kept

@@ -1,0 +1,68 @@
+-- Secrecy, over the language: what two positions that look alike have in common after one verdict, and after a run of calls.
+-- Assumes nothing.
+use Prim.Native.Nat.{ℕ}
+use mathlib.Core.Path.{_≡_}
+use mathlib.Core.List.{List, [], _∷_}
+use lib.ListN.{length}
+use Rattle.position.specs.Layout.{strength}
+use Rattle.position.specs.Board.{Board, board}
+use Rattle.position.specs.Accepted.{Accepted}
+use Rattle.position.specs.Broken.{broken}
+use Rattle.position.specs.Alike.{Same, Alike}
+use Rattle.ruling.specs.Verdict.{Verdict, Outcome, outcome, revealed}
+use Rattle.ruling.specs.Verdict.Verdict.{refuseIf}
+
+-- P holds of each number of a list
+abbrev pub Each : (ℕ → Type 0) → List ℕ → Type 0
+Each P [] = Unit {0}
+Each P (u ∷ us) = P u × Each P us
+
+-- every unit that the verdict turns over has one strength in both positions
+abbrev pub OneStrength : List ℕ → List ℕ → Verdict → Type 0
+OneStrength p q v = Each (λ u. strength p u ≡ strength q u) (revealed p v)
+
+-- "same rulings, same bytes but for the strengths still face down"
+pub record SameOutcome (o o′ : Outcome) : Type 0 where
+  pub answers : o .answer ≡ o′ .answer
+  pub lent : o .lent ≡ o′ .lent
+  pub positions : Same (o .position) (o′ .position)
+
+-- a call as it is sent: the order, and the bytes lent with it
+pub record Sent (Order : Type 0) : Type 0 where
+  pub order : Order
+  pub lent : List ℕ
+
+-- A referee is a rule for each order on a board, given how many bytes are lent: what they hold is not looked at.
+abbrev pub Rules : Type 0 → Type 0
+Rules Order = Board → Order → ℕ → Verdict
+
+-- "nothing further is looked at": a broken position is refused by 1 before anything else
+abbrev pub verdictOn : {Order : Type 0} → Rules Order → List ℕ → Sent Order → Verdict
+verdictOn rules p c = refuseIf (broken p) 1 0 (rules (board p) (c .order) (length (c .lent)))
+
+abbrev pub afterCall : {Order : Type 0} → Rules Order → List ℕ → Sent Order → Outcome
+afterCall rules p c = outcome p (c .lent) (verdictOn rules p c)
+
+-- an accepted position stays accepted
+abbrev pub Keeping : {Order : Type 0} → Rules Order → Type 0
+Keeping {Order} rules = (p : List ℕ) (c : Sent Order) → Accepted p → Accepted (afterCall rules p c .position)
+
+-- at each call of the run from p, what is turned over there has one strength in the run from q
+abbrev pub ShownAlike : {Order : Type 0} → Rules Order → List ℕ → List ℕ → List (Sent Order) → Type 0
+ShownAlike rules p q [] = Unit {0}
+ShownAlike rules p q (c ∷ cs) =
+    OneStrength p q (verdictOn rules p c) × ShownAlike rules (afterCall rules p c .position) (afterCall rules q c .position) cs
+
+-- after each call answers and buffers are equal, and the positions look alike
+abbrev pub RunsAlike : {Order : Type 0} → Rules Order → List ℕ → List ℕ → List (Sent Order) → Type 0
+RunsAlike rules p q [] = Unit {0}
+RunsAlike rules p q (c ∷ cs) =
+    (afterCall rules p c .answer ≡ afterCall rules q c .answer)
+    × (afterCall rules p c .lent ≡ afterCall rules q c .lent)
+    × Alike (afterCall rules p c .position) (afterCall rules q c .position)
+    × RunsAlike rules (afterCall rules p c .position) (afterCall rules q c .position) cs
+
+-- "Two accepted positions that differ only in face-down strengths, the same calls: same rulings, same bytes but for the strengths
+-- still face down, as long as what was turned over was equal."
+abbrev pub SecretRuns : {Order : Type 0} → Rules Order → Type 0
+SecretRuns {Order} rules = (p q : List ℕ) (cs : List (Sent Order)) → Alike p q → ShownAlike rules p q cs → RunsAlike rules p q cs
