@@ -1,0 +1,194 @@
+-- Who stands where and zones of control: the loops that ask every number below n, each test by its cases, and what a zone comes from.
+-- Assumes nothing.
+use Prim.Native.Nat.{ℕ, _+_, _≤_, _<_}
+use mathlib.Core.Path.{_≡_, refl, ap, _∙_}
+use mathlib.Core.Bool.{Bool, true, false, not, _&&_, and-false}
+use native.Mathlib.Omega.{arith}
+use lib.Dec.{ltb, eqb}
+use borrow.Author.Tests.{ltb-true, lt-ltb, le-ltb, eq-eqb, ne-eqb, eqb-false, not-true}
+use Rattle.grid.specs.declared.Beside.{Beside}
+use Rattle.grid.specs.declared.Beside.the-variants.{At, Off}
+use Rattle.position.specs.Tally.{any}
+use Rattle.position.specs.Kind.{castsZone}
+use Rattle.position.specs.Board.{Board, forceOf}
+use Rattle.position.specs.Ground.{beside, side}
+use Rattle.position.proofs.Tallies.{both-yes, not-both, any-zero, any-miss, any-some, any-true}
+use Rattle.field.specs.Scene.{Scene, scene, forceIn}
+use Rattle.field.specs.Zone.{
+  standsOn,
+  ownOn,
+  enemyOn,
+  casterOn,
+  holdsCaster,
+  casterAt,
+  castsOver,
+  casts,
+  enemyCasts,
+  enemyZone,
+}
+
+-- no number below i, which is at most n, passes the test
+pub record None (t : ℕ → Bool) (i n : ℕ) : Type 0 where
+  pub most : i ≤ n
+  pub none : any t i ≡ false
+
+pub none-yet : {t : ℕ → Bool} {n : ℕ} → None t 0 n
+none-yet {t} = record { most = omega arith; none = any-zero t }
+
+module _ {t : ℕ → Bool} {i n : ℕ} (s : None t i n) where
+  pub one-more : i < n → t i ≡ false → None t (i + 1) n
+  one-more l e = record { most = omega arith; none = any-miss t i e ∙ s .none }
+
+  pub none-at-all : n ≤ i → any t n ≡ false
+  none-at-all l = ap (any t) (omega arith) ∙ s .none
+
+-- a unit's force, of the board and of its scene
+pub force-in : (b : Board) (u : ℕ) → forceOf b u ≡ forceIn (scene b) u
+unfolding forceOf forceIn
+force-in b u = refl
+
+module _ (s : Scene) (h u : ℕ) where
+  pub stands-here : s .hex u ≡ h → standsOn s h u ≡ true
+  unfolding standsOn
+  stands-here e = eq-eqb (s .hex u) h e
+
+  pub stands-off : (s .hex u ≡ h → ⊥) → standsOn s h u ≡ false
+  unfolding standsOn
+  stands-off e = ne-eqb (s .hex u) h e
+
+module _ (s : Scene) (f h u : ℕ) where
+  -- a unit that stands there, and one that does not
+  pub own-here : s .hex u ≡ h → ownOn s f h u ≡ eqb (forceIn s u) f
+  unfolding ownOn
+  own-here e = simp (stands-here s h u e)
+
+  pub own-off : (s .hex u ≡ h → ⊥) → ownOn s f h u ≡ false
+  unfolding ownOn
+  own-off e = simp (stands-off s h u e)
+
+  pub enemy-here : s .hex u ≡ h → enemyOn s f h u ≡ s .enemy f (forceIn s u)
+  unfolding enemyOn
+  enemy-here e = simp (stands-here s h u e)
+
+  pub enemy-off : (s .hex u ≡ h → ⊥) → enemyOn s f h u ≡ false
+  unfolding enemyOn
+  enemy-off e = simp (stands-off s h u e)
+
+  -- an own unit there casts by its type, another not at all
+  pub caster-own : ownOn s f h u ≡ true → casterOn s f h u ≡ castsZone (s .kind u)
+  unfolding casterOn
+  caster-own e = simp e
+
+  pub caster-not : ownOn s f h u ≡ false → casterOn s f h u ≡ false
+  unfolding casterOn
+  caster-not e = simp e
+
+module _ (s : Scene) (f h : ℕ) where
+  -- no zone in all-sea; elsewhere one from any direction
+  pub casts-not-sea : s .map .surface h ≡ 2 → casts s f h ≡ false
+  unfolding casts
+  casts-not-sea e = simp (eq-eqb (s .map .surface h) 2 e)
+
+  pub casts-around : (s .map .surface h ≡ 2 → ⊥) → casts s f h ≡ any (castsOver s f h) 6
+  unfolding casts
+  casts-around e = simp (ne-eqb (s .map .surface h) 2 e)
+
+  module _ (d : ℕ) where
+    -- no zone over a major river or a blocked side, nor from off the map; else one from the neighbour
+    pub over-stopped : 2 ≤ side (s .map) h d → castsOver s f h d ≡ false
+    unfolding castsOver
+    over-stopped l = simp (le-ltb (side (s .map) h d) 2 l)
+
+    pub over-edge : beside (s .map) h d ≡ Off → castsOver s f h d ≡ false
+    unfolding castsOver casterAt
+    over-edge e = simp (e, and-false)
+
+    pub over-from : (n : ℕ) → side (s .map) h d < 2 → beside (s .map) h d ≡ At n → castsOver s f h d ≡ holdsCaster s f n
+    unfolding castsOver casterAt
+    over-from n l e = simp (lt-ltb (side (s .map) h d) 2 l, e)
+
+  module _ (g : ℕ) where
+    pub enemy-casts : s .enemy f g ≡ true → enemyCasts s f h g ≡ casts s g h
+    unfolding enemyCasts
+    enemy-casts e = simp e
+
+    pub enemy-casts-not : s .enemy f g ≡ false → enemyCasts s f h g ≡ false
+    unfolding enemyCasts
+    enemy-casts-not e = simp e
+
+-- force g casts a zone over hex h, which is not all-sea, from a hex beside it
+pub record CastFrom (s : Scene) (g h : ℕ) : Type 0 where
+  pub direction : ℕ
+  pub hex : ℕ
+  pub turned : direction < 6
+  pub not-sea : s .map .surface h ≡ 2 → ⊥
+  pub thin : side (s .map) h direction < 2
+  pub next : beside (s .map) h direction ≡ At hex
+  pub held : holdsCaster s g hex ≡ true
+
+-- an Enemy of force f does
+pub record ZoneFrom (s : Scene) (f h : ℕ) : Type 0 where
+  pub force : ℕ
+  pub among : force < 4
+  pub against : s .enemy f force ≡ true
+  pub from : CastFrom s force h
+
+-- a hex beside another, with a caster
+record Held (s : Scene) (f : ℕ) (b : Beside) : Type 0 where
+  hex : ℕ
+  at : b ≡ At hex
+  caster : holdsCaster s f hex ≡ true
+
+held-at : (s : Scene) (f : ℕ) (b : Beside) → casterAt s f b ≡ true → Held s f b
+unfolding casterAt
+held-at s f (At n) e = record { hex = n; at = refl; caster = e }
+held-at s f Off e = not-both false e refl
+
+module _ (s : Scene) (f h : ℕ) where
+  casts-parts : casts s f h ≡ true → (not (eqb (s .map .surface h) 2) ≡ true) × (any (castsOver s f h) 6 ≡ true)
+  unfolding casts
+  casts-parts e = both-yes (not (eqb (s .map .surface h) 2)) (any (castsOver s f h) 6) e
+
+  over-parts : (d : ℕ) → castsOver s f h d ≡ true →
+      (ltb (side (s .map) h d) 2 ≡ true) × (casterAt s f (beside (s .map) h d) ≡ true)
+  unfolding castsOver
+  over-parts d e = both-yes (ltb (side (s .map) h d) 2) (casterAt s f (beside (s .map) h d)) e
+
+  enemy-parts : (g : ℕ) → enemyCasts s f h g ≡ true → (s .enemy f g ≡ true) × (casts s g h ≡ true)
+  unfolding enemyCasts
+  enemy-parts g e = both-yes (s .enemy f g) (casts s g h) e
+
+  pub casts-from : casts s f h ≡ true → CastFrom s f h
+  casts-from e =
+      let a = casts-parts e in
+      let w = any-some (castsOver s f h) 6 (a .1) in
+      let o = over-parts (w .at) (w .passes) in
+      let n = held-at s f (beside (s .map) h (w .at)) (o .1) in
+      record {
+        direction = w .at;
+        hex = n .hex;
+        turned = w .below;
+        not-sea = eqb-false (s .map .surface h) 2 (not-true (eqb (s .map .surface h) 2) (a .0));
+        thin = ltb-true (side (s .map) h (w .at)) 2 (o .0);
+        next = n .at;
+        held = n .caster;
+      }
+
+  pub from-casts : CastFrom s f h → casts s f h ≡ true
+  from-casts c =
+      let o = over-from s f h (c .direction) (c .hex) (c .thin) (c .next) ∙ c .held in
+      casts-around s f h (c .not-sea) ∙ any-true (castsOver s f h) 6 (c .direction) (c .turned) o
+
+module _ (s : Scene) (f h : ℕ) where
+  pub zone-from : enemyZone s f h ≡ true → ZoneFrom s f h
+  unfolding enemyZone
+  zone-from e =
+      let w = any-some (enemyCasts s f h) 4 e in
+      let a = enemy-parts s f h (w .at) (w .passes) in
+      record { force = w .at; among = w .below; against = a .0; from = casts-from s (w .at) h (a .1) }
+
+  pub from-zone : ZoneFrom s f h → enemyZone s f h ≡ true
+  unfolding enemyZone
+  from-zone z =
+      let e = enemy-casts s f h (z .force) (z .against) ∙ from-casts s (z .force) h (z .from) in
+      any-true (enemyCasts s f h) 4 (z .force) (z .among) e

@@ -1,0 +1,2 @@
+pub mod Scene
+pub mod Zone

@@ -1,0 +1,2 @@
+// The field: who stands where, and zones of control.
+pub mod zone;

@@ -1,0 +1,30 @@
+-- Document 01's roster, computed: "`0 2 O`, `1 1 O`. With unit 1 destroyed: `0 2 S`."
+-- Assumes nothing.
+use Prim.Native.Nat.{ℕ}
+use mathlib.Core.Path.{_≡_, refl}
+use mathlib.Core.Bool.{Bool, true, false}
+use mathlib.Core.List.{List, [], _∷_, map}
+use Rattle.position.specs.Kind.{castsZone}
+use Rattle.position.specs.Board.{board, enemy}
+use Rattle.position.specs.Examples.{computing, roster, rosterLess}
+use Rattle.walk.specs.Examples.{sweeping}
+use Rattle.walk.specs.Sweep.{tab}
+use Rattle.field.specs.Scene.{forceIn, scene}
+use Rattle.field.specs.Zone.{standsOn, ownOn, holds, enemyOn, holdsEnemy, casterOn, holdsCaster, casterAt, castsOver, casts, enemyCasts, enemyZone}
+use Rattle.supply.specs.Open.{openTo, homeSource, coastal, supplyUnitOn, landing, landedSource, source, grade}
+use Rattle.supply.specs.Supply.{grades, supplied}
+
+-- 'unfolding supplying' opens what supply computes by
+unfoldable pub supplying : ℕ
+unfolding computing sweeping tab castsZone enemy forceIn standsOn ownOn holds enemyOn holdsEnemy casterOn holdsCaster casterAt castsOver casts enemyCasts enemyZone openTo homeSource coastal supplyUnitOn landing landedSource source grade grades supplied
+supplying = 0
+
+-- the US unit on hex 2 and the E.S.C. unit on hex 1 are both out of supply
+pub both-out : supplied (scene (board roster)) 3 2 ∷ supplied (scene (board roster)) 1 1 ∷ [] ≡ false ∷ false ∷ []
+unfolding supplying
+both-out = refl
+
+-- with the E.S.C. unit destroyed the line to hex 0 is open
+pub one-in : supplied (scene (board rosterLess)) 3 2 ≡ true
+unfolding supplying
+one-in = refl

@@ -1,0 +1,4 @@
+pub mod Open
+pub mod Paint
+pub mod Supply
+pub mod Examples

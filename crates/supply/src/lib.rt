@@ -1,0 +1,46 @@
+// Supply: which hexes are open for a nationality, which are its sources, and from which a chain leads to one; the supply call.
+mod grade;
+pub mod paint;
+
+ghost use mathlib.Core.Path.{_≡_};
+ghost use Prim.Native.Nat.{_<_};
+ghost use lib.ListN.{length};
+ghost use Rattle.position.specs.Board.{board};
+ghost use Rattle.position.specs.Checked.{Laid};
+ghost use Rattle.ruling.specs.Verdict.{Met};
+ghost use Rattle.ruling.specs.Answers.{answerAs};
+ghost use Rattle.field.specs.Scene.{scene};
+ghost use Rattle.supply.specs.Supply.{supplyMap, supplyVerdict};
+use position::Checked;
+use position::View;
+use position::kind;
+use ruling::Answer;
+
+// 1 for each hex that is supplied for nationality `n` and 0 for each other, whatever the buffer held.
+pub fn fill(p: &[u8], v: View, n: usize, out: &mut [u8])
+    requires { ⌜ Laid (now p) v × (length (now out) ≡ v .hexes) ⌝ }
+    ensures { λ _. ⌜ now (out .exit) ≡ supplyMap (scene (board (now (p .entry)))) n ⌝ }
+{
+    paint::paint(p, v, out, kind::force(n));
+    grade::grade(p, v, out, n);
+    walk::walk(p, v, out);
+}
+
+// The supply call: 1 or 0 per hex for a nationality, into a buffer of exactly width x height bytes.
+pub fn supply(p: &[u8], nationality: usize, out: &mut [u8]) -> Answer
+    ensures { λ r.
+        ⌜ Met (now (p .entry)) (now (out .entry)) (supplyVerdict (now (p .entry)) nationality (length (now (out .entry)))) (answerAs r) (now (p .entry)) (now (out .exit)) ⌝ }
+{
+    let Checked::Whole(v) = position::check(p) else {
+        return Answer::Refused(1, 0);
+    };
+    let hexes = v.hexes;
+    if out.len() != hexes {
+        return Answer::Refused(3, 0);
+    }
+    if 4 < nationality {
+        return Answer::Refused(3, 0);
+    }
+    fill(p, v, nationality, out);
+    Answer::Accepted
+}

@@ -1,0 +1,5 @@
+pub mod Steps
+pub mod Marks
+pub mod Sweeps
+pub mod Trails
+pub mod Runs

@@ -1,0 +1,4 @@
+pub mod Chain
+pub mod Sweep
+pub mod Trail
+pub mod Examples
