@@ -1,0 +1,85 @@
+// The roster of a position: a line for each unit on the map, by number: unit, hex, and S or O by supply as it is now.
+ghost use mathlib.Core.Path.{_≡_};
+ghost use Prim.Native.Nat.{_<_};
+ghost use lib.ListN.{length};
+ghost use Rattle.position.specs.Checked.{Laid};
+use libc::STDIN_FILENO;
+use libc::STDOUT_FILENO;
+use position::Checked;
+use position::View;
+use position::read;
+
+// Room for the supply of a map's hexes, and of all five nationalities.
+const MAP: usize = 4096;
+
+const MAPS: usize = 20480;
+
+fn text(bytes: &[u8]) {
+    io::write_all(STDOUT_FILENO, bytes);
+}
+
+fn number(n: usize) {
+    io::print_decimal(STDOUT_FILENO, n as u64);
+}
+
+// The supply of every nationality, one map after the other.
+fn judge(p: &[u8], v: View, maps: &mut [u8])
+    requires { ⌜ Laid (now p) v × (length (now maps) ≡ 20480) ⌝ }
+    ensures { λ _. ⌜ length (now (maps .exit)) ≡ 20480 ⌝ }
+{
+    let hexes = v.hexes;
+    for n in 0..5 {
+        let from = n * MAP;
+        let to = from + hexes;
+        supply::fill(p, v, n, &mut maps[from..to]);
+    }
+}
+
+// The line of unit `u`, if it is on the map.
+fn line(p: &[u8], v: View, maps: &[u8], u: usize)
+    requires { ⌜ Laid (now p) v × (length (now maps) ≡ 20480) ⌝ }
+{
+    let h = read::hex(p, v, u);
+    if MAP <= h {
+        return;
+    }
+    let n = read::nationality(p, v, u);
+    if 5 <= n {
+        return;
+    }
+    number(u);
+    text(b" ");
+    number(h);
+    if maps[n * MAP + h] == 1 {
+        text(b" S\n");
+        return;
+    }
+    text(b" O\n");
+}
+
+fn lines(p: &[u8], v: View, maps: &[u8])
+    requires { ⌜ Laid (now p) v × (length (now maps) ≡ 20480) ⌝ }
+{
+    let count = v.count;
+    for u in 0..count {
+        line(p, v, maps, u);
+    }
+}
+
+// The roster of `p`; a refused position prints only `refused 1`.
+pub fn roster(p: &[u8]) {
+    let Checked::Whole(v) = position::check(p) else {
+        text(b"refused 1\n");
+        return;
+    };
+    let mut maps = [0u8; MAPS];
+    judge(p, v, &mut maps);
+    lines(p, v, &maps);
+}
+
+// The roster of the position on standard input. More bytes than any position has are a refused position.
+pub fn run() {
+    let mut input = [0u8; 32768];
+    let got = io::read_full(STDIN_FILENO, &mut input);
+    roster(&input[..got]);
+}

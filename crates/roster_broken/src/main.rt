@@ -1,0 +1,4 @@
+// A position that breaks one line, a strength of 61: refused 1.
+fn main() {
+    muster::run();
+}

@@ -1,0 +1,4 @@
+// No bytes at all: refused 1.
+fn main() {
+    muster::run();
+}
