@@ -1,0 +1,166 @@
+-- An accepted position stays accepted after a move.
+-- Assumes nothing.
+use Prim.Native.Nat.{ℕ, _<_}
+use mathlib.Core.Path.{_≡_, sym, ap, _∙_}
+use mathlib.Core.Bool.{true, false, not, _&&_, _||_}
+use mathlib.Core.List.{List, []}
+use native.Mathlib.Omega.{arith}
+use lib.ListN.{length}
+use lib.Dec.{leb, ltb, eqb}
+use borrow.Author.Tests.{leb-false, eqb-true, eqb-false, not-false}
+use Rattle.position.specs.Bits.{with, moved}
+use Rattle.position.specs.Board.{Board, board, nowhere, forceOf, enemy}
+use Rattle.position.specs.Ground.{joined, standable}
+use Rattle.position.specs.Crowd.{others}
+use Rattle.position.specs.Accepted.{Lawful, Accepted}
+use Rattle.position.specs.Broken.{broken}
+use Rattle.position.specs.Effect.{changes}
+use Rattle.position.proofs.Shapes.{hexes-most}
+use Rattle.position.proofs.Tallies.{same-or, any-false, both-yes, neither}
+use Rattle.ruling.specs.Verdict.{Verdict, outcome}
+use Rattle.field.specs.Scene.{scene}
+use Rattle.field.specs.Zone.{enemyOn, holdsEnemy}
+use Rattle.field.proofs.Zones.{force-in, enemy-here}
+use Rattle.march.specs.Move.{
+  pathLength,
+  mayMoveNow,
+  notPhasing,
+  forbidden,
+  offMap,
+  Leg,
+  leg,
+  afterStep,
+  allowed,
+  leavesZone,
+  noStep,
+  step,
+  onMapAll,
+  steps,
+  moveChecks,
+  moveChanges,
+  arrival,
+  moveRule,
+  moveVerdict,
+}
+use Rattle.position.proofs.Lawfuls.{Room, standable-on, lawful-placed, placed-hex, lawful-marked}
+use Rattle.ruling.proofs.Kept.{Kept, kept-past, kept-along, kept-ruled}
+
+-- where a move has come to: a hex to stand on, with none but units of unit u's force
+record Fair (b : Board) (u h : ℕ) : Type 0 where
+  stands : standable b h ≡ true
+  own : (w : ℕ) → w < b .units .count → b .units .hex w ≡ h → forceOf b w ≡ forceOf b u
+
+module _ (b : Board) where
+  -- a hex that the step's questions let through
+  step-stands : (h x : ℕ) → noStep b h x ≡ false → standable b x ≡ true
+  unfolding noStep
+  step-stands h x e = both-yes (joined (b .map) h x) (standable b x) (not-false (joined (b .map) h x && standable b x) e) .1
+
+  no-enemy :
+      (u h : ℕ) → holdsEnemy (scene b) (forceOf b u) h ≡ false
+      → (w : ℕ) → w < b .units .count → b .units .hex w ≡ h → forceOf b w ≡ forceOf b u
+  unfolding holdsEnemy enemy
+  no-enemy u h e w l z =
+      let f = forceOf b u in
+      let n = any-false (enemyOn (scene b) f h) (b .units .count) w e l in
+      let q = not-false (eqb f (forceOf b w)) (ap (enemy b f) (force-in b w) ∙ sym (enemy-here (scene b) f h w z) ∙ n) in
+      sym (eqb-true f (forceOf b w) q)
+
+  -- a board and a unit that the questions before let through
+  quiet : not (mayMoveNow b) ≡ false → b .desk .stage ≡ 0
+  unfolding mayMoveNow
+  quiet e =
+      let t = eqb (b .desk .phase) 0 || eqb (b .desk .phase) 2 in
+      let m = not-false (eqb (b .desk .stage) 0 && t) e in
+      eqb-true (b .desk .stage) 0 (both-yes (eqb (b .desk .stage) 0) t m .0)
+
+  mapped : (u : ℕ) → notPhasing b u ≡ false → b .units .hex u ≡ nowhere → ⊥
+  unfolding notPhasing
+  mapped u e =
+      eqb-false (b .units .hex u) nowhere
+      (neither (eqb (b .units .hex u) nowhere) (not (eqb (forceOf b u) (b .desk .force))) e .0)
+
+with-moved : (m : ℕ) → m < 16 → with moved m < 16
+unfolding with
+with-moved m l = omega arith
+
+module _ {b : Board} (l : Lawful b) (u : ℕ) (n : u < b .units .count) where
+  -- where the unit stands before the first step
+  fair-start : (b .units .hex u ≡ nowhere → ⊥) → Fair b u (b .units .hex u)
+  fair-start m =
+      record {
+        stands = l .units .each u n .stand .mapped m .stands;
+        own =
+            λ w k e.
+            same-or (forceOf b w) (forceOf b u) (λ z. z)
+            (λ z. absurd (l .units .pairs u n w k .two (λ f. z (sym f)) .apart m e));
+      }
+
+  lawful-move : (h : ℕ) → Room b u h → b .desk .stage ≡ 0 → Lawful (changes b (moveChanges b u h))
+  unfolding changes moveChanges
+  lawful-move h r z =
+      lawful-marked (lawful-placed l u h n r (λ e. absurd (omega arith))) u (with moved (b .units .marks u))
+      (record {
+        marks = with-moved (b .units .marks u) (l .units .each u n .counter .marks);
+        destroyed = λ e. absurd (r .hex (sym (placed-hex u h n r) ∙ e));
+      })
+
+module _ {p l : List ℕ} (a : Accepted p) (u : ℕ) where
+  kept-arrival : (last h : ℕ) → u < board p .units .count → board p .desk .stage ≡ 0 → Fair (board p) u h → Kept p l (arrival (board p) u last h)
+  unfolding arrival
+  kept-arrival last h n z f =
+      kept-past a (leb 3 (others (board p) u h))
+      (λ e.
+      kept-ruled a (moveChanges (board p) u h)
+      (lawful-move (a .lawful) u n h
+      (record {
+        hex = λ q. omega (arith, standable-on (board p) h (f .stands), hexes-most (a .shaped));
+        stands = f .stands;
+        few = omega (arith, leb-false 3 (others (board p) u h) e);
+        own = λ w k _. f .own w k;
+      })
+      z))
+
+  kept-step :
+      (s : Leg) (x k : ℕ) (v : Verdict) → Fair (board p) u (s .at) → (Fair (board p) u (afterStep (board p) s x .at) → Kept p l v)
+      → Kept p l (step (board p) u s x k v)
+  unfolding step afterStep
+  kept-step s x k v _ f =
+      let b = board p in
+      kept-past a (leavesZone b u s k)
+      (λ _.
+      kept-past a (noStep b (s .at) x)
+      (λ e.
+      kept-past a (holdsEnemy (scene b) (forceOf b u) x)
+      (λ g.
+      kept-past a (ltb (allowed b u) (afterStep b s x .spent))
+      (λ _. f (record { stands = step-stands b (s .at) x e; own = no-enemy b u x g })))))
+
+  kept-move : (path : List ℕ) → Kept p l (moveVerdict p u path)
+  unfolding moveVerdict moveRule moveChecks onMapAll offMap steps
+  kept-move path =
+      let b = board p in
+      kept-past a (broken p)
+      (λ _.
+      kept-past a (not (pathLength path))
+      (λ _.
+      kept-past a (leb (b .units .count) u)
+      (λ c.
+      let n = leb-false (b .units .count) u c in
+      kept-along a (λ _. Unit {0}) (λ s x k v _ f. kept-past a (leb (b .map .hexes) x) (λ _. f tt)) 0 tt path 1 _
+      (λ _ _.
+      kept-past a (not (mayMoveNow b))
+      (λ z.
+      kept-past a (notPhasing b u)
+      (λ m.
+      kept-past a (forbidden b u)
+      (λ _.
+      kept-along a (λ (s : Leg). Fair b u (s .at)) kept-step (leg (b .units .hex u) 0)
+      (fair-start (a .lawful) u n (mapped b u m))
+      path
+      1
+      _
+      (λ s f. kept-arrival (length path) (s .at) n (quiet b z) f))))))))
+
+pub move-keeps : (p l : List ℕ) (u : ℕ) (path : List ℕ) → Accepted p → Accepted (outcome p l (moveVerdict p u path) .position)
+move-keeps p l u path a = kept-move a u path .ok

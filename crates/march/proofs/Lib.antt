@@ -1,0 +1,6 @@
+pub mod Steps
+pub mod Judging
+pub mod Moves
+pub mod KeepMove
+pub mod KeepEnd
+pub mod Ends

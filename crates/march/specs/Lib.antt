@@ -1,0 +1,8 @@
+pub mod Working
+pub mod Step
+pub mod Move
+pub mod Answers
+pub mod Judged
+pub mod Clock
+pub mod EndPhase
+pub mod Ending

@@ -1,0 +1,30 @@
+// March: move, end phase and the clock.
+pub mod ending;
+pub mod moving;
+pub mod stepping;
+pub mod timing;
+
+// The answer to a move: done, or refused with the refusal's number and its place in the path.
+pub enum Moved {
+    Done,
+    Refused(usize, usize),
+}
+
+// What tests along the way answer: on, with what the move has spent, or a refusal.
+pub enum Way {
+    On(usize),
+    Stop(usize, usize),
+}
+
+// What the tests of a whole path answer: the hex where it ends, or a refusal.
+pub enum Path {
+    To(usize),
+    Stop(usize, usize),
+}
+
+// Whose turn it is: turn, force and phase.
+pub struct Clock {
+    pub turn: usize,
+    pub force: usize,
+    pub phase: usize,
+}

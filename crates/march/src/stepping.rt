@@ -1,0 +1,125 @@
+// One step of a move: what it costs, and its questions in their order.
+ghost use mathlib.Core.Path.{_≡_};
+ghost use mathlib.Core.Bool.{true};
+ghost use Prim.Native.Nat.{_+_, _<_, _≤_};
+ghost use Rattle.position.specs.Board.{board, ground};
+ghost use Rattle.position.specs.Ground.{joined};
+ghost use Rattle.position.specs.Checked.{Laid, Read};
+ghost use Rattle.march.specs.Working.{half, working};
+ghost use Rattle.march.specs.Step.{bearing, sideCost, stepCost};
+ghost use Rattle.march.specs.Move.{allowed, leavesZone, noStep, step, afterStep, leg};
+ghost use Rattle.march.specs.Judged.{WayOf};
+use crate::Way;
+use field::zone;
+use position::View;
+use position::bits;
+use position::forces;
+use position::ground;
+use position::read;
+
+// The cost of a river side, and of a major river side, stand behind those of the terrains.
+const RIVER_COST: usize = 16;
+
+const MAJOR_RIVER_COST: usize = 17;
+
+// What `n` comes to for unit `u`: halved, fractions up, out of supply. The one place that halves.
+pub fn working(p: &[u8], v: View, u: usize, in_supply: bool, n: usize) -> usize
+    requires { ⌜ Laid (now p) v × (n < 65536) ⌝ }
+    ensures { λ r. ⌜ Read (working (board (now (p .entry))) u in_supply n) 65536 r ⌝ }
+{
+    if in_supply {
+        return n;
+    }
+    (n + 1) / 2
+}
+
+// The allowance that unit `u` may spend: halved without the supplied mark.
+pub fn allowed(p: &[u8], v: View, u: usize) -> usize
+    requires { ⌜ Laid (now p) v ⌝ }
+    ensures { λ r. ⌜ Read (allowed (board (now (p .entry))) u) 256 r ⌝ }
+{
+    let marked = bits::has(bits::SUPPLIED, read::marks(p, v, u));
+    working(p, v, u, marked, read::allowance(p, v, u))
+}
+
+// The direction in which a step over an unblocked side leads from hex `h` to hex `x`; 6 if none does.
+fn bearing(p: &[u8], v: View, h: usize, x: usize) -> usize
+    requires { ⌜ Laid (now p) v ⌝ }
+    ensures { λ r. ⌜ Read (bearing (ground (now (p .entry))) h x) 7 r ⌝ }
+{
+    let mut d = 0;
+    while d < 6 {
+        if ground::is_at(ground::next(p, v, h, d), x) {
+            return d;
+        }
+        d += 1;
+    }
+    6
+}
+
+fn side_cost(p: &[u8], v: View, s: usize) -> usize
+    requires { ⌜ Laid (now p) v ⌝ }
+    ensures { λ r. ⌜ Read (sideCost (board (now (p .entry))) s) 256 r ⌝ }
+{
+    if s == ground::RIVER {
+        return read::cost(p, v, RIVER_COST);
+    }
+    if s == ground::MAJOR_RIVER {
+        return read::cost(p, v, MAJOR_RIVER_COST);
+    }
+    0
+}
+
+// What a step from hex `h` to hex `x` costs, where one may be made.
+fn step_cost(p: &[u8], v: View, h: usize, x: usize) -> usize
+    requires { ⌜ Laid (now p) v × (joined (ground (now p)) h x ≡ true) ⌝ }
+    ensures { λ r. ⌜ Read (stepCost (board (now (p .entry))) h x) 512 r ⌝ }
+{
+    let d = bearing(p, v, h, x);
+    let terrain = read::terrain(p, v, x);
+    read::cost(p, v, terrain) + side_cost(p, v, ground::side(p, v, h, d))
+}
+
+// Whether the step at place `k` leaves an Enemy zone that the move has entered.
+fn leaves_zone(p: &[u8], v: View, u: usize, at: usize, k: usize) -> bool
+    requires { ⌜ Laid (now p) v ⌝ }
+    ensures { λ r. ⌜ r ≡ leavesZone (board (now (p .entry))) u (leg at 0) k ⌝ }
+{
+    if k <= 1 {
+        return false;
+    }
+    zone::enemy_zone(p, v, forces::force_of(p, v, u), at)
+}
+
+// Whether no step may be made from hex `h` to hex `x`.
+fn no_step(p: &[u8], v: View, h: usize, x: usize) -> bool
+    requires { ⌜ Laid (now p) v ⌝ }
+    ensures { λ r. ⌜ r ≡ noStep (board (now (p .entry))) h x ⌝ }
+{
+    if ground::joined(p, v, h, x) {
+        return !ground::standable(p, v, x);
+    }
+    true
+}
+
+// The questions of the step to hex `x`, at place `k`: 9, 7, 8, 10.
+pub fn one_step(p: &[u8], v: View, u: usize, at: usize, spent: usize, x: usize, k: usize) -> Way
+    requires { ⌜ Laid (now p) v × (spent < 256) ⌝ }
+    ensures { λ r.
+        ⌜ WayOf (now (p .entry)) (step (board (now (p .entry))) u (leg at spent) x k) (afterStep (board (now (p .entry))) (leg at spent) x .spent) r ⌝ }
+{
+    if leaves_zone(p, v, u, at, k) {
+        return Way::Stop(9, k);
+    }
+    if no_step(p, v, at, x) {
+        return Way::Stop(7, k);
+    }
+    if zone::holds_enemy(p, v, forces::force_of(p, v, u), x) {
+        return Way::Stop(8, k);
+    }
+    let total = spent + step_cost(p, v, at, x);
+    if allowed(p, v, u) < total {
+        return Way::Stop(10, k);
+    }
+    Way::On(total)
+}
