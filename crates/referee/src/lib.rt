@@ -1,0 +1,58 @@
+// The C library: each call exported with plain numbers and slices of numbers. It keeps nothing between calls.
+ghost use mathlib.Core.Path.{_≡_};
+ghost use mathlib.Core.List.{[]};
+ghost use Rattle.ruling.specs.Answers.{answerAs};
+ghost use Rattle.march.specs.Answers.{movedAs};
+ghost use Rattle.rules.specs.Order.{verdict};
+ghost use Rattle.rules.specs.Order.Order.{supply, move, endPhase};
+ghost use Rattle.referee.specs.Packed.{refusalOf, packed, Exported};
+use march::Moved;
+use ruling::Answer;
+
+// A refusal: its number in the low byte, its place in bits 8 to 23.
+fn refusal(n: usize, k: usize) -> u64
+    ensures { λ r. ⌜ r ≡ refusalOf n k ⌝ }
+{
+    (n % 256 + 256 * (k % 65536)) as u64
+}
+
+fn pack_answer(a: Answer) -> u64
+    ensures { λ r. ⌜ r ≡ packed (answerAs a) ⌝ }
+{
+    match a {
+        Answer::Accepted => 0,
+        Answer::Refused(n, k) => refusal(n, k),
+    }
+}
+
+fn pack_moved(a: Moved) -> u64
+    ensures { λ r. ⌜ r ≡ packed (movedAs a) ⌝ }
+{
+    match a {
+        Moved::Done => 0,
+        Moved::Refused(n, k) => refusal(n, k),
+    }
+}
+
+#[no_mangle]
+pub extern "C" fn ia_supply(pos: &[u8], nationality: u32, out: &mut [u8]) -> u64
+    ensures { λ r.
+        ⌜ Exported (now (pos .entry)) (now (out .entry)) (verdict (now (pos .entry)) (supply nationality) (now (out .entry))) r (now (pos .entry)) (now (out .exit)) ⌝ }
+{
+    pack_answer(rules::supply(pos, nationality as usize, out))
+}
+
+#[no_mangle]
+pub extern "C" fn ia_move(pos: &mut [u8], unit: u32, path: &[u16]) -> u64
+    ensures { λ r. ⌜ Exported (now (pos .entry)) [] (verdict (now (pos .entry)) (move unit (now (path .entry))) []) r (now (pos .exit)) [] ⌝ }
+{
+    pack_moved(rules::move_unit(pos, unit as usize, path))
+}
+
+#[no_mangle]
+pub extern "C" fn ia_end_phase(pos: &mut [u8], scratch: &mut [u8]) -> u64
+    ensures { λ r.
+        ⌜ Exported (now (pos .entry)) (now (scratch .entry)) (verdict (now (pos .entry)) endPhase (now (scratch .entry))) r (now (pos .exit)) (now (scratch .exit)) ⌝ }
+{
+    pack_answer(rules::end_phase(pos, scratch))
+}

@@ -1,0 +1,29 @@
+-- The orders of a game, and the ruling on each: the very verdicts that the calls promise.
+-- Assumes nothing.
+use Prim.Native.Nat.{ℕ}
+use mathlib.Core.List.{List}
+use Rattle.position.specs.Board.{Board}
+use Rattle.ruling.specs.Verdict.{Verdict, Outcome}
+use Rattle.ruling.specs.Secret.{Sent, Rules, verdictOn, afterCall}
+use Rattle.supply.specs.Supply.{supplyRule}
+use Rattle.march.specs.Move.{moveRule}
+use Rattle.march.specs.EndPhase.{endRule}
+
+-- an order has the numbers and lists of a call; what is lent with it is kept apart
+pub data Order : Type 0 where
+  supply : ℕ → Order
+  move : ℕ → List ℕ → Order
+  endPhase : Order
+
+unfoldable pub ruleOf : Rules Order
+ruleOf b (supply n) long = supplyRule b n long
+ruleOf b (move u path) long = moveRule b u path
+ruleOf b endPhase long = endRule b long
+
+-- the ruling on an order with the bytes lent: refusal 1 unless the position is accepted
+abbrev pub verdict : List ℕ → Order → List ℕ → Verdict
+verdict p o l = verdictOn ruleOf p (record { order = o; lent = l })
+
+-- what a call answers and leaves
+abbrev pub step : List ℕ → Sent Order → Outcome
+step p c = afterCall ruleOf p c

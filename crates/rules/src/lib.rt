@@ -1,0 +1,32 @@
+// All calls of the referee in one place. Each forwards to the crate of its rule, and takes anything.
+ghost use mathlib.Core.List.{[]};
+ghost use Rattle.ruling.specs.Verdict.{Met};
+ghost use Rattle.ruling.specs.Answers.{answerAs};
+ghost use Rattle.march.specs.Answers.{movedAs};
+ghost use Rattle.rules.specs.Order.{verdict};
+ghost use Rattle.rules.specs.Order.Order.{supply, move, endPhase};
+use march::Moved;
+use ruling::Answer;
+
+// Which hexes are supplied for a nationality: 1 or 0 per hex, into a buffer of exactly width x height bytes.
+pub fn supply(p: &[u8], nationality: usize, out: &mut [u8]) -> Answer
+    ensures { λ r.
+        ⌜ Met (now (p .entry)) (now (out .entry)) (verdict (now (p .entry)) (supply nationality) (now (out .entry))) (answerAs r) (now (p .entry)) (now (out .exit)) ⌝ }
+{
+    supply::supply(p, nationality, out)
+}
+
+// A unit goes along a path, hex by hex.
+pub fn move_unit(p: &mut [u8], unit: usize, path: &[u16]) -> Moved
+    ensures { λ r. ⌜ Met (now (p .entry)) [] (verdict (now (p .entry)) (move unit (now (path .entry))) []) (movedAs r) (now (p .exit)) [] ⌝ }
+{
+    march::moving::move_unit(p, unit, path)
+}
+
+// The phase ends. The scratch has exactly width x height bytes, and is handed back all 0.
+pub fn end_phase(p: &mut [u8], scratch: &mut [u8]) -> Answer
+    ensures { λ r.
+        ⌜ Met (now (p .entry)) (now (scratch .entry)) (verdict (now (p .entry)) endPhase (now (scratch .entry))) (answerAs r) (now (p .exit)) (now (scratch .exit)) ⌝ }
+{
+    march::ending::end_phase(p, scratch)
+}

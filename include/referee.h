@@ -1,0 +1,42 @@
+/* The referee of Invasion: America as a C library: link libreferee.a, made by `rt staticlib referee`.
+ *
+ * A position is the bytes that the rules lay out. Nothing is set up and nothing is kept between calls. Every call takes anything:
+ * any bytes, any length, a null pointer with length 0. Lent regions must not overlap.
+ *
+ * The answer's low byte is the refusal's number, 0 if the call is accepted. Of a refusal bits 8 to 23 are the place in the list or
+ * path, counted from 1, and 0 if there is none. All other bits are 0. A refused call changes no byte that was lent.
+ *
+ * Refusal 1: the position breaks a line of its rules; nothing further is looked at. Single numbers are 32 bits wide, so that no
+ * number is cut to a legal one: out of range they are refusal 3. */
+#ifndef REFEREE_H
+#define REFEREE_H
+
+#include <stddef.h>
+#include <stdint.h>
+
+#ifdef __cplusplus
+extern "C" {
+#endif
+
+/* Which hexes are supplied for a nationality (0 S.A.U., 1 E.S.C., 2 P.A.L., 3 US, 4 Canada), in any phase and stage: 1 or 0 for
+ * each hex, into a buffer of exactly width x height bytes. The position is only read.
+ * Refusals in order: 1; 3 the buffer's length; 3 a nationality above 4. */
+uint64_t ia_supply(const uint8_t *pos, size_t pos_len, uint32_t nationality, uint8_t *out, size_t out_len);
+
+/* A unit goes along a path of 1 to 30 hexes. Accepted: its hex and its moved mark change, nothing else.
+ * Refusals in order: 1; 3 the path's length; 3 no such unit; 3 at the first number that is no hex, with its place; 2 wrong stage
+ * or phase; 4 destroyed or not of the phasing force; 5 its type or its moved mark; then at each step with its place 9 the step
+ * leaves an Enemy zone that the path entered, 7 no such step, 8 Enemy there, 10 over allowance; last 11 three others where the
+ * path ends, with the last place. */
+uint64_t ia_move(uint8_t *pos, size_t pos_len, uint32_t unit, const uint16_t *path, size_t path_len);
+
+/* The phase ends: moved and fought are cleared on all units, the clock moves on, and on entering phase 0 or 2 the mapped units of
+ * the force then phasing get or lose the supplied mark. The scratch has exactly width x height bytes and is handed back all 0.
+ * Refusals in order: 1; 3 the scratch's length; 2 wrong stage; 16 last phase of the last turn. */
+uint64_t ia_end_phase(uint8_t *pos, size_t pos_len, uint8_t *scratch, size_t scratch_len);
+
+#ifdef __cplusplus
+}
+#endif
+
+#endif
