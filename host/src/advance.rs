@@ -1,0 +1,31 @@
+//! The advance call: a victor follows a route.
+
+use crate::checks;
+use crate::position::*;
+use crate::refusal::*;
+use crate::stages;
+use crate::unit_type::SUPPLY_UNIT;
+
+/// Rule on one unit's advance to a hex; zones are ignored.
+pub fn advance(position: &mut Position, unit: u16, hex: u16) -> Result<(), Refusal> {
+    let unit = checks::unit(position, unit, 0)?;
+    let hex = checks::hex(position, hex, 0)?;
+    checks::stage(position, ADVANCES)?;
+    require(position.units[unit].role == MAY_ADVANCE, NOT_THE_UNIT, 0)?;
+    require(position.units[unit].kind != SUPPLY_UNIT, FORBIDDEN_BY_TYPE_OR_MARK, 0)?;
+    let routes = position.desk.filled_routes();
+    require(routes.iter().any(|route| leads_to(position, &position.units[unit], route, hex)), NO_WAY, 0)?;
+    require(!position.three_others_on(hex, unit), THREE_OTHERS, 0)?;
+    position.units[unit].hex = hex as u16;
+    position.units[unit].role = 0;
+    stages::follow_on(position);
+    Ok(())
+}
+
+/// The route starts beside the unit over an unblocked side and contains the hex,
+/// with no Enemy from its start to that hex.
+fn leads_to(position: &Position, unit: &Unit, route: &[usize], hex: usize) -> bool {
+    let Some(end) = route.iter().position(|&one| one == hex) else { return false };
+    let beside = position.joined(usize::from(unit.hex), route[0]);
+    beside && route[..=end].iter().all(|&one| !position.enemy_on(one, unit.force()))
+}

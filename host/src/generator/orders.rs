@@ -1,0 +1,273 @@
+//! Orders: plausible ones by looking at the position, and ways to spoil them.
+
+use super::chance::Chance;
+use crate::movement::{allowance, is_way, step_cost};
+use crate::order::{Call, Order};
+use crate::position::*;
+use crate::retreat::{legal_routes, owing_group};
+use crate::unit_type;
+use crate::zones::enemy_zones;
+
+/// An order for a call that the referee may well accept.
+pub fn plausible(chance: &mut Chance, position: &Position, call: Call) -> Order {
+    match call {
+        Call::Supply => Order::Supply { nationality: chance.below(5) as u16 },
+        Call::Move => plausible_move(chance, position),
+        Call::End => Order::End,
+        Call::Attack => plausible_attack(chance, position),
+        Call::Retreat => plausible_retreat(chance, position),
+        Call::Losses => plausible_losses(chance, position),
+        Call::Advance => plausible_advance(chance, position),
+        Call::Close => Order::Close,
+    }
+}
+
+/// An order of any numbers, most of them in range.
+pub fn random(chance: &mut Chance, position: &Position, call: Call) -> Order {
+    match call {
+        Call::Supply => Order::Supply { nationality: chance.pick(&[0, 1, 2, 3, 4, 5, 6, 255, 65535]) },
+        Call::Move => Order::Move { unit: any_unit(chance, position), path: any_hexes(chance, position, 4) },
+        Call::End => Order::End,
+        Call::Attack => {
+            let (target, die) = (any_hex(chance, position), chance.from_to(1, 6) as u16);
+            Order::Attack { target, die, list: any_units(chance, position, 4) }
+        }
+        Call::Retreat => Order::Retreat { hex: any_hex(chance, position), route: any_hexes(chance, position, 3) },
+        Call::Losses => Order::Losses { list: any_units(chance, position, 4) },
+        Call::Advance => Order::Advance { unit: any_unit(chance, position), hex: any_hex(chance, position) },
+        Call::Close => Order::Close,
+    }
+}
+
+/// An order changed in one number, or in the length of its list.
+pub fn spoiled(chance: &mut Chance, position: &Position, order: &Order) -> Order {
+    let mut order = order.clone();
+    let (other_unit, other_hex) = (any_unit(chance, position), any_hex(chance, position));
+    match &mut order {
+        Order::Supply { nationality } => *nationality = chance.pick(&[5, 6, 256, 65535]),
+        Order::Move { unit, path } => match chance.below(4) {
+            0 => *unit = other_unit,
+            _ => spoil_list(chance, path, other_hex, 31),
+        },
+        Order::Attack { target, die, list } => match chance.below(6) {
+            0 => *target = other_hex,
+            1 => *die = chance.pick(&[0, 1, 6, 7, 257, 65535]),
+            _ => spoil_list(chance, list, other_unit, 19),
+        },
+        Order::Retreat { hex, route } => match chance.below(4) {
+            0 => *hex = other_hex,
+            _ => spoil_list(chance, route, other_hex, 4),
+        },
+        Order::Losses { list } => spoil_list(chance, list, other_unit, 19),
+        Order::Advance { unit, hex } => match chance.below(2) {
+            0 => *unit = other_unit,
+            _ => *hex = other_hex,
+        },
+        Order::End | Order::Close => (),
+    }
+    order
+}
+
+/// Change, add, take away or double one number; or make the list just too long, or empty.
+fn spoil_list(chance: &mut Chance, list: &mut Vec<u16>, number: u16, too_long: usize) {
+    let at = chance.below(list.len());
+    match chance.below(12) {
+        0 => list.clear(),
+        1 => list.resize(too_long - chance.below(2), number),
+        2 if chance.percent(10) => list.resize(300, number),
+        3 | 4 if !list.is_empty() => {
+            list.remove(at);
+        }
+        5 | 6 if !list.is_empty() => list.push(list[at]),
+        7 | 8 => list.insert(at, number),
+        9 => list.push(number),
+        _ if !list.is_empty() => list[at] = number,
+        _ => list.push(number),
+    }
+}
+
+/// Any hex number, now and then one off the map.
+fn any_hex(chance: &mut Chance, position: &Position) -> u16 {
+    let hexes = position.map.hexes.len();
+    match chance.below(30) {
+        0 => hexes as u16,
+        1 => chance.pick(&[65535, 65534, 4096, 256]),
+        _ => chance.below(hexes) as u16,
+    }
+}
+
+/// Any unit number, now and then one too high.
+fn any_unit(chance: &mut Chance, position: &Position) -> u16 {
+    let units = position.units.len();
+    match chance.below(30) {
+        0 => units as u16,
+        1 => chance.pick(&[65535, 400, 256, 65280]),
+        _ => chance.below(units) as u16,
+    }
+}
+
+fn any_hexes(chance: &mut Chance, position: &Position, most: usize) -> Vec<u16> {
+    (0..chance.below(most + 1)).map(|_| any_hex(chance, position)).collect()
+}
+
+fn any_units(chance: &mut Chance, position: &Position, most: usize) -> Vec<u16> {
+    (0..chance.below(most + 1)).map(|_| any_unit(chance, position)).collect()
+}
+
+/// The numbers of the units that answer the question.
+fn units_where(position: &Position, question: impl Fn(&Unit) -> bool) -> Vec<usize> {
+    (0..position.units.len()).filter(|&unit| question(&position.units[unit])).collect()
+}
+
+/// The units that type, marks and phase allow to move.
+pub fn movers(position: &Position) -> Vec<usize> {
+    let desk = &position.desk;
+    units_where(position, |unit| {
+        let by_phase = desk.phase != MECHANISED || unit_type::moves_in_mechanised_phase(unit.kind);
+        unit.on_map()
+            && unit.force() == desk.force
+            && unit.kind != unit_type::SUPPLY_UNIT
+            && by_phase
+            && !unit.has(MOVED)
+    })
+}
+
+/// A mover of the phasing force and a walk, most often within the rules.
+fn plausible_move(chance: &mut Chance, position: &Position) -> Order {
+    let movers = movers(position);
+    let Some(unit) = chance.pick_any(&movers) else { return random(chance, position, Call::Move) };
+    let near = position.grid().neighbours(usize::from(position.units[unit].hex)).into_iter().flatten();
+    let full: Vec<usize> = near.filter(|&hex| position.units_on(hex).len() == 3).collect();
+    let path = match chance.pick_any(&full) {
+        Some(hex) if chance.percent(30) => vec![hex as u16],
+        _ => walk(chance, position, unit),
+    };
+    Order::Move { unit: unit as u16, path }
+}
+
+/// A walk step by step; it mostly stops in Enemy zones and at the end of the allowance.
+fn walk(chance: &mut Chance, position: &Position, unit: usize) -> Vec<u16> {
+    let mover = &position.units[unit];
+    let zones = enemy_zones(position, mover.force());
+    let wanted = if chance.percent(8) { 30 } else { chance.from_to(1, 6) };
+    let careful = chance.percent(75);
+    let mut here = usize::from(mover.hex);
+    let mut left = allowance(mover);
+    let mut path = Vec::new();
+    while path.len() < wanted {
+        let near: Vec<usize> = position.grid().neighbours(here).into_iter().flatten().collect();
+        let fine = |next: &usize| is_way(position, here, *next) && !position.enemy_on(*next, mover.force());
+        let good: Vec<usize> =
+            near.iter().copied().filter(|next| fine(next) && step_cost(position, here, *next) <= left).collect();
+        let choices = if careful || chance.percent(60) { &good } else { &near };
+        let Some(next) = chance.pick_any(choices) else { break };
+        left = left.saturating_sub(step_cost(position, here, next));
+        here = next;
+        path.push(here as u16);
+        if zones[here] && (careful || chance.percent(50)) {
+            break;
+        }
+    }
+    if path.is_empty() {
+        path.push(chance.pick_any(&position.grid().neighbours(here)).flatten().unwrap_or(here) as u16);
+    }
+    path
+}
+
+/// The phasing units that could attack a hex.
+fn attackers_of(position: &Position, target: usize) -> Vec<usize> {
+    units_where(position, |unit| {
+        let may = unit.on_map()
+            && unit.force() == position.desk.force
+            && unit_type::may_attack(unit.kind)
+            && !unit.has(FOUGHT);
+        may && position.joined(usize::from(unit.hex), target)
+    })
+}
+
+/// The hexes that could be attacked; one that holds several units comes several times.
+pub fn targets(position: &Position) -> Vec<usize> {
+    let enemies = units_where(position, |unit| unit.on_map() && unit.force() != position.desk.force);
+    let hexes = enemies.into_iter().map(|unit| usize::from(position.units[unit].hex));
+    let fresh = |hex: &usize| position.units_on(*hex).into_iter().all(|unit| !position.units[unit].has(FOUGHT));
+    hexes.filter(|hex| fresh(hex) && !attackers_of(position, *hex).is_empty()).collect()
+}
+
+/// A target with Enemies beside units that may attack, and some of these.
+fn plausible_attack(chance: &mut Chance, position: &Position) -> Order {
+    let die = chance.from_to(1, 6) as u16;
+    let Some(target) = chance.pick_any(&targets(position)) else { return random(chance, position, Call::Attack) };
+    let mut list = attackers_of(position, target);
+    chance.shuffle(&mut list);
+    let most = list.len().min(18);
+    list.truncate(if chance.percent(40) { most } else { chance.from_to(1, most) });
+    Order::Attack { target: target as u16, die, list: list.into_iter().map(|unit| unit as u16).collect() }
+}
+
+/// An owing hex and a legal route, where there is one; else some steps.
+fn plausible_retreat(chance: &mut Chance, position: &Position) -> Order {
+    let owing: Vec<u16> = position.units_with_role(OWES).iter().map(|&unit| position.units[unit].hex).collect();
+    let Some(hex) = chance.pick_any(&owing) else { return random(chance, position, Call::Retreat) };
+    let start = usize::from(hex);
+    let legal = legal_routes(position, start, &owing_group(position, start));
+    let route = if legal.is_empty() || chance.percent(15) {
+        steps(chance, position, start)
+    } else {
+        legal[chance.below(legal.len())].clone()
+    };
+    Order::Retreat { hex, route: route.into_iter().map(|hex| hex as u16).collect() }
+}
+
+/// Some steps to neighbours, about as many as are owed.
+fn steps(chance: &mut Chance, position: &Position, start: usize) -> Vec<usize> {
+    let owed = usize::from(position.desk.owed_retreat);
+    let count = if chance.percent(80) { owed } else { chance.below(4) };
+    let mut here = start;
+    let mut route = Vec::new();
+    for _ in 0..count {
+        let near: Vec<usize> = position.grid().neighbours(here).into_iter().flatten().collect();
+        here = chance.pick_any(&near).unwrap_or(here);
+        route.push(here);
+    }
+    route
+}
+
+/// Owing units in any order until need is reached, or one fewer, or all.
+fn plausible_losses(chance: &mut Chance, position: &Position) -> Order {
+    let mut owing = position.units_with_role(OWES);
+    if owing.is_empty() {
+        return random(chance, position, Call::Losses);
+    }
+    chance.shuffle(&mut owing);
+    if chance.percent(40) {
+        owing.sort_by_key(|&unit| position.units[unit].kind != unit_type::SPECIAL_INFANTRY);
+    }
+    let mut total = 0;
+    let mut enough = 0;
+    while enough < owing.len() && total < u32::from(position.desk.need) {
+        total += u32::from(position.units[owing[enough]].strength);
+        enough += 1;
+    }
+    let count = match chance.below(5) {
+        0 => enough.saturating_sub(1).max(1),
+        1 => owing.len(),
+        _ => enough,
+    };
+    Order::Losses { list: owing[..count].iter().map(|&unit| unit as u16).collect() }
+}
+
+/// A unit that may advance and a hex of a route, most often of one that starts beside it.
+fn plausible_advance(chance: &mut Chance, position: &Position) -> Order {
+    let units = position.units_with_role(MAY_ADVANCE);
+    let Some(unit) = chance.pick_any(&units) else { return random(chance, position, Call::Advance) };
+    let routes = position.desk.filled_routes();
+    let starts_beside =
+        |route: &&Vec<usize>| position.grid().direction_to(usize::from(position.units[unit].hex), route[0]).is_some();
+    let beside: Vec<&Vec<usize>> = routes.iter().filter(starts_beside).collect();
+    let all: Vec<&Vec<usize>> = routes.iter().collect();
+    let choices = if beside.is_empty() || chance.percent(20) { all } else { beside };
+    match chance.pick_any(&choices) {
+        Some(route) => Order::Advance { unit: unit as u16, hex: chance.pick(route) as u16 },
+        None => Order::Advance { unit: unit as u16, hex: any_hex(chance, position) },
+    }
+}

@@ -1,0 +1,31 @@
+//! A second referee for the land rules of Invasion: America, written from the documents alone.
+//!
+//! The rules: one module for each, named in the documents' words. The record: `order`,
+//! `record`, `table`. The cases to compare by: `generator`; what they reach: `tally`.
+
+pub mod acceptance;
+pub mod advance;
+pub mod attack;
+pub mod battle;
+pub mod checks;
+pub mod clock;
+pub mod close;
+pub mod contents;
+pub mod end_phase;
+pub mod generator;
+pub mod grid;
+pub mod losses;
+pub mod movement;
+pub mod order;
+pub mod position;
+pub mod record;
+pub mod referee;
+pub mod refusal;
+pub mod results;
+pub mod retreat;
+pub mod stages;
+pub mod supply;
+pub mod table;
+pub mod tally;
+pub mod unit_type;
+pub mod zones;

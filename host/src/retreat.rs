@@ -1,0 +1,99 @@
+//! The retreat call: the owing units of one hex go together.
+
+use crate::checks;
+use crate::grid::DIRECTIONS;
+use crate::position::*;
+use crate::refusal::*;
+use crate::stages;
+use crate::unit_type::SUPPLY_UNIT;
+use crate::zones::enemy_zones;
+
+/// What an accepted retreat answers.
+#[derive(Clone, Copy, Debug, PartialEq, Eq)]
+pub enum Retreated {
+    To(usize),
+    Destroyed,
+}
+
+/// Rule on a retreat from a hex by a route of 0 to 3 hexes.
+pub fn retreat(position: &mut Position, hex: u16, route: &[u16]) -> Result<Retreated, Refusal> {
+    checks::length(route.len(), 0, 3)?;
+    let start = checks::hex(position, hex, 0)?;
+    let route = checks::hexes(position, route)?;
+    checks::stage(position, RETREATS)?;
+    let group = owing_group(position, start);
+    require(!group.is_empty(), NOT_THE_UNIT, 0)?;
+    let answer = go(position, start, &group, &route)?;
+    stages::follow_on(position);
+    Ok(answer)
+}
+
+/// The role 1 units of a hex.
+pub fn owing_group(position: &Position, hex: usize) -> Vec<usize> {
+    position.units_on(hex).into_iter().filter(|&unit| position.units[unit].role == OWES).collect()
+}
+
+/// The group retreats, or is destroyed where nothing else is left to it.
+fn go(position: &mut Position, start: usize, group: &[usize], route: &[usize]) -> Result<Retreated, Refusal> {
+    let only_supply_units = group.iter().all(|&unit| position.units[unit].kind == SUPPLY_UNIT);
+    let legal = legal_routes(position, start, group);
+    if only_supply_units || legal.is_empty() {
+        destroy_group(position, start, group);
+        return Ok(Retreated::Destroyed);
+    }
+    require(legal.iter().any(|one| one == route), ROUTE_NOT_LEGAL, 0)?;
+    Ok(Retreated::To(lead_away(position, start, group, route)))
+}
+
+/// Every legal route: all sequences of n directions are tried, clockwise.
+pub fn legal_routes(position: &Position, start: usize, group: &[usize]) -> Vec<Vec<usize>> {
+    let force = position.units[group[0]].force();
+    let zones = enemy_zones(position, force);
+    let n = usize::from(position.desk.owed_retreat);
+    let distances = position.grid().distances(start);
+    let mut routes = vec![Vec::new()];
+    for _ in 0..n {
+        routes = routes.iter().flat_map(|route| longer_by_one(position, start, &zones, route)).collect();
+    }
+    routes.retain(|route| route.last().is_some_and(|&end| distances[end] == Some(n)));
+    routes
+}
+
+/// A route with each step that may follow it.
+fn longer_by_one(position: &Position, start: usize, zones: &[bool], route: &[usize]) -> Vec<Vec<usize>> {
+    let here = *route.last().unwrap_or(&start);
+    let mut longer = Vec::new();
+    for direction in DIRECTIONS {
+        let Some(next) = position.grid().neighbour(here, direction) else { continue };
+        let unblocked = position.side(here, direction) != BLOCKED;
+        if unblocked && position.bears_units(next) && position.is_vacant(next) && !zones[next] {
+            longer.push([route, &[next]].concat());
+        }
+    }
+    longer
+}
+
+/// The whole group is destroyed; its hex alone is the route.
+fn destroy_group(position: &mut Position, start: usize, group: &[usize]) {
+    for &unit in group {
+        stages::destroy(&mut position.units[unit]);
+    }
+    stages::write_route(&mut position.desk, &[start as u16]);
+}
+
+/// The group goes to the route's end, its supply units are destroyed; start and route are written.
+fn lead_away(position: &mut Position, start: usize, group: &[usize], route: &[usize]) -> usize {
+    let end = route[route.len() - 1];
+    for &number in group {
+        let unit = &mut position.units[number];
+        if unit.kind == SUPPLY_UNIT {
+            stages::destroy(unit);
+        } else {
+            unit.hex = end as u16;
+            unit.role = 0;
+        }
+    }
+    let hexes: Vec<u16> = [&[start], route].concat().into_iter().map(|hex| hex as u16).collect();
+    stages::write_route(&mut position.desk, &hexes);
+    end
+}

@@ -1,0 +1,87 @@
+//! The generator: its positions, its breaks, its records.
+
+use host::acceptance::{accepted, line_names};
+use host::contents::written;
+use host::generator::breaks::{break_names, broken_bytes, changed_byte};
+use host::generator::chance::Chance;
+use host::generator::record;
+use host::generator::stories::any_position;
+use host::order::{call_list, CALLS};
+use host::table::{Reply, Table};
+use host::tally::Tally;
+
+#[test]
+fn positions_made_by_chance_are_accepted() {
+    let mut chance = Chance::new(11);
+    for _ in 0..2000 {
+        assert_eq!(accepted(&written(&any_position(&mut chance))).err(), None);
+    }
+}
+
+#[test]
+fn there_is_a_break_for_every_line_in_order() {
+    assert_eq!(break_names(), line_names());
+}
+
+#[test]
+fn every_break_breaks_its_own_line() {
+    let mut chance = Chance::new(12);
+    for (line, name) in break_names().into_iter().enumerate() {
+        let mut own = 0;
+        for _ in 0..150 {
+            let position = any_position(&mut chance);
+            if let Some(bytes) = broken_bytes(&mut chance, &position, line) {
+                let broken = accepted(&bytes).expect_err(name);
+                own += usize::from(broken == name);
+            }
+        }
+        assert!(own > 0, "{name} is never the first line broken");
+    }
+}
+
+#[test]
+fn a_changed_byte_is_one_byte() {
+    let mut chance = Chance::new(13);
+    for _ in 0..500 {
+        let bytes = written(&any_position(&mut chance));
+        let changed = changed_byte(&mut chance, bytes.clone());
+        let differing = bytes.iter().zip(&changed).filter(|(one, other)| one != other).count();
+        assert_eq!((changed.len(), differing), (bytes.len(), 1));
+    }
+}
+
+fn tally_of(text: &[u8]) -> Tally {
+    let mut table = Table::with_all_calls();
+    let mut tally = Tally::default();
+    for line in text.split(|&byte| byte == b'\n') {
+        if let Reply::Answered(call, answer) = table.play(line) {
+            tally.count(call, &answer);
+        }
+    }
+    tally
+}
+
+#[test]
+fn a_record_of_5000_calls_reaches_every_answer_and_refusal() {
+    for seed in [1, 2] {
+        let tally = tally_of(&record(seed, 5000, &CALLS));
+        assert_eq!(tally.missing(&CALLS), Vec::<String>::new());
+        assert!((5000..5100).contains(&tally.calls()));
+    }
+}
+
+#[test]
+fn records_depend_on_the_seed_alone() {
+    assert_eq!(record(5, 300, &CALLS), record(5, 300, &CALLS));
+    assert_ne!(record(5, 300, &CALLS), record(6, 300, &CALLS));
+}
+
+#[test]
+fn a_limited_record_holds_no_other_calls() {
+    let calls = call_list("supply,move,end").expect("three calls");
+    let text = record(3, 1000, &calls);
+    let tally = tally_of(&text);
+    assert_eq!(tally.missing(&calls), Vec::<String>::new());
+    // All that attack, retreat, losses, advance and close can answer is missing.
+    assert_eq!(tally.missing(&CALLS).len(), 18 + 7 + 7 + 8 + 3);
+}

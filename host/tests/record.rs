@@ -1,0 +1,165 @@
+//! The record language and the buffers it lends.
+
+mod common;
+use common::*;
+use host::contents::written;
+use host::order::{call_list, Call};
+use host::position::*;
+use host::record::hex_digits;
+use host::table::Table;
+
+/// Play lines, all answers joined by " | ".
+fn play_on(mut table: Table, lines: &[&[u8]]) -> String {
+    let answers: Vec<String> = lines.iter().filter_map(|line| table.play(line).text()).collect();
+    answers.join(" | ")
+}
+
+fn play(lines: &[&str]) -> String {
+    let bytes: Vec<&[u8]> = lines.iter().map(|line| line.as_bytes()).collect();
+    play_on(Table::with_all_calls(), &bytes)
+}
+
+/// A position line: three hexes in a row, force 3 moving, US infantry on hex 0.
+fn row_line() -> String {
+    let mut position = Position::plain(3, 1);
+    position.desk.force = 3;
+    stand(&mut position, US, INFANTRY, 0, 1);
+    format!("position {}", hex_digits(&written(&position)))
+}
+
+#[test]
+fn the_first_position_is_empty() {
+    assert_eq!(play(&["show", "lent", "supply 0", "lent"]), "- | - | no 1 0 | -");
+}
+
+#[test]
+fn a_broken_position_is_1_before_anything() {
+    assert_eq!(play(&["position 00", "show", "move 999", "close", "supply 9"]), "00 | no 1 0 | no 1 0 | no 1 0");
+}
+
+#[test]
+fn supply_writes_the_buffer_and_refusals_leave_it() {
+    assert_eq!(play(&[&row_line(), "supply 3", "lent"]), "ok | 000000");
+    assert_eq!(play(&[&row_line(), "supply 5", "lent"]), "no 3 0 | a5a5a5");
+}
+
+#[test]
+fn a_wrong_buffer_is_3_and_holds_for_one_call() {
+    let row = row_line();
+    assert_eq!(play(&[&row, "buffer 2", "supply 3", "lent", "supply 3"]), "no 3 0 | a5a5 | ok");
+    assert_eq!(play(&[&row, "buffer 4", "end", "lent", "end", "lent"]), "no 3 0 | a5a5a5a5 | ok | 000000");
+    assert_eq!(play(&[&row, "buffer 0", "attack 0 1 0", "lent"]), "no 3 0 | -");
+    assert_eq!(play(&[&row, "buffer 4", "buffer 3", "supply 3"]), "ok");
+}
+
+#[test]
+fn a_buffer_is_used_up_by_a_call_that_borrows_none_and_not_by_other_lines() {
+    let row = row_line();
+    assert_eq!(play(&[&row, "buffer 2", "move 0 1", "lent", "supply 3"]), "ok | - | ok");
+    assert_eq!(play(&["buffer 2", &row, "show x", "lent", "", "supply 3"]), "what 3 | - | no 3 0");
+}
+
+#[test]
+fn lent_stays_until_the_next_call() {
+    let row = row_line();
+    assert_eq!(
+        play(&[&row, "supply 3", "what", "position -", "lent", "close", "lent"]),
+        "ok | what 3 | 000000 | no 1 0 | -"
+    );
+}
+
+#[test]
+fn an_accepted_attack_hands_the_scratch_back_all_0() {
+    let mut position = combat(3, 1, US);
+    stand(&mut position, US, INFANTRY, 0, 1);
+    stand(&mut position, ESC, INFANTRY, 1, 1);
+    let line = format!("position {}", hex_digits(&written(&position)));
+    assert_eq!(play(&[&line, "attack 1 1 1", "lent", "attack 1 1 0", "lent"]), "no 4 1 | a5a5a5 | fought 1 1 | 000000");
+}
+
+#[test]
+fn show_follows_accepted_calls() {
+    let row = row_line();
+    let before = row.replace("position ", "");
+    let moved = play(&[&row, "move 0 1", "show"]);
+    assert!(moved.starts_with("ok | ") && !moved.ends_with(&before));
+    assert_eq!(play(&[&row, "move 0 2", "show"]), format!("no 7 1 | {before}"));
+}
+
+#[test]
+fn lists_may_be_empty_and_long() {
+    let row = row_line();
+    assert_eq!(play(&[&row, "move 0", "attack 0 1", "losses", "retreat 0"]), "no 3 0 | no 3 0 | no 3 0 | no 2 0");
+    assert_eq!(play(&[&row, &format!("losses{}", " 0".repeat(5000))]), "no 3 0");
+}
+
+#[test]
+fn operands_must_fit_the_call() {
+    for line in [
+        "supply",
+        "supply 1 2",
+        "move",
+        "end 0",
+        "attack",
+        "attack 1",
+        "retreat",
+        "advance 1",
+        "advance 1 2 3",
+        "close 0",
+    ] {
+        assert_eq!(play(&[line]), "what 1", "{line}");
+    }
+    for line in ["position", "position 00 00", "buffer", "buffer 1 2", "show 1", "lent 1"] {
+        assert_eq!(play(&[line]), "what 1", "{line}");
+    }
+}
+
+#[test]
+fn numbers_are_decimal_up_to_65535() {
+    assert_eq!(
+        play(&["supply 65535", "supply 65536", "supply 00000000000000000000065535"]),
+        "no 1 0 | what 2 | no 1 0"
+    );
+    for line in ["supply +1", "supply -1", "supply 0x1", "supply 1.", "supply 99999999999999999999999", "buffer 65536"]
+    {
+        assert_eq!(play(&[line]), "what 1", "{line}");
+    }
+}
+
+#[test]
+fn hex_digits_come_in_either_case_and_in_pairs() {
+    assert_eq!(play(&["position aBCdeF", "show"]), "abcdef");
+    assert_eq!(play(&["position abc", "position 0g", "position --", "show"]), "what 1 | what 2 | what 3 | -");
+    let longest = format!("position {}", "0".repeat(2 * 65535));
+    assert_eq!(play(&[&longest, "close"]), "no 1 0");
+    let too_long = format!("position {}", "0".repeat(2 * 65536));
+    assert_eq!(play(&[&too_long, "show"]), "what 1 | -");
+}
+
+#[test]
+fn blanks_tabs_carriage_returns_and_remarks_do_no_harm() {
+    assert_eq!(play(&["\tsupply \t 3 \t\r", "# supply", "", "  ", "\r", "#", "Supply 3"]), "no 1 0 | what 7");
+    assert_eq!(play(&["sup\rply 3", "supply\u{b}3"]), "what 1 | what 2");
+}
+
+#[test]
+fn any_bytes_can_be_read_as_what() {
+    let table = Table::with_all_calls();
+    let lines: [&[u8]; 4] = [b"\0", b"\xff\xfe", b"supply 3\0", b"move \xc3\xa9"];
+    assert_eq!(play_on(table, &lines), "what 1 | what 2 | what 3 | what 4");
+}
+
+#[test]
+fn calls_that_do_not_exist_are_what_and_use_no_buffer() {
+    let table = Table::new(&call_list("supply,move").expect("two calls"));
+    let row = row_line();
+    let lines: [&[u8]; 4] = [row.as_bytes(), b"buffer 2", b"end", b"supply 3"];
+    assert_eq!(play_on(table, &lines), "what 3 | no 3 0");
+}
+
+#[test]
+fn call_lists_are_read_by_name() {
+    assert_eq!(call_list("end,close"), Some(vec![Call::End, Call::Close]));
+    assert_eq!(call_list("end,fly"), None);
+    assert_eq!(call_list(""), None);
+}
