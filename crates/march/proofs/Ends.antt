@@ -39,9 +39,9 @@ use Rattle.position.proofs.Lawfuls.{standable-on}
 use Rattle.position.proofs.Tallies.{both-yes}
 
 -- board d is board c to zones and supply, and unit w has the same marks
-pub record Same (c d : Board) (w : ℕ) : Type 0 where
-  pub scenes : scene d ≡ scene c
-  pub marks : d .units .marks w ≡ c .units .marks w
+record Same (c d : Board) (w : ℕ) : Type 0 where
+  scenes : scene d ≡ scene c
+  marks : d .units .marks w ≡ c .units .marks w
 
 same-refl : (c : Board) (w : ℕ) → Same c c w
 same-refl c w = record { scenes = refl; marks = refl }
@@ -107,7 +107,7 @@ unfolding faced rested
 faced-rested m = omega (arith, parity-moved (without fought m), parity-fought m)
 
 -- the marks after all units below n are rested
-pub marks-rested : (b : Board) (n w : ℕ) → n ≤ b .units .count → w < n → changes b (restAll b n) .units .marks w ≡ rested (b .units .marks w)
+marks-rested : (b : Board) (n w : ℕ) → n ≤ b .units .count → w < n → changes b (restAll b n) .units .marks w ≡ rested (b .units .marks w)
 unfolding restAll changes change
 marks-rested b zero w h l = absurd (omega arith)
 marks-rested b (suc n) w h l =
@@ -155,7 +155,7 @@ since-rested {b} l t f ph n =
           λ u h.
           record {
             scenes = z;
-            stands = λ z. standable-on b (b .units .hex u) (l .units .each u h .stand .mapped z .stands);
+            stands = λ x. standable-on b (b .units .hex u) (l .units .each u h .stand .mapped x .stands);
             marks = λ _. marks-rested b k u (omega arith) h;
           };
     }
