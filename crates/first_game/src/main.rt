@@ -1,0 +1,4 @@
+// Plays the sample game of examples/.
+fn main() {
+    record::play();
+}

@@ -1,0 +1,49 @@
+-- `record::calls::fill` is safe and ends: the index counts up to the length, which stays.
+-- Assumes nothing.
+use Prim.Native.Nat.{_-_, _≤_}
+use mathlib.Core.Path.{_≡_}
+use lib.ListN.{length}
+use borrow.Author.Needs.{needs}
+use Rattle.record.proofs.calls.fill.Statement.{statement}
+use Rattle.record.proofs.calls.fill.Tie as tie
+
+abbrev Inv-loop : tie.InvT-loop
+Inv-loop lent₀ i₀ i-end lent i = (i ≤ i-end) × (length lent ≡ i-end)
+
+abbrev μ-loop : tie.MeasureT-loop
+μ-loop lent₀ i₀ i-end lent i = i-end - i
+
+loop-holds : tie.Need-loop-holds Inv-loop μ-loop
+loop-holds c = search needs
+
+slice-write-lent : tie.Need-slice-write-lent Inv-loop μ-loop
+slice-write-lent c = search needs
+
+add-i : tie.Need-add-i Inv-loop μ-loop
+add-i c = search needs
+
+loop-less : tie.Need-loop-less Inv-loop μ-loop
+loop-less c = search needs
+
+loop-again : tie.Need-loop-again Inv-loop μ-loop
+loop-again c = search needs
+
+same-length : tie.Need-same-length Inv-loop μ-loop
+same-length c = search needs
+
+returns : tie.Need-returns Inv-loop μ-loop
+returns c = search needs
+
+pub fill-spec : {M : Type 1} → statement M
+fill-spec =
+    tie.close
+    (tie.spec
+    Inv-loop
+    μ-loop
+    loop-holds
+    slice-write-lent
+    add-i
+    loop-less
+    loop-again
+    same-length
+    returns)

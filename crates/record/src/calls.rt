@@ -1,0 +1,102 @@
+// The calls. Each has a function here that takes the line's numbers, and an arm in `orders`.
+use crate::game;
+use crate::game::Game;
+use crate::line::Line;
+use crate::number;
+use crate::print;
+use crate::rooms;
+use crate::rooms::NONE;
+use crate::rooms::Numbers;
+use crate::rooms::Output;
+use march::Moved;
+use position::Checked;
+use ruling::Answer;
+
+// The right length of a buffer for the position `p`.
+fn right(p: &[u8]) -> usize {
+    let Checked::Whole(v) = position::check(p) else {
+        return 0;
+    };
+    v.hexes
+}
+
+// The length of the buffer that is lent for the position `p`.
+fn length(g: Game, p: &[u8]) -> usize {
+    let wanted = g.wanted;
+    if wanted == NONE {
+        return right(p);
+    }
+    wanted
+}
+
+// A lent buffer is filled before each call.
+fn fill(lent: &mut [u8]) {
+    for i in 0..lent.len() {
+        lent[i] = 0xa5;
+    }
+}
+
+// Accepted, or refused by a number and a place.
+fn answer(g: Game, a: Answer, out: &mut Output) -> Game {
+    match a {
+        Answer::Accepted => game::printed(g, print::text(out, g.full, b"ok\n")),
+        Answer::Refused(n, place) => game::printed(g, print::refused(out, g.full, n, place)),
+    }
+}
+
+fn moved(a: Moved) -> Answer {
+    match a {
+        Moved::Done => Answer::Accepted,
+        Moved::Refused(n, place) => Answer::Refused(n, place),
+    }
+}
+
+fn supplied(p: &[u8], nationality: usize, lent: &mut [u8]) -> Answer {
+    fill(lent);
+    rules::supply(p, nationality, lent)
+}
+
+pub fn supply_call(
+    g: Game,
+    l: Line,
+    pos: &[u8],
+    lent: &mut [u8],
+    nums: &Numbers,
+    out: &mut Output,
+) -> Game {
+    let words = l.count;
+    if words != 1 {
+        return game::what(g, out);
+    }
+    let size = rooms::within(g.size, pos);
+    let n = rooms::within(length(g, &pos[..size]), lent);
+    let a = supplied(&pos[..size], number::wide(nums[0]), &mut lent[..n]);
+    answer(game::called(g, n), a, out)
+}
+
+pub fn move_call(g: Game, l: Line, pos: &mut [u8], nums: &Numbers, out: &mut Output) -> Game {
+    let words = number::listed(l);
+    if words < 1 {
+        return game::what(g, out);
+    }
+    let size = rooms::within(g.size, pos);
+    let list: &[u16] = nums;
+    let a = rules::move_unit(&mut pos[..size], number::wide(nums[0]), &list[1..words]);
+    answer(game::called(g, 0), moved(a), out)
+}
+
+fn ended(p: &mut [u8], scratch: &mut [u8]) -> Answer {
+    fill(scratch);
+    rules::end_phase(p, scratch)
+}
+
+pub fn end_call(g: Game, l: Line, pos: &mut [u8], lent: &mut [u8], out: &mut Output) -> Game {
+    let words = l.count;
+    if words != 0 {
+        return game::what(g, out);
+    }
+    let size = rooms::within(g.size, pos);
+    let n = rooms::within(length(g, &pos[..size]), lent);
+    let a = ended(&mut pos[..size], &mut lent[..n]);
+    answer(game::called(g, n), a, out)
+}

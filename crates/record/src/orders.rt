@@ -1,0 +1,71 @@
+// What each line asks for, by its first word.
+use crate::calls;
+use crate::game;
+use crate::game::Game;
+use crate::line::Line;
+use crate::line::Stage;
+use crate::lines;
+use crate::number;
+use crate::rooms::Numbers;
+use crate::rooms::Output;
+use crate::rooms::Room;
+
+// The words as numbers of base 256.
+pub const POSITION: u64 = 0x706f736974696f6e;
+
+const BUFFER: u64 = 0x627566666572;
+
+const SHOW: u64 = 0x73686f77;
+
+const LENT: u64 = 0x6c656e74;
+
+const SUPPLY: u64 = 0x737570706c79;
+
+const MOVE: u64 = 0x6d6f7665;
+
+const END: u64 = 0x656e64;
+
+const NOTHING: u64 = 0;
+
+// A line that could be read as words. Each call has its arm.
+fn obey(
+    g: Game,
+    l: Line,
+    pos: &mut Room,
+    next: &Room,
+    lent: &mut Room,
+    nums: &Numbers,
+    out: &mut Output,
+) -> Game {
+    let key = l.key;
+    match key {
+        NOTHING => g,
+        POSITION => lines::position(g, l, pos, next, out),
+        BUFFER => lines::buffer(g, l, nums, out),
+        SHOW => lines::show(g, l, pos, out),
+        LENT => lines::lent(g, l, lent, out),
+        SUPPLY => calls::supply_call(g, l, pos, lent, nums, out),
+        MOVE => calls::move_call(g, l, pos, nums, out),
+        END => calls::end_call(g, l, pos, lent, out),
+        _ => game::what(g, out),
+    }
+}
+
+// The line has ended.
+pub fn finish(
+    g: Game,
+    l: Line,
+    pos: &mut Room,
+    next: &Room,
+    lent: &mut Room,
+    nums: &mut Numbers,
+    out: &mut Output,
+) -> Game {
+    let whole = number::close(l, nums);
+    let stage = whole.stage;
+    match stage {
+        Stage::Comment => g,
+        Stage::Bad => game::what(g, out),
+        _ => obey(g, whole, pos, next, lent, nums, out),
+    }
+}
