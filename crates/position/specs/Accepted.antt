@@ -26,20 +26,20 @@ pub record Entry (p : List ℕ) (k at long : ℕ) : Type 0 where
 -- "Five entries of offset and length .., then the bodies in this order, without gap or tail"
 pub record Shaped (p : List ℕ) : Type 0 where
   -- "Chart, 36 bytes"
-  pub chart : Entry p 0 Layout.chartAt 36
+  pub chart : Entry p 0 Layout.chartAt Layout.chartLength
   -- "Results: column count 1..12; per column a, d .., then six results"
-  pub results : Entry p 1 Layout.resultsAt (1 + 8 * Layout.columns p)
+  pub results : Entry p 1 Layout.resultsAt (Layout.resultsLength p)
   pub columns : In 1 (Layout.columns p) 12
   -- "Map: width, height; per hex" five numbers; "Width and height are 1 to 64."
-  pub map : Entry p 2 (Layout.mapAt p) (2 + 5 * Layout.hexes p)
+  pub map : Entry p 2 (Layout.mapAt p) (Layout.mapLength p)
   pub width : In 1 (Layout.width p) 64
   pub height : In 1 (Layout.height p) 64
   -- "Units: 16-bit count 0..400; per unit" eight bytes
-  pub units : Entry p 3 (Layout.unitsAt p) (2 + 8 * Layout.count p)
+  pub units : Entry p 3 (Layout.unitsAt p) (Layout.unitsLength p)
   pub count : Layout.count p ≤ 400
   -- "Desk, 56 bytes"
-  pub desk : Entry p 4 (Layout.deskAt p) 56
-  pub whole : length p ≡ Layout.deskAt p + 56
+  pub desk : Entry p 4 (Layout.deskAt p) Layout.deskLength
+  pub whole : length p ≡ Layout.deskAt p + Layout.deskLength
 
 -- "cost 0..9 (0 means prohibited) and defence multiple 1..4"
 pub record TerrainOk (c : Chart) (t : ℕ) : Type 0 where

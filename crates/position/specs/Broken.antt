@@ -77,16 +77,16 @@ shaped? p =
       whole = x .1 .1 .1 .1 .1 .1 .1 .1 .1;
     })
     (λ s. (s .chart, (s .results, (s .columns, (s .map, (s .width, (s .height, (s .units, (s .count, (s .desk, s .whole))))))))))
-    (both (entry? p 0 Layout.chartAt 36)
-    (both (entry? p 1 Layout.resultsAt (1 + 8 * Layout.columns p))
+    (both (entry? p 0 Layout.chartAt Layout.chartLength)
+    (both (entry? p 1 Layout.resultsAt (Layout.resultsLength p))
     (both (in? 1 (Layout.columns p) 12)
-    (both (entry? p 2 (Layout.mapAt p) (2 + 5 * Layout.hexes p))
+    (both (entry? p 2 (Layout.mapAt p) (Layout.mapLength p))
     (both (in? 1 (Layout.width p) 64)
     (both (in? 1 (Layout.height p) 64)
-    (both (entry? p 3 (Layout.unitsAt p) (2 + 8 * Layout.count p))
+    (both (entry? p 3 (Layout.unitsAt p) (Layout.unitsLength p))
     (both (decLe (Layout.count p) 400)
-    (both (entry? p 4 (Layout.deskAt p) 56)
-    (ℕ-discrete (length p) (Layout.deskAt p + 56)))))))))))
+    (both (entry? p 4 (Layout.deskAt p) Layout.deskLength)
+    (ℕ-discrete (length p) (Layout.deskAt p + Layout.deskLength)))))))))))
 
 unfoldable pub terrain? : (c : Chart) (t : ℕ) → Dec (TerrainOk c t)
 terrain? c t =

@@ -33,6 +33,13 @@ resultsAt = 56
 unfoldable pub columns : List ℕ → ℕ
 columns p = byte p resultsAt
 
+-- how long each body is, by the counts that it holds
+abbrev pub chartLength : ℕ
+chartLength = 36
+
+abbrev pub resultsLength : List ℕ → ℕ
+resultsLength p = 1 + 8 * columns p
+
 unfoldable pub mapAt : List ℕ → ℕ
 mapAt p = resultsAt + 1 + 8 * columns p
 
@@ -45,11 +52,20 @@ height p = byte p (mapAt p + 1)
 unfoldable pub hexes : List ℕ → ℕ
 hexes p = width p * height p
 
+abbrev pub mapLength : List ℕ → ℕ
+mapLength p = 2 + 5 * hexes p
+
 unfoldable pub unitsAt : List ℕ → ℕ
 unitsAt p = mapAt p + 2 + 5 * hexes p
 
 unfoldable pub count : List ℕ → ℕ
 count p = word p (unitsAt p)
+
+abbrev pub unitsLength : List ℕ → ℕ
+unitsLength p = 2 + 8 * count p
+
+abbrev pub deskLength : ℕ
+deskLength = 56
 
 unfoldable pub deskAt : List ℕ → ℕ
 deskAt p = unitsAt p + 2 + 8 * count p

@@ -6,10 +6,27 @@ ghost use Rattle.position.specs.Layout.{byte, word, cell, columnByte, he
 ghost use Rattle.position.specs.Checked.{Laid, Read};
 use crate::View;
 
-// Where the first two bodies begin, how long their records are, and the desk's length.
+// Where the first two bodies begin, how long chart and desk are, and how long a record of each other body is.
 pub const CHART: usize = 20;
 
 pub const RESULTS: usize = 56;
+
+pub const CHART_LENGTH: usize = 36;
+
+pub const DESK_LENGTH: usize = 56;
+
+pub const TERRAIN_SIZE: usize = 2;
+
+pub const COLUMN_SIZE: usize = 8;
+
+pub const HEX_SIZE: usize = 5;
+
+pub const UNIT_SIZE: usize = 8;
+
+// How long a route is, and a number of it.
+pub const ROUTE_SIZE: usize = 8;
+
+pub const PLACE_SIZE: usize = 2;
 
 // The fields of a terrain's record, of a column's, of a hex's, of a unit's and of the desk.
 pub const COST: usize = 0;
@@ -91,28 +108,28 @@ pub fn chart_byte(p: &[u8], v: View, t: usize, f: usize) -> usize
     requires { ⌜ Laid (now p) v × (f < 2) ⌝ }
     ensures { λ r. ⌜ Read (cell (now (p .entry)) 20 2 18 t f) 256 r ⌝ }
 {
-    cell(p, CHART, 2, 18, t, f)
+    cell(p, CHART, TERRAIN_SIZE, 18, t, f)
 }
 
 pub fn column_byte(p: &[u8], v: View, c: usize, f: usize) -> usize
     requires { ⌜ Laid (now p) v × (f < 8) ⌝ }
     ensures { λ r. ⌜ Read (columnByte (now (p .entry)) c f) 256 r ⌝ }
 {
-    cell(p, RESULTS + 1, 8, v.columns, c, f)
+    cell(p, RESULTS + 1, COLUMN_SIZE, v.columns, c, f)
 }
 
 pub fn hex_byte(p: &[u8], v: View, h: usize, f: usize) -> usize
     requires { ⌜ Laid (now p) v × (f < 5) ⌝ }
     ensures { λ r. ⌜ Read (hexByte (now (p .entry)) h f) 256 r ⌝ }
 {
-    cell(p, v.tiles, 5, v.hexes, h, f)
+    cell(p, v.tiles, HEX_SIZE, v.hexes, h, f)
 }
 
 pub fn unit_byte(p: &[u8], v: View, u: usize, f: usize) -> usize
     requires { ⌜ Laid (now p) v × (f < 8) ⌝ }
     ensures { λ r. ⌜ Read (unitByte (now (p .entry)) u f) 256 r ⌝ }
 {
-    cell(p, v.units, 8, v.count, u, f)
+    cell(p, v.units, UNIT_SIZE, v.count, u, f)
 }
 
 pub fn desk_byte(p: &[u8], v: View, f: usize) -> usize
@@ -130,7 +147,7 @@ pub fn set_unit(p: &mut [u8], v: View, u: usize, f: usize, x: usize)
 {
     let count = v.count;
     if u < count {
-        let at = v.units + 8 * u + f;
+        let at = v.units + UNIT_SIZE * u + f;
         p[at] = x as u8;
     }
 }

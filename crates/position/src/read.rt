@@ -222,6 +222,6 @@ pub fn route(p: &[u8], v: View, r: usize, j: usize) -> usize
     if 4 <= j {
         return 65535;
     }
-    let at = layout::ROUTES + 8 * r + 2 * j;
+    let at = layout::ROUTES + layout::ROUTE_SIZE * r + layout::PLACE_SIZE * j;
     layout::desk_byte(p, v, at) + 256 * layout::desk_byte(p, v, at + 1)
 }

@@ -17,8 +17,8 @@ fn with_units(p: &[u8], cols: usize, wide: usize, high: usize) -> Checked
     ensures { λ r. ⌜ SizedOf (now (p .entry)) r ⌝ }
 {
     let hexes = wide * high;
-    let tiles = layout::RESULTS + 1 + 8 * cols + 2;
-    let units = tiles + 5 * hexes + 2;
+    let tiles = layout::RESULTS + 1 + layout::COLUMN_SIZE * cols + 2;
+    let units = tiles + layout::HEX_SIZE * hexes + 2;
     if p.len() < units {
         return Checked::Broken;
     }
@@ -26,8 +26,8 @@ fn with_units(p: &[u8], cols: usize, wide: usize, high: usize) -> Checked
     if 400 < count {
         return Checked::Broken;
     }
-    let desk = units + 8 * count;
-    if p.len() != desk + 56 {
+    let desk = units + layout::UNIT_SIZE * count;
+    if p.len() != desk + layout::DESK_LENGTH {
         return Checked::Broken;
     }
     Checked::Whole(View {
@@ -47,7 +47,7 @@ fn with_map(p: &[u8], cols: usize) -> Checked
     requires { ⌜ (cols ≡ columns (now p)) × In 1 cols 12 ⌝ }
     ensures { λ r. ⌜ SizedOf (now (p .entry)) r ⌝ }
 {
-    let map = layout::RESULTS + 1 + 8 * cols;
+    let map = layout::RESULTS + 1 + layout::COLUMN_SIZE * cols;
     if p.len() < map + 2 {
         return Checked::Broken;
     }
@@ -110,19 +110,19 @@ pub fn shape(p: &[u8]) -> Checked
     let Checked::Whole(v) = sized(p) else {
         return Checked::Broken;
     };
-    if !entry(p, 0, layout::CHART, 36) {
+    if !entry(p, 0, layout::CHART, layout::CHART_LENGTH) {
         return Checked::Broken;
     }
-    if !entry(p, 1, layout::RESULTS, 1 + 8 * v.columns) {
+    if !entry(p, 1, layout::RESULTS, 1 + layout::COLUMN_SIZE * v.columns) {
         return Checked::Broken;
     }
-    if !entry(p, 2, v.tiles - 2, 2 + 5 * v.hexes) {
+    if !entry(p, 2, v.tiles - 2, 2 + layout::HEX_SIZE * v.hexes) {
         return Checked::Broken;
     }
-    if !entry(p, 3, v.units - 2, 2 + 8 * v.count) {
+    if !entry(p, 3, v.units - 2, 2 + layout::UNIT_SIZE * v.count) {
         return Checked::Broken;
     }
-    if !entry(p, 4, v.desk, 56) {
+    if !entry(p, 4, v.desk, layout::DESK_LENGTH) {
         return Checked::Broken;
     }
     Checked::Whole(v)

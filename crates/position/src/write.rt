@@ -91,7 +91,7 @@ fn set_route_hex(p: &mut [u8], v: View, r: usize, j: usize, h: usize)
     requires { ⌜ Laid (now p) v × (r < 6) × (j < 4) × (h < 65536) ⌝ }
     ensures { λ _. ⌜ now (p .exit) ≡ setRouteHex (now (p .entry)) r j h ⌝ }
 {
-    let at = layout::ROUTES + 8 * r + 2 * j;
+    let at = layout::ROUTES + layout::ROUTE_SIZE * r + layout::PLACE_SIZE * j;
     layout::set_desk(p, v, at, h % 256);
     layout::set_desk(p, v, at + 1, h / 256);
 }
