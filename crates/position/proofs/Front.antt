@@ -120,7 +120,7 @@ module _ {p q : List ℕ} (f : Front p q) where
 
   code-kept : (c die : ℕ) → code q c die ≡ code p c die
   unfolding code
-  code-kept c die = at (ltb die 7) refl
+  code-kept c die = ap (λ x. cond (ltb 0 die) x 0) (at (ltb die 7) refl)
     where
       at : (t : Bool) → ltb die 7 ≡ t → cond t (columnByte q c (die + 1)) 0 ≡ cond t (columnByte p c (die + 1)) 0
       at true e = let l = ltb-true die 7 e in columnByte-kept (die + 1) (omega arith) c

@@ -8,13 +8,18 @@ use borrow.Author.Tests.{lt-ltb, le-ltb}
 use Rattle.position.specs.Layout.{count, columnByte, code, unitAt, unitByte, hex, deskByte, routeField, route, setUnit}
 
 module _ (p : List ℕ) (c die : ℕ) where
-  pub code-in : die < 7 → code p c die ≡ columnByte p c (die + 1)
+  pub code-in : 0 < die → die < 7 → code p c die ≡ columnByte p c (die + 1)
   unfolding code
-  code-in l = simp (lt-ltb die 7 l)
+  code-in l m = simp (lt-ltb 0 die l, lt-ltb die 7 m)
 
-  pub code-out : 7 ≤ die → code p c die ≡ 0
+  -- below the first die, and past the sixth
+  pub code-none : die ≤ 0 → code p c die ≡ 0
   unfolding code
-  code-out l = simp (le-ltb die 7 l)
+  code-none l = simp (le-ltb 0 die l)
+
+  pub code-past : 0 < die → 7 ≤ die → code p c die ≡ 0
+  unfolding code
+  code-past l m = simp (lt-ltb 0 die l, le-ltb die 7 m)
 
 module _ (p : List ℕ) (u : ℕ) where
   pub hex-in : u < count p → hex p u ≡ unitByte p u 2 + 256 * unitByte p u 3

@@ -97,9 +97,9 @@ attackOdds p c = columnByte p c 0
 abbrev pub defenceOdds : List ℕ → ℕ → ℕ
 defenceOdds p c = columnByte p c 1
 
--- the code for a die of 1..6
+-- the code for a die of 1..6, 0 for any other
 unfoldable pub code : List ℕ → ℕ → ℕ → ℕ
-code p c die = cond (ltb die 7) (columnByte p c (die + 1)) 0
+code p c die = cond (ltb 0 die) (cond (ltb die 7) (columnByte p c (die + 1)) 0) 0
 
 -- "Map: width, height; per hex terrain .., surface .., flags .., country .., sides .."
 unfoldable pub hexByte : List ℕ → ℕ → ℕ → ℕ

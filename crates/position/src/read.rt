@@ -61,11 +61,14 @@ pub fn defence_odds(p: &[u8], v: View, c: usize) -> usize
     layout::column_byte(p, v, c, layout::DEFENCE)
 }
 
-// The result code of a column for a die of 1 to 6.
+// The result code of a column for a die of 1 to 6; 0 for any other.
 pub fn code(p: &[u8], v: View, c: usize, die: usize) -> usize
     requires { ⌜ Laid (now p) v ⌝ }
     ensures { λ r. ⌜ Read (code (now (p .entry)) c die) 256 r ⌝ }
 {
+    if die <= 0 {
+        return 0;
+    }
     if 7 <= die {
         return 0;
     }

@@ -1,16 +1,19 @@
--- `read::code` meets its contract: past the sixth die it is 0, and up to it a byte of the column.
+-- `read::code` meets its contract: for a die of 1 to 6 it is a byte of the column, for any other 0.
 -- Assumes nothing.
 use Prim.Native.Nat.{_+_}
 use mathlib.Core.Path.{_≡_, sym, ap, _∙_}
 use native.Mathlib.Omega.{arith}
 use borrow.Author.Needs.{needs}
 use Rattle.position.specs.Layout.{columnByte}
-use Rattle.position.proofs.Tables.{code-in, code-out}
+use Rattle.position.proofs.Tables.{code-in, code-none, code-past}
 use Rattle.position.proofs.read.code.Statement.{statement}
 use Rattle.position.proofs.read.code.Tie as tie
 
 returns : tie.Need-returns
-returns c = record { is = sym (code-out _ _ _ (c .if1 .taken)); small = omega arith }
+returns c = record { is = sym (code-none _ _ _ (c .if1 .taken)); small = omega arith }
+
+returns-2 : tie.Need-returns-2
+returns-2 c = record { is = sym (code-past _ _ _ (omega (arith, c .before .if1 .left)) (c .if2 .taken)); small = omega arith }
 
 add-column-byte : tie.Need-add-column-byte
 add-column-byte c = search needs
@@ -18,14 +21,16 @@ add-column-byte c = search needs
 column-byte-requires : tie.Need-column-byte-requires
 column-byte-requires c κs = search needs
 
-returns-2 : tie.Need-returns-2
-returns-2 c =
-    let a = c .before .before .before .args in
+returns-3 : tie.Need-returns-3
+returns-3 c =
+    let a = c .before .before .before .before .args in
     let e : 1 + a .die ≡ a .die + 1 = omega arith in
     record {
-      is = c .column-byte .ensures .is ∙ ap (columnByte (a .p .now) (a .c)) e ∙ sym (code-in _ _ _ (c .before .if1 .left));
+      is = c .column-byte .ensures .is
+          ∙ ap (columnByte (a .p .now) (a .c)) e
+          ∙ sym (code-in _ _ _ (omega (arith, c .before .before .if1 .left)) (c .before .if2 .left));
       small = c .column-byte .ensures .small;
     }
 
 pub code-spec : {M : Type 1} → statement M
-code-spec = tie.close (tie.spec returns add-column-byte column-byte-requires returns-2)
+code-spec = tie.close (tie.spec returns returns-2 add-column-byte column-byte-requires returns-3)
