@@ -3,7 +3,7 @@ ghost use mathlib.Core.Path.{_≡_};
 ghost use Prim.Native.Nat.{_<_};
 ghost use Rattle.position.specs.Tally.{any};
 ghost use Rattle.position.specs.Board.{board};
-ghost use Rattle.position.specs.Checked.{Laid};
+ghost use Rattle.position.specs.Laid.{Laid};
 ghost use Rattle.field.specs.Scene.{scene};
 ghost use Rattle.field.specs.Zone.{
   vacant,

@@ -13,8 +13,9 @@ use Rattle.position.specs.declared.View.{View}
 use Rattle.position.specs.Bits.{with, without, supplied, moved, fought, faced}
 use Rattle.position.specs.Layout as Layout
 use Rattle.position.specs.Board.{Board, board, nowhere}
-use Rattle.position.specs.Accepted.{Shaped, Lawful, Accepted}
-use Rattle.position.specs.Checked.{Laid}
+use Rattle.position.specs.Shape.{Shaped}
+use Rattle.acceptance.specs.Accepted.{Lawful, Accepted}
+use Rattle.position.specs.Laid.{Laid}
 use Rattle.position.specs.Change.{Change, make, makes}
 use Rattle.position.specs.Change.Change.{marked, timed}
 use Rattle.position.specs.Effect.{change, changes}
@@ -34,8 +35,8 @@ use Rattle.march.specs.declared.Clock.{Clock}
 use Rattle.march.specs.Clock.{nextClock, judgesSupply}
 use Rattle.march.specs.EndPhase.{clock, rested, restAll, judgedMarks, mappedOf, judgeAll, judgeForce, supplyChanges, endChanges}
 use Rattle.march.specs.Ending.{Waits, Since, JudgesUnit, JudgesAll, JudgesForce, JudgesPhase}
-use Rattle.position.proofs.Carries.{changes-then}
-use Rattle.position.proofs.Lawfuls.{standable-on}
+use Rattle.acceptance.proofs.Carries.{changes-then}
+use Rattle.acceptance.proofs.Lawfuls.{standable-on}
 use Rattle.position.proofs.Tallies.{both-yes}
 
 -- board d is board c to zones and supply, and unit w has the same marks

@@ -10,8 +10,9 @@ use lib.Dec.{eqb}
 use borrow.Author.Tests.{eqb-true, eqb-false, eq-eqb, ne-eqb, not-true, not-false}
 use Rattle.position.specs.Bits.{with, without, tried, supplied}
 use Rattle.position.specs.Board.{Board, board, nowhere}
-use Rattle.position.specs.Accepted.{In, Lawful, Accepted}
-use Rattle.position.specs.Broken.{broken}
+use Rattle.position.specs.Shape.{In}
+use Rattle.acceptance.specs.Accepted.{Lawful, Accepted}
+use Rattle.acceptance.specs.Broken.{broken}
 use Rattle.position.specs.Change.{Change}
 use Rattle.position.specs.Change.Change.{marked, timed}
 use Rattle.position.specs.Effect.{change, changes}
@@ -34,8 +35,8 @@ use Rattle.march.specs.EndPhase.{
   endRule,
   endVerdict,
 }
-use Rattle.position.proofs.Carries.{changes-then}
-use Rattle.position.proofs.Lawfuls.{Markable, lawful-marked, lawful-timed}
+use Rattle.acceptance.proofs.Carries.{changes-then}
+use Rattle.acceptance.proofs.Lawfuls.{Markable, lawful-marked, lawful-timed}
 use Rattle.position.proofs.Tallies.{both-yes}
 use Rattle.ruling.proofs.Kept.{Kept, kept-past, kept-ruled}
 

@@ -12,8 +12,8 @@ use Rattle.position.specs.Bits.{with, moved}
 use Rattle.position.specs.Board.{Board, board, nowhere, forceOf, enemy}
 use Rattle.position.specs.Ground.{joined, standable}
 use Rattle.position.specs.Crowd.{others}
-use Rattle.position.specs.Accepted.{Lawful, Accepted}
-use Rattle.position.specs.Broken.{broken}
+use Rattle.acceptance.specs.Accepted.{Lawful, Accepted}
+use Rattle.acceptance.specs.Broken.{broken}
 use Rattle.position.specs.Effect.{changes}
 use Rattle.position.proofs.Shapes.{hexes-most}
 use Rattle.position.proofs.Tallies.{same-or, any-false, both-yes, neither}
@@ -42,7 +42,7 @@ use Rattle.march.specs.Move.{
   moveRule,
   moveVerdict,
 }
-use Rattle.position.proofs.Lawfuls.{Room, standable-on, lawful-placed, placed-hex, lawful-marked}
+use Rattle.acceptance.proofs.Lawfuls.{Room, standable-on, lawful-placed, placed-hex, lawful-marked}
 use Rattle.ruling.proofs.Kept.{Kept, kept-past, kept-along, kept-ruled}
 
 -- where a move has come to: a hex to stand on, with none but units of unit u's force

@@ -13,7 +13,7 @@ use Rattle.position.specs.Tally.{any}
 use Rattle.position.specs.Layout.{river, majorRiver}
 use Rattle.position.specs.Board.{Board, Map, forceOf}
 use Rattle.position.specs.Ground.{riverSide, majorRiverSide, joined, standable}
-use Rattle.position.specs.Checked.{Read}
+use Rattle.position.specs.Laid.{Read}
 use Rattle.position.proofs.Tallies.{not-both, either, any-zero, any-miss, any-false, any-never, any-true}
 use Rattle.position.proofs.Sides.{reaches, joined-is}
 use Rattle.field.specs.Scene.{scene}

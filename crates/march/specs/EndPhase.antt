@@ -7,7 +7,7 @@ use lib.ListN.{replicate}
 use lib.Dec.{eqb}
 use Rattle.position.specs.Bits.{with, without, supplied, moved, fought}
 use Rattle.position.specs.Board.{Board, board, nowhere}
-use Rattle.position.specs.Broken.{broken}
+use Rattle.acceptance.specs.Broken.{broken}
 use Rattle.position.specs.Change.{Change}
 use Rattle.position.specs.Change.Change.{marked, timed}
 use Rattle.ruling.specs.Verdict.{Verdict}

@@ -10,7 +10,7 @@ use Rattle.position.specs.Kind.{movesByLand, movesInPhase2}
 use Rattle.position.specs.Board.{Board, board, nowhere, forceOf}
 use Rattle.position.specs.Ground.{joined, standable}
 use Rattle.position.specs.Crowd.{others}
-use Rattle.position.specs.Broken.{broken}
+use Rattle.acceptance.specs.Broken.{broken}
 use Rattle.position.specs.Change.{Change}
 use Rattle.position.specs.Change.Change.{placed, marked}
 use Rattle.ruling.specs.Verdict.{Verdict, along}

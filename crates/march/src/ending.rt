@@ -4,8 +4,8 @@ ghost use Prim.Native.Nat.{_<_};
 ghost use lib.ListN.{length};
 ghost use Rattle.position.specs.Board.{board};
 ghost use Rattle.position.specs.Change.{makes};
-ghost use Rattle.position.specs.Accepted.{Accepted};
-ghost use Rattle.position.specs.Checked.{Laid, Read};
+ghost use Rattle.acceptance.specs.Accepted.{Accepted};
+ghost use Rattle.position.specs.Laid.{Laid, Read};
 ghost use Rattle.ruling.specs.Verdict.{Met};
 ghost use Rattle.ruling.specs.Answers.{answerAs};
 ghost use Rattle.march.specs.EndPhase.{rested, restAll, endVerdict};
@@ -126,7 +126,7 @@ pub fn end_phase(p: &mut [u8], scratch: &mut [u8]) -> Answer
     ensures { λ r.
         ⌜ Met (now (p .entry)) (now (scratch .entry)) (endVerdict (now (p .entry)) (length (now (scratch .entry)))) (answerAs r) (now (p .exit)) (now (scratch .exit)) ⌝ }
 {
-    let Checked::Whole(v) = position::check(p) else {
+    let Checked::Whole(v) = acceptance::check(p) else {
         return Answer::Refused(1, 0);
     };
     let hexes = v.hexes;

@@ -4,7 +4,7 @@ ghost use mathlib.Core.List.{[]};
 ghost use Prim.Native.Nat.{_<_};
 ghost use lib.ListN.{length};
 ghost use Rattle.position.specs.Board.{board};
-ghost use Rattle.position.specs.Checked.{Laid};
+ghost use Rattle.position.specs.Laid.{Laid};
 ghost use Rattle.ruling.specs.Verdict.{Met};
 ghost use Rattle.march.specs.Move.{mayMoveNow, notPhasing, movesIn, forbidden, onMapAll, steps, moveChecks, arrival, moveVerdict};
 ghost use Rattle.march.specs.Judged.{WayOf, PathOf};
@@ -153,7 +153,7 @@ fn arrive(p: &mut [u8], v: View, u: usize, h: usize, last: usize) -> Moved
 pub fn move_unit(p: &mut [u8], unit: usize, path: &[u16]) -> Moved
     ensures { λ r. ⌜ Met (now (p .entry)) [] (moveVerdict (now (p .entry)) unit (now (path .entry))) (movedAs r) (now (p .exit)) [] ⌝ }
 {
-    let Checked::Whole(v) = position::check(p) else {
+    let Checked::Whole(v) = acceptance::check(p) else {
         return Moved::Refused(1, 0);
     };
     let way = judge_move(p, v, unit, path);

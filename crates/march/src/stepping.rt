@@ -4,7 +4,7 @@ ghost use mathlib.Core.Bool.{true};
 ghost use Prim.Native.Nat.{_+_, _<_, _≤_};
 ghost use Rattle.position.specs.Board.{board, ground};
 ghost use Rattle.position.specs.Ground.{joined};
-ghost use Rattle.position.specs.Checked.{Laid, Read};
+ghost use Rattle.position.specs.Laid.{Laid, Read};
 ghost use Rattle.march.specs.Working.{half, working};
 ghost use Rattle.march.specs.Step.{bearing, sideCost, stepCost};
 ghost use Rattle.march.specs.Move.{allowed, leavesZone, noStep, step, afterStep, leg};

@@ -2,7 +2,7 @@
 ghost use mathlib.Core.Path.{_≡_};
 ghost use Prim.Native.Nat.{_<_};
 ghost use lib.ListN.{length};
-ghost use Rattle.position.specs.Checked.{Laid};
+ghost use Rattle.position.specs.Laid.{Laid};
 use libc::STDIN_FILENO;
 use libc::STDOUT_FILENO;
 use position::Checked;
@@ -68,7 +68,7 @@ fn lines(p: &[u8], v: View, maps: &[u8])
 
 // The roster of `p`; a refused position prints only `refused 1`.
 pub fn roster(p: &[u8]) {
-    let Checked::Whole(v) = position::check(p) else {
+    let Checked::Whole(v) = acceptance::check(p) else {
         text(b"refused 1\n");
         return;
     };

@@ -6,8 +6,8 @@ use mathlib.Core.Bool.{Bool, true, false, not}
 use native.Mathlib.Omega.{arith}
 use borrow.Author.Count.{below-more}
 use borrow.Author.Tests.{not-true, not-false}
-use Rattle.position.specs.Accepted.{In}
-use Rattle.position.specs.Checked.{Says}
+use Rattle.position.specs.Shape.{In}
+use Rattle.position.specs.Laid.{Says}
 use Rattle.position.proofs.Tallies.{not-both}
 
 -- past `if !b { return .. }`, and in it

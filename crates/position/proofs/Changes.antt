@@ -12,8 +12,8 @@ use Rattle.position.specs.declared.View.{View}
 use Rattle.position.specs.Bits.{has, with, tried, faced}
 use Rattle.position.specs.Layout.{count, hexes, unitByte, strength, marks, setUnit, setDesk, setHex, setMarks, setRole, setClock, setStage, setRoute, clearRoutes}
 use Rattle.position.specs.Board.{Board, Units, board, units, desk, nowhere}
-use Rattle.position.specs.Accepted.{Shaped}
-use Rattle.position.specs.Checked.{Laid}
+use Rattle.position.specs.Shape.{Shaped}
+use Rattle.position.specs.Laid.{Laid}
 use Rattle.position.specs.Change.{Change, make, makes, turned, source}
 use Rattle.position.specs.Change.Change.{placed, destroyed, marked, assigned, timed, staged, routed, unrouted}
 use Rattle.position.specs.Effect.{withHex, withMarks, withRole, withShown, withUnits, withDesk, change, changes, turnedUp}

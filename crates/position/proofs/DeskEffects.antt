@@ -10,7 +10,7 @@ use lib.Dec.{ltb, eqb}
 use borrow.Author.Tests.{lt-ltb, le-ltb, eq-eqb, ne-eqb}
 use Rattle.position.specs.Layout.{strengthField, strength, deskByte, need, route, routeField, setDesk, setClock, setStage, setRouteHex, setRoute, clearRoutes}
 use Rattle.position.specs.Board.{Units, Desk, units, desk, nowhere}
-use Rattle.position.specs.Accepted.{Shaped}
+use Rattle.position.specs.Shape.{Shaped}
 use Rattle.position.specs.Effect.{withClock, withStage, withRoutes, ofFour, reroute, unfilled}
 use Rattle.position.proofs.Tables.{route-in, route-past, route-over}
 use Rattle.position.proofs.Front.{Front, front-refl, front-trans, shaped-kept}

@@ -33,7 +33,7 @@ use Rattle.position.specs.Layout.{
   clearRoutes,
 }
 use Rattle.position.specs.Board.{Board, Units, Desk, board, units, desk, shown, nowhere}
-use Rattle.position.specs.Accepted.{Shaped}
+use Rattle.position.specs.Shape.{Shaped}
 use Rattle.position.specs.Change.{Change, make, makes, turned}
 use Rattle.position.specs.Change.Change.{placed, destroyed, marked, assigned, timed, staged, routed, unrouted}
 use Rattle.position.specs.Effect.{upd, withHex, withMarks, withRole, withShown, withClock, withStage, withRoutes, ofFour, reroute, unfilled, withUnits, withDesk, change, changes, turnedUp}

@@ -33,8 +33,8 @@ use Rattle.position.specs.Layout.{
   Fits,
 }
 use Rattle.position.specs.Board.{Chart, Results, Map, chart, results, ground}
-use Rattle.position.specs.Accepted.{Entry, Shaped}
-use Rattle.position.specs.Checked.{Laid}
+use Rattle.position.specs.Shape.{Entry, Shaped}
+use Rattle.position.specs.Laid.{Laid}
 use Rattle.position.proofs.Cells.{inside, cell-in, cell-out}
 
 -- q has the length of p, and the same bytes before the units' records

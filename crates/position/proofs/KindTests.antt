@@ -6,17 +6,7 @@ use mathlib.Core.Bool.{Bool, false, cond, _||_}
 use native.Mathlib.Omega.{arith}
 use lib.Dec.{leb, eqb}
 use borrow.Author.Tests.{lt-leb, ne-eqb}
-use Rattle.position.specs.Kind.{
-  byKind,
-  castsZone,
-  mayAttack,
-  movesByLand,
-  movesInPhase2,
-  alwaysTried,
-  force,
-  mayBelong,
-  mayAllow,
-}
+use Rattle.position.specs.Kind.{byKind, castsZone, mayAttack, movesByLand, movesInPhase2, alwaysTried, force, mayBelong, mayAllow}
 
 -- what agrees with each row of the table agrees with the table
 row-by-row : {A : Type 0} (f : ℕ → A) (k : ℕ) {none : A} → ((n : ℕ) → 5 < n → f n ≡ none) →

@@ -8,7 +8,7 @@ use borrow.Author.Tests.{lt-ltb, le-ltb}
 use Rattle.position.specs.declared.View.{View}
 use Rattle.position.specs.Bits.{with, tried}
 use Rattle.position.specs.Layout.{hexes, setUnit, setDesk, setHex, setRouteHex, setRoute}
-use Rattle.position.specs.Checked.{Laid}
+use Rattle.position.specs.Laid.{Laid}
 use Rattle.position.specs.Change.{make}
 use Rattle.position.specs.Change.Change.{placed, routed}
 use Rattle.position.proofs.Front.{front-trans, laid-kept}

@@ -12,9 +12,5 @@ pub mod Writes
 pub mod Effects
 pub mod DeskEffects
 pub mod Changes
-pub mod Alikes
 pub mod Restores
-pub mod Keeps
 pub mod Laying
-pub mod Carries
-pub mod Lawfuls

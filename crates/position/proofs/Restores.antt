@@ -10,7 +10,7 @@ use lib.Seq.{set-set, set-getD, set-comm}
 use borrow.Author.Tests.{lt-ltb, le-ltb}
 use Rattle.position.specs.Bits.{faced}
 use Rattle.position.specs.Layout.{byte, count, hexes, unitAt, unitByte, hex, marks, role, setUnit, setHex, setMarks, setRole}
-use Rattle.position.specs.Accepted.{Shaped}
+use Rattle.position.specs.Shape.{Shaped}
 use Rattle.position.specs.Change.{make}
 use Rattle.position.specs.Change.Change.{placed, marked, assigned}
 use Rattle.position.proofs.Tables.{hex-in, set-unit-in, set-unit-out}

@@ -6,8 +6,8 @@ use mathlib.Core.List.{List}
 use native.Mathlib.Omega.{arith}
 use native.Mathlib.Nat.{mul-le-mul}
 use Rattle.position.specs.Layout.{byte, word, columns, mapAt, width, height, hexes, unitsAt, count}
-use Rattle.position.specs.Accepted.{In, Entry, Shaped}
-use Rattle.position.specs.Checked.{Laid}
+use Rattle.position.specs.Shape.{In, Entry, Shaped}
+use Rattle.position.specs.Laid.{Laid}
 use Rattle.position.specs.declared.View.{View}
 use Rattle.position.proofs.Answers.{carry}
 

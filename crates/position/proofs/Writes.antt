@@ -9,7 +9,7 @@ use native.Mathlib.Decide.{decLt}
 use lib.ListN.{length, getD, set, length-set}
 use lib.Seq.{getD-set-same, getD-set-other}
 use Rattle.position.specs.Layout.{byte, unitsAt, count, deskAt, unitAt, cell, unitByte, deskByte, setUnit, setDesk}
-use Rattle.position.specs.Accepted.{Shaped}
+use Rattle.position.specs.Shape.{Shaped}
 use Rattle.position.proofs.Cells.{cell-in, cell-out}
 use Rattle.position.proofs.Tables.{set-unit-in, set-unit-out}
 use Rattle.position.proofs.Front.{Front, front-refl, front-set, unitsAt-kept, count-kept, deskAt-kept, unitAt-kept}

@@ -5,11 +5,7 @@ pub mod Layout
 pub mod Board
 pub mod Ground
 pub mod Crowd
-pub mod Accepted
-pub mod Decide
-pub mod Broken
-pub mod Checked
+pub mod Shape
+pub mod Laid
 pub mod Change
 pub mod Effect
-pub mod Alike
-pub mod Examples

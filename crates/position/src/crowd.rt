@@ -4,7 +4,7 @@ ghost use Prim.Native.Nat.{_<_, _≤_};
 ghost use Rattle.position.specs.Tally.{any};
 ghost use Rattle.position.specs.Board.{board};
 ghost use Rattle.position.specs.Crowd.{crowd, others, holders, owesAt, owingHexes, filled, routes};
-ghost use Rattle.position.specs.Checked.{Laid, Read};
+ghost use Rattle.position.specs.Laid.{Laid, Read};
 use crate::View;
 use crate::read;
 

@@ -1,7 +1,7 @@
 // Who belongs to whom.
 ghost use mathlib.Core.Path.{_≡_};
 ghost use Rattle.position.specs.Board.{board, forceOf, enemy};
-ghost use Rattle.position.specs.Checked.{Laid};
+ghost use Rattle.position.specs.Laid.{Laid};
 use crate::View;
 use crate::kind;
 use crate::read;

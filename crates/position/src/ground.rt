@@ -3,7 +3,7 @@ ghost use mathlib.Core.Path.{_≡_};
 ghost use Prim.Native.Nat.{_<_, _≤_};
 ghost use Rattle.position.specs.Board.{board, ground};
 ghost use Rattle.position.specs.Ground.{stored, side, next, isAt, joined, standable};
-ghost use Rattle.position.specs.Checked.{Laid, Read};
+ghost use Rattle.position.specs.Laid.{Laid, Read};
 use crate::View;
 use crate::read;
 use grid::Beside;

@@ -1,15 +1,6 @@
 // Unit types and nationalities: the one place that knows what each may do.
 ghost use mathlib.Core.Path.{_≡_};
-ghost use Rattle.position.specs.Kind.{
-  castsZone,
-  mayAttack,
-  movesByLand,
-  movesInPhase2,
-  alwaysTried,
-  force,
-  mayBelong,
-  mayAllow,
-};
+ghost use Rattle.position.specs.Kind.{castsZone, mayAttack, movesByLand, movesInPhase2, alwaysTried, force, mayBelong, mayAllow};
 
 pub struct Kind(pub usize);
 

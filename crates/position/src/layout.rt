@@ -3,7 +3,7 @@ ghost use mathlib.Core.Path.{_≡_};
 ghost use Prim.Native.Nat.{_+_, _*_, _<_, _≤_};
 ghost use lib.ListN.{length};
 ghost use Rattle.position.specs.Layout.{byte, word, cell, columnByte, hexByte, unitByte, deskByte, setUnit, setDesk};
-ghost use Rattle.position.specs.Checked.{Laid, Read};
+ghost use Rattle.position.specs.Laid.{Laid, Read};
 use crate::View;
 
 // Where the first two bodies begin, how long chart and desk are, and how long a record of each other body is.

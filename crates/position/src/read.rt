@@ -27,7 +27,7 @@ ghost use Rattle.position.specs.Layout.{
   need,
   route,
 };
-ghost use Rattle.position.specs.Checked.{Laid, Read};
+ghost use Rattle.position.specs.Laid.{Laid, Read};
 use crate::View;
 use crate::layout;
 

@@ -4,7 +4,7 @@ ghost use Prim.Native.Nat.{_<_, _≤_};
 ghost use Rattle.position.specs.Layout.{setHex, setRouteHex};
 ghost use Rattle.position.specs.Change.{make, turned};
 ghost use Rattle.position.specs.Change.Change.{placed, destroyed, marked, assigned, timed, staged, routed, unrouted};
-ghost use Rattle.position.specs.Checked.{Laid};
+ghost use Rattle.position.specs.Laid.{Laid};
 use crate::View;
 use crate::bits;
 use crate::layout;

@@ -14,7 +14,7 @@ use ruling::Answer;
 
 // The right length of a buffer for the position `p`.
 fn right(p: &[u8]) -> usize {
-    let Checked::Whole(v) = position::check(p) else {
+    let Checked::Whole(v) = acceptance::check(p) else {
         return 0;
     };
     v.hexes

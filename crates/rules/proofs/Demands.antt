@@ -7,8 +7,8 @@ use mathlib.Core.List.{List, []}
 use lib.ListN.{length}
 use lib.Dec.{ltb, eqb}
 use Rattle.position.specs.Board.{board}
-use Rattle.position.specs.Broken.{broken}
-use Rattle.position.specs.Accepted.{Accepted}
+use Rattle.acceptance.specs.Broken.{broken}
+use Rattle.acceptance.specs.Accepted.{Accepted}
 use Rattle.position.specs.Effect.{changes}
 use Rattle.ruling.specs.Verdict.{outcome}
 use Rattle.ruling.specs.Secret.{Sent}

@@ -3,7 +3,7 @@
 use Prim.Native.Nat.{ℕ}
 use mathlib.Core.Path.{_≡_}
 use mathlib.Core.List.{List}
-use Rattle.position.specs.Accepted.{Accepted}
+use Rattle.acceptance.specs.Accepted.{Accepted}
 use Rattle.ruling.specs.Verdict.{Ruling, Met}
 use Rattle.ruling.specs.Verdict.Ruling.{refused}
 use Rattle.ruling.specs.Secret.{Sent, Keeping, SecretRuns}

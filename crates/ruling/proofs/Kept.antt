@@ -5,10 +5,10 @@ use mathlib.Core.Path.{_≡_, refl}
 use mathlib.Core.Bool.{Bool, true, false}
 use mathlib.Core.List.{List, [], _∷_}
 use Rattle.position.specs.Board.{board}
-use Rattle.position.specs.Accepted.{Lawful, Accepted}
+use Rattle.acceptance.specs.Accepted.{Lawful, Accepted}
 use Rattle.position.specs.Change.{Change}
 use Rattle.position.specs.Effect.{changes}
-use Rattle.position.proofs.Keeps.{accepted-makes}
+use Rattle.acceptance.proofs.Keeps.{accepted-makes}
 use Rattle.ruling.specs.Verdict.{Verdict, along, judged, outcome}
 use Rattle.ruling.specs.Verdict.Judge.{rule}
 use Rattle.ruling.specs.Verdict.Verdict.{refuseIf, judge}

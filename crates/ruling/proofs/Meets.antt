@@ -9,7 +9,7 @@ use native.Mathlib.Numerals.{add-one}
 use lib.ListN.{length, getD, drop}
 use lib.Seq.{drop-cons}
 use Rattle.position.specs.Layout.{strength}
-use Rattle.position.specs.Accepted.{Shaped}
+use Rattle.position.specs.Shape.{Shaped}
 use Rattle.position.specs.Change.{Change, makes, turned}
 use Rattle.position.proofs.Front.{shaped-kept}
 use Rattle.position.proofs.Changes.{turned-made}

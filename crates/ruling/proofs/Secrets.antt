@@ -7,13 +7,14 @@ use mathlib.Core.List.{List, [], _∷_}
 use lib.ListN.{length}
 use Rattle.position.specs.Layout.{strength}
 use Rattle.position.specs.Board.{Board, board}
-use Rattle.position.specs.Accepted.{Shaped, Accepted}
-use Rattle.position.specs.Broken.{broken, broken-false}
+use Rattle.position.specs.Shape.{Shaped}
+use Rattle.acceptance.specs.Accepted.{Accepted}
+use Rattle.acceptance.specs.Broken.{broken, broken-false}
 use Rattle.position.specs.Change.{Change, makes, turned}
-use Rattle.position.specs.Alike.{Same, Alike}
+use Rattle.acceptance.specs.Alike.{Same, Alike}
 use Rattle.position.proofs.Front.{shaped-kept}
 use Rattle.position.proofs.Changes.{turned-made}
-use Rattle.position.proofs.Alikes.{front-same, board-alike, same-makes, same-turned}
+use Rattle.acceptance.proofs.Alikes.{front-same, board-alike, same-makes, same-turned}
 use Rattle.ruling.specs.Verdict.{Judge, Verdict, Outcome, judged, outcome, revealedBy, revealed}
 use Rattle.ruling.specs.Verdict.Judge.{reveal, rule}
 use Rattle.ruling.specs.Verdict.Verdict.{refuseIf, judge}

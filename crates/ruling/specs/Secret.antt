@@ -6,9 +6,9 @@ use mathlib.Core.List.{List, [], _∷_}
 use lib.ListN.{length}
 use Rattle.position.specs.Layout.{strength}
 use Rattle.position.specs.Board.{Board, board}
-use Rattle.position.specs.Accepted.{Accepted}
-use Rattle.position.specs.Broken.{broken}
-use Rattle.position.specs.Alike.{Same, Alike}
+use Rattle.acceptance.specs.Accepted.{Accepted}
+use Rattle.acceptance.specs.Broken.{broken}
+use Rattle.acceptance.specs.Alike.{Same, Alike}
 use Rattle.ruling.specs.Verdict.{Verdict, Outcome, outcome, revealed}
 use Rattle.ruling.specs.Verdict.Verdict.{refuseIf}
 

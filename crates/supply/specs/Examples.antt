@@ -6,7 +6,7 @@ use mathlib.Core.Bool.{Bool, true, false}
 use mathlib.Core.List.{List, [], _∷_, map}
 use Rattle.position.specs.Kind.{castsZone}
 use Rattle.position.specs.Board.{board, enemy}
-use Rattle.position.specs.Examples.{computing, roster, rosterLess}
+use Rattle.acceptance.specs.Examples.{computing, roster, rosterLess}
 use Rattle.walk.specs.Examples.{sweeping}
 use Rattle.walk.specs.Sweep.{tab}
 use Rattle.field.specs.Scene.{forceIn, scene}

@@ -5,7 +5,7 @@ use mathlib.Core.Bool.{Bool, not, cond}
 use mathlib.Core.List.{List, []}
 use lib.Dec.{ltb, eqb}
 use Rattle.position.specs.Board.{Board, board}
-use Rattle.position.specs.Broken.{broken}
+use Rattle.acceptance.specs.Broken.{broken}
 use Rattle.position.specs.Ground.{next}
 use Rattle.ruling.specs.Verdict.{Verdict}
 use Rattle.ruling.specs.Verdict.Judge.{rule}

@@ -2,7 +2,7 @@
 ghost use mathlib.Core.Path.{_≡_};
 ghost use Rattle.position.specs.Kind.{force};
 ghost use Rattle.position.specs.Board.{board};
-ghost use Rattle.position.specs.Checked.{Laid, Read};
+ghost use Rattle.position.specs.Laid.{Laid, Read};
 ghost use Rattle.field.specs.Scene.{scene};
 ghost use Rattle.supply.specs.Open.{homeSource, coastal, landing};
 ghost use Rattle.supply.specs.Paint.{Shows, Grades, openBy, landedBy, sourceBy, gradeBy};

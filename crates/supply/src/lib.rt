@@ -6,7 +6,7 @@ ghost use mathlib.Core.Path.{_≡_};
 ghost use Prim.Native.Nat.{_<_};
 ghost use lib.ListN.{length};
 ghost use Rattle.position.specs.Board.{board};
-ghost use Rattle.position.specs.Checked.{Laid};
+ghost use Rattle.position.specs.Laid.{Laid};
 ghost use Rattle.ruling.specs.Verdict.{Met};
 ghost use Rattle.ruling.specs.Answers.{answerAs};
 ghost use Rattle.field.specs.Scene.{scene};
@@ -31,7 +31,7 @@ pub fn supply(p: &[u8], nationality: usize, out: &mut [u8]) -> Answer
     ensures { λ r.
         ⌜ Met (now (p .entry)) (now (out .entry)) (supplyVerdict (now (p .entry)) nationality (length (now (out .entry)))) (answerAs r) (now (p .entry)) (now (out .exit)) ⌝ }
 {
-    let Checked::Whole(v) = position::check(p) else {
+    let Checked::Whole(v) = acceptance::check(p) else {
         return Answer::Refused(1, 0);
     };
     let hexes = v.hexes;

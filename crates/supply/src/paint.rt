@@ -5,7 +5,7 @@ ghost use lib.ListN.{length, set, replicate};
 ghost use Rattle.position.specs.Tally.{any};
 ghost use Rattle.position.specs.Bits.{with};
 ghost use Rattle.position.specs.Board.{board, ground};
-ghost use Rattle.position.specs.Checked.{Laid};
+ghost use Rattle.position.specs.Laid.{Laid};
 ghost use Rattle.field.specs.Scene.{scene};
 ghost use Rattle.field.specs.Zone.{casts, enemyZone};
 ghost use Rattle.walk.specs.Chain.{mark};

@@ -7,7 +7,7 @@ ghost use Prim.Native.Nat.{_<_};
 ghost use lib.ListN.{length};
 ghost use Rattle.position.specs.Board.{ground};
 ghost use Rattle.position.specs.Ground.{beside, next};
-ghost use Rattle.position.specs.Checked.{Laid};
+ghost use Rattle.position.specs.Laid.{Laid};
 ghost use Rattle.walk.specs.Chain.{mark, Reached, Graded};
 ghost use Rattle.walk.specs.Trail.{FreshOf, Ready, Step, Rest, Flooded, Seeded, Settled};
 use grid::Beside;

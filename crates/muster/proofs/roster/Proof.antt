@@ -1,7 +1,8 @@
 -- `muster::roster` is safe: past the check the position is laid out, and the maps keep their length.
 -- Assumes nothing.
 use mathlib.Core.Path.{subst}
-use Rattle.position.specs.Checked.{Laid, CheckedOf}
+use Rattle.position.specs.Laid.{Laid}
+use Rattle.acceptance.specs.Checked.{CheckedOf}
 use borrow.Author.Needs.{needs}
 use Rattle.muster.proofs.roster.Statement.{statement}
 use Rattle.muster.proofs.roster.Tie as tie

@@ -4,9 +4,10 @@ use mathlib.Core.Path.{_≡_, sym, ap, subst, _∙_}
 use native.Mathlib.Omega.{arith}
 use borrow.Author.Needs.{needs}
 use borrow.Author.Tests.{lt-ltb, le-ltb}
-use Rattle.position.specs.Checked.{Laid, CheckedOf}
-use Rattle.position.specs.Accepted.{Accepted}
-use Rattle.position.specs.Broken.{broken-true, broken-false}
+use Rattle.position.specs.Laid.{Laid}
+use Rattle.acceptance.specs.Checked.{CheckedOf}
+use Rattle.acceptance.specs.Accepted.{Accepted}
+use Rattle.acceptance.specs.Broken.{broken-true, broken-false}
 use Rattle.ruling.proofs.Meets.{pass, stop, ruled}
 use Rattle.supply.specs.Supply.{supplyRule, supplyVerdict}
 use Rattle.supply.proofs.Supplies.{other-length, own-length, filled}

@@ -2,9 +2,10 @@
 -- Assumes nothing.
 use mathlib.Core.Path.{sym, ap₂, subst, _∙_}
 use borrow.Author.Needs.{needs}
-use Rattle.position.specs.Checked.{Laid, CheckedOf}
-use Rattle.position.specs.Accepted.{Accepted}
-use Rattle.position.specs.Broken.{broken-true, broken-false}
+use Rattle.position.specs.Laid.{Laid}
+use Rattle.acceptance.specs.Checked.{CheckedOf}
+use Rattle.acceptance.specs.Accepted.{Accepted}
+use Rattle.acceptance.specs.Broken.{broken-true, broken-false}
 use Rattle.ruling.proofs.Meets.{pass, stop, ruled}
 use Rattle.supply.proofs.Supplies.{other-length, own-length}
 use Rattle.march.specs.Clock.{isLast}

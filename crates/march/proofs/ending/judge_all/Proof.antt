@@ -4,7 +4,7 @@ use Prim.Native.Nat.{_-_, _≤_}
 use mathlib.Core.Path.{_≡_, sym}
 use native.Mathlib.Omega.{arith}
 use borrow.Author.Needs.{needs}
-use Rattle.position.specs.Checked.{Laid}
+use Rattle.position.specs.Laid.{Laid}
 use Rattle.march.specs.Ending.{JudgesAll}
 use Rattle.march.proofs.Ends.{judges-none, judges-next}
 use Rattle.march.proofs.ending.judge_all.Statement.{statement}

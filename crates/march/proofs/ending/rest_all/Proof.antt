@@ -5,7 +5,7 @@ use mathlib.Core.Path.{_≡_, refl, ap, _∙_}
 use native.Mathlib.Omega.{arith}
 use Rattle.position.specs.Board.{board}
 use Rattle.position.specs.Change.{makes}
-use Rattle.position.specs.Checked.{Laid}
+use Rattle.position.specs.Laid.{Laid}
 use Rattle.position.proofs.Changes.{laid-make}
 use Rattle.march.specs.EndPhase.{restAll}
 use Rattle.march.proofs.Ends.{rests-next}

@@ -3,9 +3,10 @@
 use mathlib.Core.Path.{subst}
 use mathlib.Core.List.{[]}
 use borrow.Author.Needs.{needs}
-use Rattle.position.specs.Accepted.{Accepted}
-use Rattle.position.specs.Broken.{broken-true, broken-false}
-use Rattle.position.specs.Checked.{Laid, CheckedOf}
+use Rattle.acceptance.specs.Accepted.{Accepted}
+use Rattle.acceptance.specs.Broken.{broken-true, broken-false}
+use Rattle.position.specs.Laid.{Laid}
+use Rattle.acceptance.specs.Checked.{CheckedOf}
 use Rattle.ruling.proofs.Meets.{pass, stop}
 use Rattle.march.specs.Move.{moveRule, moveVerdict}
 use Rattle.march.specs.Judged.{PathOf}

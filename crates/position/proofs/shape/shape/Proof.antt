@@ -3,7 +3,7 @@
 use mathlib.Core.Path.{refl, subst}
 use native.Mathlib.Omega.{arith}
 use borrow.Author.Needs.{needs}
-use Rattle.position.specs.Checked.{Sized, SizedOf}
+use Rattle.position.specs.Laid.{Sized, SizedOf}
 use Rattle.position.proofs.Answers.{said, unsaid}
 use Rattle.position.proofs.Shapes.{entry-is}
 use Rattle.position.proofs.shape.shape.Statement.{statement}

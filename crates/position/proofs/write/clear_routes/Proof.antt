@@ -9,7 +9,7 @@ use borrow.Author.Needs.{needs}
 use Rattle.position.specs.Board.{nowhere}
 use Rattle.position.specs.Layout.{setRoute, clearRoutes}
 use Rattle.position.specs.Change.{make}
-use Rattle.position.specs.Checked.{Laid}
+use Rattle.position.specs.Laid.{Laid}
 use Rattle.position.proofs.Laying.{laid-route}
 use Rattle.position.proofs.write.clear_routes.Statement.{statement}
 use Rattle.position.proofs.write.clear_routes.Tie as tie

@@ -1,0 +1,225 @@
+-- What no change touches, and what of a lawful board carries over to a board that agrees with it in a few fields.
+-- Assumes nothing.
+use Prim.Native.Nat.{ℕ, _+_, _≤_, _<_}
+use mathlib.Core.Path.{_≡_, refl, sym, ap, _∙_}
+use mathlib.Core.List.{List, [], _∷_, _++_}
+use mathlib.Core.Bool.{Bool, true, false, not, _&&_, cond}
+use lib.Dec.{ltb, eqb}
+use Rattle.position.specs.Bits.{has, tried}
+use Rattle.position.specs.Tally.{tally, any}
+use Rattle.position.specs.Kind.{force}
+use Rattle.position.specs.Board.{Board, Units, Desk, nowhere, forceOf}
+use Rattle.position.specs.Ground.{standable}
+use Rattle.position.specs.Crowd.{crowd, holders, owesAt, owingHexes, filled, routes}
+use Rattle.acceptance.specs.Accepted.{StandOk, UnitOk, PairOk, UnitsOk, ClockOk, RetreatsOk, StageOk, LinkOk, PlaceOk, RoutesOk, Lawful}
+use Rattle.position.specs.Change.{Change}
+use Rattle.position.specs.Change.Change.{placed, destroyed, marked, assigned, timed, staged, routed, unrouted}
+use Rattle.position.specs.Effect.{withUnits, withDesk, change, changes}
+
+-- the tables, the counters and the last turn
+pub record Fixed (b c : Board) : Type 0 where
+  pub chart : c .chart ≡ b .chart
+  pub results : c .results ≡ b .results
+  pub map : c .map ≡ b .map
+  pub count : c .units .count ≡ b .units .count
+  pub nationality : c .units .nationality ≡ b .units .nationality
+  pub kind : c .units .kind ≡ b .units .kind
+  pub allowance : c .units .allowance ≡ b .units .allowance
+  pub lastTurn : c .desk .lastTurn ≡ b .desk .lastTurn
+
+module _ (b : Board) where
+  -- other units with these counters, and another desk with this last turn
+  fixed-both :
+      (s : Units) (d : Desk) → s .count ≡ b .units .count → s .nationality ≡ b .units .nationality → s .kind ≡ b .units .kind
+      → s .allowance ≡ b .units .allowance → d .lastTurn ≡ b .desk .lastTurn → Fixed b (withDesk (withUnits b s) d)
+  fixed-both s d n t k a e =
+      record {
+        chart = refl;
+        results = refl;
+        map = refl;
+        count = n;
+        nationality = t;
+        kind = k;
+        allowance = a;
+        lastTurn = e;
+      }
+
+  pub fixed-units :
+      (s : Units) → s .count ≡ b .units .count → s .nationality ≡ b .units .nationality → s .kind ≡ b .units .kind
+      → s .allowance ≡ b .units .allowance → Fixed b (withUnits b s)
+  fixed-units s n t k a = fixed-both s (b .desk) n t k a refl
+
+  pub fixed-desk : (d : Desk) → d .lastTurn ≡ b .desk .lastTurn → Fixed b (withDesk b d)
+  fixed-desk d e = fixed-both (b .units) d refl refl refl refl e
+
+  fixed-cond : (t : Bool) {c : Board} → Fixed b c → Fixed b (cond t c b)
+  fixed-cond true f = f
+  fixed-cond false f = fixed-desk (b .desk) refl
+
+  pub fixed-change : (x : Change) → Fixed b (change b x)
+  unfolding change
+  fixed-change (placed u h) = fixed-cond (ltb h (b .map .hexes)) (fixed-units _ refl refl refl refl)
+  fixed-change (destroyed u) = fixed-units _ refl refl refl refl
+  fixed-change (marked u m) = fixed-units _ refl refl refl refl
+  fixed-change (assigned u r) = fixed-units _ refl refl refl refl
+  fixed-change (timed t f ph) = fixed-desk _ refl
+  fixed-change (staged s n x) = fixed-desk _ refl
+  fixed-change (routed r w x y z) = fixed-desk _ refl
+  fixed-change unrouted = fixed-desk _ refl
+
+pub changes-then : (xs ys : List Change) (b : Board) → changes b (xs ++ ys) ≡ changes (changes b xs) ys
+unfolding changes
+changes-then [] ys b = refl
+changes-then (x ∷ xs) ys b = changes-then xs ys (change b x)
+
+module _ {b c : Board} (f : Fixed b c) where
+  -- what is read off a few fields
+  pub standable-by : (h : ℕ) → standable c h ≡ standable b h
+  unfolding standable
+  standable-by h = simp (f .map, f .chart)
+
+  pub force-by : (u : ℕ) → forceOf c u ≡ forceOf b u
+  unfolding forceOf
+  force-by u = ap (λ (n : ℕ → ℕ). force (n u)) (f .nationality)
+
+  module _ (e : c .units .hex ≡ b .units .hex) where
+    pub crowd-by : (h : ℕ) → crowd c h ≡ crowd b h
+    unfolding crowd
+    crowd-by h = λ i. tally (λ u. eqb (e i u) h) (f .count i)
+
+    pub owing-by : c .units .role ≡ b .units .role → owingHexes c ≡ owingHexes b
+    unfolding owingHexes owesAt
+    owing-by r =
+        λ i. tally (λ u. eqb (r i u) 1 && not (any (λ w. eqb (r i w) 1 && eqb (e i w) (e i u)) u)) (f .count i)
+
+  pub holders-by : c .units .role ≡ b .units .role → (r : ℕ) → holders c r ≡ holders b r
+  unfolding holders
+  holders-by e r = λ i. tally (λ u. eqb (e i u) r) (f .count i)
+
+  module _ (e : c .desk .route ≡ b .desk .route) where
+    filled-by : (r : ℕ) → filled c r ≡ filled b r
+    unfolding filled
+    filled-by r = λ i. not (eqb (e i r 0) nowhere)
+
+    pub routes-by : routes c ≡ routes b
+    unfolding routes filled
+    routes-by = λ i. tally (λ r. not (eqb (e i r 0) nowhere)) 6
+
+    link-by : (r j : ℕ) → LinkOk b r j → LinkOk c r j
+    link-by r j o = record { front = rw e (o .front); step = rw (e, f .map) (o .step) }
+
+    place-by : (r j : ℕ) → PlaceOk b r j → PlaceOk c r j
+    place-by r j o =
+        record {
+          link = link-by r j (o .link);
+          stands = λ n. standable-by (c .desk .route r j) ∙ rw e (o .stands (rw e at n));
+        }
+
+    pub routes-ok-by : RoutesOk b → RoutesOk c
+    routes-ok-by o r l =
+        record {
+          first = λ p. filled-by r ∙ o r l .first (sym (filled-by (r + 1)) ∙ p);
+          places = λ j m. place-by r j (o r l .places j m);
+        }
+
+  -- one unit by itself
+  module _ (w : ℕ) (role : c .units .role w ≡ b .units .role w) where
+    pub stand-by :
+        c .units .hex w ≡ b .units .hex w → (b .units .hex w ≡ nowhere → c .units .marks w ≤ tried)
+        → (crowd b (b .units .hex w) ≤ 3 → crowd c (b .units .hex w) ≤ 3) → StandOk b w → StandOk c w
+    stand-by e m r o =
+        record {
+          destroyed = rw e (λ n. record { role = role ∙ o .destroyed n .role; marks = m n });
+          mapped =
+              λ n.
+              let k = o .mapped (λ z. n (e ∙ z)) in
+              record {
+                stands = ap (standable c) e ∙ standable-by (b .units .hex w) ∙ k .stands;
+                room = rw e (r (k .room));
+              };
+        }
+
+    pub unit-by :
+        c .units .marks w < 16 → (has tried (b .units .marks w) ≡ true → has tried (c .units .marks w) ≡ true)
+        → (c .units .hex w ≡ nowhere → b .units .hex w ≡ nowhere) → StandOk c w → UnitOk b w → UnitOk c w
+    unit-by m t n s o =
+        record {
+          counter =
+              record {
+                belongs = rw (f .kind, f .nationality) (o .counter .belongs);
+                allows = rw (f .kind, f .allowance) (o .counter .allows);
+                marks = m;
+                always = rw (f .kind) (λ e. t (o .counter .always e));
+              };
+          duty =
+              record {
+                role = rw role (o .duty .role);
+                held =
+                    λ z.
+                    let d = o .duty .held (λ e. z (role ∙ e)) in
+                    record { tried = t (d .tried); mapped = λ e. d .mapped (n e) };
+              };
+          stand = s;
+        }
+
+  -- two units side by side
+  pub pair-by :
+      (u w : ℕ) → c .units .role u ≡ b .units .role u → c .units .role w ≡ b .units .role w
+      → ((forceOf b u ≡ forceOf b w → ⊥) → (c .units .hex u ≡ nowhere → ⊥) → c .units .hex w ≡ c .units .hex u → ⊥)
+      → PairOk b u w → PairOk c u w
+  pair-by u w r s apart o =
+      record {
+        two =
+            λ n.
+            let d : forceOf b u ≡ forceOf b w → ⊥ = λ e. n (force-by u ∙ e ∙ sym (force-by w)) in
+            record { apart = apart d; roles = rw (r, s) (o .two d .roles) };
+        one = λ e. record { roles = rw (r, s) (o .one (sym (force-by u) ∙ e ∙ force-by w) .roles) };
+      }
+
+  -- what the stages ask
+  module _ (role : c .units .role ≡ b .units .role) (route : c .desk .route ≡ b .desk .route) where
+    pub stage-by :
+        c .desk .stage ≡ b .desk .stage → c .desk .owed ≡ b .desk .owed → c .desk .need ≡ b .desk .need
+        → (b .desk .stage ≡ 1 → RetreatsOk c) → StageOk b → StageOk c
+    stage-by s n x retreats o =
+        let h = holders-by role in
+        let d = o .during in
+        record {
+          during =
+              record {
+                quiet =
+                    λ e.
+                    let q = d .quiet (sym s ∙ e) in
+                    record { owing = h 1 ∙ q .owing; advancing = h 2 ∙ q .advancing; routes = routes-by route ∙ q .routes };
+                retreats = λ e. retreats (sym s ∙ e);
+                losses =
+                    λ e.
+                    let q = d .losses (sym s ∙ e) in
+                    record { need = rw x (q .need); owing = rw (h 1) (q .owing); advancing = h 2 ∙ q .advancing };
+                advances =
+                    λ e.
+                    let q = d .advances (sym s ∙ e) in
+                    record { advancing = rw (h 2) (q .advancing); owing = h 1 ∙ q .owing };
+              };
+          owed = rw (s, n) (o .owed);
+          need = rw (s, x) (o .need);
+        }
+
+    -- owing hexes stay where nobody moves
+    pub retreats-by : c .units .hex ≡ b .units .hex → c .desk .owed ≡ b .desk .owed → RetreatsOk b → RetreatsOk c
+    retreats-by e n o =
+        let k = owing-by e role in
+        record { owed = rw n (o .owed); some = rw k (o .some); room = rw (k, routes-by route) (o .room) }
+
+  -- the whole board
+  pub lawful-by : UnitsOk c → ClockOk (c .desk) → StageOk c → RoutesOk c → Lawful b → Lawful c
+  lawful-by u k s r l =
+      record {
+        chart = rw (f .chart) (l .chart);
+        results = rw (f .results) (l .results);
+        map = rw (f .map) (l .map);
+        units = u;
+        clock = k;
+        stage = s;
+        routes = r;
+      }

@@ -1,0 +1,4 @@
+pub mod Alikes
+pub mod Keeps
+pub mod Carries
+pub mod Lawfuls

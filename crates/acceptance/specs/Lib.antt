@@ -1,0 +1,5 @@
+pub mod Accepted
+pub mod Broken
+pub mod Checked
+pub mod Alike
+pub mod Examples

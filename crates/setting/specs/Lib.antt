@@ -1,0 +1,3 @@
+pub mod Setting
+pub mod Decide
+pub mod Decided
