@@ -2,3 +2,5 @@ pub mod Alikes
 pub mod Keeps
 pub mod Carries
 pub mod Lawfuls
+pub mod Seating
+pub mod Asking

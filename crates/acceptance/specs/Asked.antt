@@ -29,6 +29,10 @@ pub record StackOk (b : Board) (u : ℕ) : Type 0 where
 abbrev pub StacksIn : Board → ℕ → ℕ → Type 0
 StacksIn b low high = (u : ℕ) → u < b .units .count → low ≤ b .units .hex u → b .units .hex u < high → StackOk b u
 
+-- the stacks on the hexes of the map
+abbrev pub StacksOk : Board → Type 0
+StacksOk b = StacksIn b 0 (b .map .hexes)
+
 -- the units of role r are of one force
 abbrev pub OneForce : Board → ℕ → Type 0
 OneForce b r =

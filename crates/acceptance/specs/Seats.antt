@@ -14,6 +14,11 @@ use Rattle.acceptance.specs.Asked.{StacksIn}
 abbrev pub block : ℕ
 block = 512
 
+-- a table that counts nobody
+pub record Empty (s : List ℕ) : Type 0 where
+  pub long : length s ≡ block
+  pub zero : (k : ℕ) → k < block → getD s k 0 ≡ 0
+
 -- byte x counts the units below n that stand on hex h, which are of one force
 pub record Seat (b : Board) (n h x : ℕ) : Type 0 where
   pub small : x < 16

@@ -11,6 +11,7 @@ use setting::map_ok;
 
 mod desk_ok;
 mod routes_ok;
+mod stacks_ok;
 mod units_ok;
 
 // All that the board shows.

@@ -1,10 +1,12 @@
 // Whether stacks are at most three units, of one force, in one pass over the units for each block of the map.
-ghost use Prim.Native.Nat.{ℕ, _+_, _<_, _≤_};
+ghost use mathlib.Core.Path.{_≡_};
+ghost use Prim.Native.Nat.{ℕ, _+_, _<_};
+ghost use lib.ListN.{length};
 ghost use Rattle.position.specs.Layout.{count};
 ghost use Rattle.position.specs.Board.{board, forceOf};
 ghost use Rattle.position.specs.Laid.{Laid, Says};
-ghost use Rattle.acceptance.specs.Asked.{AloneOk, StacksIn};
-ghost use Rattle.acceptance.specs.Seats.{block, SeatedOf};
+ghost use Rattle.acceptance.specs.Asked.{AloneOk, StacksIn, StacksOk};
+ghost use Rattle.acceptance.specs.Seats.{block, Empty, SeatedOf};
 use position::View;
 use position::forces;
 use position::layout;
@@ -14,8 +16,8 @@ use position::read;
 const BLOCK: usize = 512;
 
 // Unit `u` takes its seat in the table of the block that begins at `base`, if it stands there; false if the hex is full or holds another force.
-fn seat(p: &[u8], v: View, seats: &mut [u8; 512], base: usize, u: usize) -> bool
-    requires { ⌜ Laid (now p) v × (u < v .count) × (forceOf (board (now p)) u < 4) ⌝ }
+fn seat(p: &[u8], v: View, seats: &mut [u8], base: usize, u: usize) -> bool
+    requires { ⌜ Laid (now p) v × (u < v .count) × (forceOf (board (now p)) u < 4) × (length (now seats) ≡ block) ⌝ }
     ensures { λ r. ⌜ SeatedOf (board (now (p .entry))) base u (now (seats .entry)) (now (seats .exit)) r ⌝ }
 {
     let h = read::hex(p, v, u);
@@ -42,15 +44,25 @@ fn seat(p: &[u8], v: View, seats: &mut [u8; 512], base: usize, u: usize) -> bool
     true
 }
 
+// Nobody is seated.
+fn empty(seats: &mut [u8])
+    requires { ⌜ length (now seats) ≡ block ⌝ }
+    ensures { λ _. ⌜ Empty (now (seats .exit)) ⌝ }
+{
+    for k in 0..BLOCK {
+        seats[k] = 0;
+    }
+}
+
 // The stacks on the block of hexes that begins at `base`.
-fn block_ok(p: &[u8], v: View, base: usize) -> bool
-    requires { ⌜ Laid (now p) v × ((u : ℕ) → u < count (now p) → forceOf (board (now p)) u < 4) ⌝ }
+fn block_ok(p: &[u8], v: View, seats: &mut [u8], base: usize) -> bool
+    requires { ⌜ Laid (now p) v × ((u : ℕ) → u < count (now p) → forceOf (board (now p)) u < 4) × (length (now seats) ≡ block) ⌝ }
     ensures { λ r. ⌜ Says r (StacksIn (board (now (p .entry))) base (base + block)) ⌝ }
 {
-    let mut seats = [0u8; 512];
+    empty(seats);
     let count = v.count;
     for u in 0..count {
-        if !seat(p, v, &mut seats, base, u) {
+        if !seat(p, v, seats, base, u) {
             return false;
         }
     }
@@ -58,17 +70,25 @@ fn block_ok(p: &[u8], v: View, base: usize) -> bool
 }
 
 // The stacks on all hexes, block by block.
-pub fn stacks_ok(p: &[u8], v: View) -> bool
-    requires { ⌜ Laid (now p) v × ((u : ℕ) → u < count (now p) → AloneOk (board (now p)) u) ⌝ }
-    ensures { λ r. ⌜ Says r (StacksIn (board (now (p .entry))) 0 4096) ⌝ }
+fn blocks_ok(p: &[u8], v: View, seats: &mut [u8]) -> bool
+    requires { ⌜ Laid (now p) v × ((u : ℕ) → u < count (now p) → AloneOk (board (now p)) u) × (length (now seats) ≡ block) ⌝ }
+    ensures { λ r. ⌜ Says r (StacksOk (board (now (p .entry)))) ⌝ }
 {
     let hexes = v.hexes;
     let mut base = 0;
     while base < hexes {
-        if !block_ok(p, v, base) {
+        if !block_ok(p, v, seats, base) {
             return false;
         }
         base += BLOCK;
     }
     true
+}
+
+pub fn stacks_ok(p: &[u8], v: View) -> bool
+    requires { ⌜ Laid (now p) v × ((u : ℕ) → u < count (now p) → AloneOk (board (now p)) u) ⌝ }
+    ensures { λ r. ⌜ Says r (StacksOk (board (now (p .entry)))) ⌝ }
+{
+    let mut seats = [0u8; 512];
+    blocks_ok(p, v, &mut seats)
 }

@@ -21,7 +21,7 @@ use Rattle.position.specs.Change.Change.{marked, timed}
 use Rattle.position.specs.Effect.{change, changes}
 use Rattle.position.proofs.Tallies.{same-or}
 use Rattle.position.proofs.Shapes.{hexes-most}
-use Rattle.position.proofs.Front.{shaped-kept, laid-kept}
+use Rattle.position.proofs.Front.{shaped-kept}
 use Rattle.position.proofs.Effects.{upd-there, upd-else}
 use Rattle.position.proofs.Changes.{front-makes, board-make, board-makes, makes-snoc, makes-then}
 use Rattle.walk.specs.Chain.{mark}
@@ -341,10 +341,6 @@ judges-not e = record { judged = λ b s. simp e }
 pub judges-then : {p q : List ℕ} {c : Clock} → judgesSupply c ≡ true → JudgesForce p (c .force) q → JudgesPhase p c q
 unfolding supplyChanges
 judges-then e g = record { judged = λ b s. simp e (g .judged b s) }
-
--- the layout after changes
-pub laid-makes : {p q : List ℕ} {v : View} (xs : List Change) → Laid p v → q ≡ makes p xs → Laid q v
-laid-makes xs l e = rw e (laid-kept (front-makes (l .shaped) xs) l)
 
 -- the next clock's numbers are bytes
 pub record Bytes (c : Clock) : Type 0 where

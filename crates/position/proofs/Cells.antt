@@ -8,6 +8,7 @@ use native.Mathlib.Nat.{mul-le-mul-left, mul-suc}
 use lib.Dec.{ltb}
 use borrow.Author.Tests.{lt-ltb, le-ltb}
 use Rattle.position.specs.Layout.{byte, cell}
+use Rattle.position.specs.Laid.{Read}
 
 -- a record of the table lies within the table
 pub inside : (size n k f : ℕ) → k < n → f < size → size * k + f < size * n
@@ -24,6 +25,9 @@ module _ (p : List ℕ) (start size n k f : ℕ) where
   unfolding cell
   cell-out l = simp (le-ltb k n l)
 
--- the same table, by other names of its start and its length
-pub cell-at : (p : List ℕ) {s s′ n n′ : ℕ} (size k f : ℕ) → s ≡ s′ → n ≡ n′ → cell p s size n k f ≡ cell p s′ size n′ k f
-cell-at p size k f e g = ap₂ (λ (a b : ℕ). cell p a size b k f) e g
+-- a cell that was read, by other names of its table's start and length
+pub read-at :
+    (p : List ℕ) {s s′ n n′ : ℕ} (size k f : ℕ) {r : ℕ} → Read (cell p s size n k f) 256 r → s ≡ s′ → n ≡ n′
+    → Read (cell p s′ size n′ k f) 256 r
+read-at p size k f c e g =
+    record { is = c .is ∙ ap₂ (λ (a b : ℕ). cell p a size b k f) e g; small = c .small }

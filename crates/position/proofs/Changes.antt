@@ -152,6 +152,9 @@ unfolding makes
 front-makes {p} s [] = front-refl p
 front-makes s (x ∷ xs) = let f = front-make s x in front-trans f (front-makes (shaped-kept f s) xs)
 
+pub laid-makes : {p q : List ℕ} {v : View} (xs : List Change) → Laid p v → q ≡ makes p xs → Laid q v
+laid-makes xs l e = rw e (laid-kept (front-makes (l .shaped) xs) l)
+
 pub board-makes : {p : List ℕ} → Shaped p → (xs : List Change) → board (makes p xs) ≡ changes (board p) xs
 unfolding makes changes
 board-makes s [] = refl

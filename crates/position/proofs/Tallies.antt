@@ -7,7 +7,7 @@ use native.Mathlib.Omega.{arith}
 use native.Mathlib.Numerals.{add-one}
 use native.Mathlib.Decide.{ℕ-discrete}
 use lib.Dec.{eqb}
-use borrow.Author.Tests.{eq-eqb, ne-eqb}
+use borrow.Author.Tests.{eq-eqb, ne-eqb, eqb-true}
 use Rattle.position.specs.Tally.{tally, any}
 
 -- a number below n that passes
@@ -90,6 +90,15 @@ module _ (t : ℕ → Bool) where
       let h = tally-most n in
       either (t n) (λ e. omega (arith, hit t n e)) (λ e. omega (arith, miss t n e))
 
+  -- more numbers count no less
+  pub tally-grows : (m n : ℕ) → m ≤ n → tally t m ≤ tally t n
+  tally-grows m zero l = omega (arith, ap (tally t) {x = m} {y = 0} (omega arith))
+  tally-grows m (suc n) l =
+      same-or m (suc n) (λ e. omega (arith, ap (tally t) e))
+      (λ h.
+      let g = tally-grows m n (omega arith) in
+      either (t n) (λ e. omega (arith, hit t n e)) (λ e. omega (arith, miss t n e)))
+
   -- where some pass, there is one; where none passes, each fails
   pub tally-some : (n : ℕ) → 1 ≤ tally t n → Some t n
   tally-some zero l = absurd (omega (arith, tally-zero))
@@ -156,6 +165,10 @@ module _ (f : ℕ → ℕ) (x k : ℕ) where
   pub equals-no : (f k ≡ x → ⊥) → equals f x k ≡ false
   unfolding equals
   equals-no e = ne-eqb (f k) x e
+
+  pub equals-is : equals f x k ≡ true → f k ≡ x
+  unfolding equals
+  equals-is e = eqb-true (f k) x e
 
 -- the same test, that number u fails
 unfoldable pub but : (ℕ → Bool) → ℕ → ℕ → Bool

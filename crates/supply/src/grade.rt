@@ -6,17 +6,10 @@ ghost use Rattle.position.specs.Laid.{Laid, Read};
 ghost use Rattle.field.specs.Scene.{scene};
 ghost use Rattle.supply.specs.Open.{homeSource, coastal, landing};
 ghost use Rattle.supply.specs.Paint.{Shows, Grades, openBy, landedBy, sourceBy, gradeBy};
+use crate::paint;
 use position::View;
 use position::bits;
 use position::read;
-
-const ZONE: usize = 1;
-
-const ENEMY: usize = 2;
-
-const OWN: usize = 4;
-
-const DEPOT: usize = 8;
 
 // Whether hex `h`, which is painted `m`, is open.
 fn open_by(p: &[u8], v: View, h: usize, m: usize) -> bool
@@ -26,11 +19,11 @@ fn open_by(p: &[u8], v: View, h: usize, m: usize) -> bool
     if 1 < read::surface(p, v, h) {
         return false;
     }
-    if bits::has(ENEMY, m) {
+    if bits::has(paint::ENEMY, m) {
         return false;
     }
-    if bits::has(ZONE, m) {
-        return bits::has(OWN, m);
+    if bits::has(paint::ZONE, m) {
+        return bits::has(paint::OWN, m);
     }
     true
 }
@@ -77,11 +70,11 @@ fn landed_by(p: &[u8], v: View, h: usize, m: usize) -> bool
     ensures { λ r. ⌜ r ≡ landedBy (scene (board (now (p .entry)))) h m ⌝ }
 {
     if coastal(p, v, h) {
-        if bits::has(DEPOT, m) {
+        if bits::has(paint::DEPOT, m) {
             return true;
         }
     }
-    if bits::has(OWN, m) {
+    if bits::has(paint::OWN, m) {
         return landing(p, v, h);
     }
     false

@@ -18,15 +18,17 @@ use position::ground;
 use position::kind::Kind;
 use position::read;
 
-const ZONE: usize = 1;
+// The marks of a painted hex: in an Enemy zone, held by an Enemy, held by the own force, and by a supply unit of it.
+pub const ZONE: usize = 1;
 
+pub const ENEMY: usize = 2;
+
+pub const OWN: usize = 4;
+
+pub const DEPOT: usize = 8;
+
+// While zones are painted, casters stand where Enemies will.
 const CASTER: usize = 2;
-
-const ENEMY: usize = 2;
-
-const OWN: usize = 4;
-
-const DEPOT: usize = 8;
 
 const CASTERS: usize = 0;
 

@@ -5,10 +5,10 @@ use native.Mathlib.Omega.{arith}
 use borrow.Author.Needs.{needs}
 use Rattle.position.specs.Layout.{hexes}
 use Rattle.position.specs.Board.{board}
-use Rattle.position.proofs.Changes.{laid-make}
+use Rattle.position.proofs.Changes.{laid-make, laid-makes}
 use Rattle.march.specs.Clock.{nextClock}
 use Rattle.march.specs.EndPhase.{clock}
-use Rattle.march.proofs.Ends.{laid-makes, next-bytes, all-ended, all-clear}
+use Rattle.march.proofs.Ends.{next-bytes, all-ended, all-clear}
 use Rattle.march.proofs.ending.pass_on.Statement.{statement}
 use Rattle.march.proofs.ending.pass_on.Tie as tie
 

@@ -1,9 +1,9 @@
 -- `layout::column_byte` meets its contract: the view says how many columns there are.
 -- Assumes nothing.
-use mathlib.Core.Path.{refl, _∙_}
+use mathlib.Core.Path.{refl}
 use borrow.Author.Needs.{needs}
 use Rattle.position.specs.Layout.{columnByte}
-use Rattle.position.proofs.Cells.{cell-at}
+use Rattle.position.proofs.Cells.{read-at}
 use Rattle.position.proofs.layout.column_byte.Statement.{statement}
 use Rattle.position.proofs.layout.column_byte.Tie as tie
 
@@ -16,8 +16,7 @@ cell-requires c κs = search needs
 returns : tie.Need-returns
 unfolding columnByte
 returns c =
-    let v = c .before .before .pre .0 .view in
-    record { is = c .cell .ensures .is ∙ cell-at _ 8 _ _ refl (v .columns); small = c .cell .ensures .small }
+    let v = c .before .before .pre .0 .view in read-at _ 8 _ _ (c .cell .ensures) refl (v .columns)
 
 pub column-byte-spec : {M : Type 1} → statement M
 column-byte-spec = tie.close (tie.spec add-cell cell-requires returns)

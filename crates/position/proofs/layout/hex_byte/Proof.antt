@@ -1,9 +1,8 @@
 -- `layout::hex_byte` meets its contract: the view says where the hexes begin and how many there are.
 -- Assumes nothing.
-use mathlib.Core.Path.{_∙_}
 use borrow.Author.Needs.{needs}
 use Rattle.position.specs.Layout.{hexByte}
-use Rattle.position.proofs.Cells.{cell-at}
+use Rattle.position.proofs.Cells.{read-at}
 use Rattle.position.proofs.layout.hex_byte.Statement.{statement}
 use Rattle.position.proofs.layout.hex_byte.Tie as tie
 
@@ -13,8 +12,7 @@ cell-requires c κs = search needs
 returns : tie.Need-returns
 unfolding hexByte
 returns c =
-    let v = c .before .before .pre .0 .view in
-    record { is = c .cell .ensures .is ∙ cell-at _ 5 _ _ (v .tiles) (v .hexes); small = c .cell .ensures .small }
+    let v = c .before .before .pre .0 .view in read-at _ 5 _ _ (c .cell .ensures) (v .tiles) (v .hexes)
 
 pub hex-byte-spec : {M : Type 1} → statement M
 hex-byte-spec = tie.close (tie.spec cell-requires returns)
