@@ -36,10 +36,6 @@ results? r =
     (both (below (column? r) (r .columns))
     (below (λ c. given (decLt (c + 1) (r .columns)) (rising? r c)) (r .columns)))
 
-unfoldable pub edge? : (m : Map) (h d : ℕ) → Dec (EdgeOk m h d)
-edge? m h d =
-    iff (λ x. record { plain = x }) (λ s. s .plain) (given (off? (beside m h d)) (ℕ-discrete (stored m h d) 0))
-
 unfoldable pub hex? : (m : Map) (h : ℕ) → Dec (HexOk m h)
 hex? m h =
     iff
@@ -49,17 +45,19 @@ hex? m h =
       surface = x .1 .0;
       flags = x .1 .1 .0;
       country = x .1 .1 .1 .0;
-      sides = x .1 .1 .1 .1 .0;
-      edges = x .1 .1 .1 .1 .1;
+      sides = x .1 .1 .1 .1;
     })
-    (λ s. (s .terrain, (s .surface, (s .flags, (s .country, (s .sides, s .edges))))))
+    (λ s. (s .terrain, (s .surface, (s .flags, (s .country, s .sides)))))
     (both (decLe (m .terrain h) 15)
     (both (decLe (m .surface h) 3)
-    (both (decLe (m .flags h) 7)
-    (both (decLe (m .country h) 2)
-    (both (decLt (m .sides h) 64) (below (edge? m h) 3))))))
+    (both (decLe (m .flags h) 7) (both (decLe (m .country h) 2) (decLt (m .sides h) 64)))))
+
+unfoldable pub edge? : (m : Map) (h d : ℕ) → Dec (EdgeOk m h d)
+edge? m h d =
+    iff (λ x. record { plain = x }) (λ s. s .plain) (given (off? (beside m h d)) (ℕ-discrete (stored m h d) 0))
 
 unfoldable pub map? : (m : Map) → Dec (MapOk m)
 map? m =
-    iff (λ x. record { area = x .0; hexes = x .1 }) (λ s. (s .area, s .hexes))
-    (both (ℕ-discrete (m .hexes) (m .width * m .height)) (below (hex? m) (m .hexes)))
+    iff (λ x. record { area = x .0; hexes = x .1 .0; edges = x .1 .1 }) (λ s. (s .area, (s .hexes, s .edges)))
+    (both (ℕ-discrete (m .hexes) (m .width * m .height))
+    (both (below (hex? m) (m .hexes)) (below (λ h. below (edge? m h) 3) (m .hexes))))

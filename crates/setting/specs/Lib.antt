@@ -1,3 +1,4 @@
 pub mod Setting
+pub mod Rim
 pub mod Decide
 pub mod Decided

@@ -30,11 +30,7 @@ pub record ResultsOk (r : Results) : Type 0 where
   pub columns : (c : ℕ) → c < r .columns → ColumnOk r c
   pub rising : (c : ℕ) → c + 1 < r .columns → RisingOk r c
 
--- "off-map sides 0": a stored side that no hex lies beyond
-pub record EdgeOk (m : Map) (h d : ℕ) : Type 0 where
-  pub plain : beside m h d ≡ Off → stored m h d ≡ 0
-
--- "per hex terrain 0..15, surface (0 land, 1 coastal, 2 all-sea, 3 lake), flags (1 port + 2 urban + 4 supply),
+-- "Map: .. per hex terrain 0..15, surface (0 land, 1 coastal, 2 all-sea, 3 lake), flags (1 port + 2 urban + 4 supply),
 -- country (0 none, 1 US, 2 Canada), sides N + 4 x NE + 16 x SE"; "unnamed bits are 0"
 pub record HexOk (m : Map) (h : ℕ) : Type 0 where
   pub terrain : m .terrain h ≤ 15
@@ -42,9 +38,13 @@ pub record HexOk (m : Map) (h : ℕ) : Type 0 where
   pub flags : m .flags h ≤ 7
   pub country : m .country h ≤ 2
   pub sides : m .sides h < 64
-  pub edges : (d : ℕ) → d < 3 → EdgeOk m h d
 
--- hexes number width x height
+-- "off-map sides 0": a stored side that no hex lies beyond
+pub record EdgeOk (m : Map) (h d : ℕ) : Type 0 where
+  pub plain : beside m h d ≡ Off → stored m h d ≡ 0
+
+-- "Map: width, height; per hex" five numbers: hexes number width x height, and N, NE and SE are the directions 0, 1 and 2
 pub record MapOk (m : Map) : Type 0 where
   pub area : m .hexes ≡ m .width * m .height
   pub hexes : (h : ℕ) → h < m .hexes → HexOk m h
+  pub edges : (h : ℕ) → h < m .hexes → (d : ℕ) → d < 3 → EdgeOk m h d

@@ -1,8 +1,6 @@
 -- `map_ok::hex_ok` meets its contract: each number of the hex is read and measured.
 -- Assumes nothing.
-use native.Mathlib.Omega.{arith}
 use borrow.Author.Needs.{needs}
-use Rattle.position.proofs.Answers.{said, unsaid}
 use Rattle.setting.proofs.map_ok.hex_ok.Statement.{statement}
 use Rattle.setting.proofs.map_ok.hex_ok.Tie as tie
 
@@ -36,22 +34,8 @@ sides-requires c κs = search needs
 returns-5 : tie.Need-returns-5
 returns-5 c = search needs
 
-edges-ok-requires : tie.Need-edges-ok-requires
-edges-ok-requires c κs = search needs
-
 returns-6 : tie.Need-returns-6
-returns-6 c = λ t. unsaid (c .before .edges-ok .result) (c .if6 .taken) (c .before .edges-ok .ensures) (t .edges)
-
-returns-7 : tie.Need-returns-7
-returns-7 c =
-    record {
-      terrain = omega arith;
-      surface = omega arith;
-      flags = omega arith;
-      country = omega arith;
-      sides = omega arith;
-      edges = said (c .before .edges-ok .result) (c .if6 .left) (c .before .edges-ok .ensures);
-    }
+returns-6 c = search needs
 
 pub hex-ok-spec : {M : Type 1} → statement M
 hex-ok-spec =
@@ -67,6 +51,4 @@ hex-ok-spec =
     returns-4
     sides-requires
     returns-5
-    edges-ok-requires
-    returns-6
-    returns-7)
+    returns-6)

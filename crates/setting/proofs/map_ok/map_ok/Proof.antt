@@ -1,58 +1,32 @@
--- `map_ok::map_ok` meets its contract. The loop's invariant: every hex before h is as it should be.
+-- `map_ok::map_ok` meets its contract: both questions are asked.
 -- Assumes nothing.
-use Prim.Native.Nat.{_-_}
 use mathlib.Core.Path.{refl}
-use native.Mathlib.Omega.{arith}
 use borrow.Author.Needs.{needs}
-use Rattle.setting.specs.Setting.{HexOk}
-use Rattle.position.specs.Board.{ground}
 use Rattle.position.specs.Layout.{hexes}
-use Rattle.position.proofs.Answers.{said, unsaid, Passed, none-yet, one-more, all, not-all}
+use Rattle.position.proofs.Answers.{said, unsaid}
 use Rattle.setting.proofs.map_ok.map_ok.Statement.{statement}
 use Rattle.setting.proofs.map_ok.map_ok.Tie as tie
 
-abbrev Inv-loop : tie.InvT-loop
-Inv-loop p v n h₀ h = Passed (HexOk (ground p)) h n
+hexes-ok-requires : tie.Need-hexes-ok-requires
+hexes-ok-requires c κs = search needs
 
-abbrev μ-loop : tie.MeasureT-loop
-μ-loop p v n h₀ h = n - h
+returns : tie.Need-returns
+returns c = λ t. unsaid (c .before .hexes-ok .result) (c .if1 .taken) (c .before .hexes-ok .ensures) (t .hexes)
 
-loop-holds : tie.Need-loop-holds Inv-loop μ-loop
-loop-holds c = none-yet
+rim-ok-requires : tie.Need-rim-ok-requires
+rim-ok-requires c κs = search needs
 
-hex-ok-requires : tie.Need-hex-ok-requires Inv-loop μ-loop
-hex-ok-requires c κs = search needs
+returns-2 : tie.Need-returns-2
+returns-2 c = λ t. unsaid (c .before .rim-ok .result) (c .if2 .taken) (c .before .rim-ok .ensures) (t .edges)
 
-returns : tie.Need-returns Inv-loop μ-loop
-returns c =
-    let l = c .before .before .before in
-    λ t. not-all (l .loop .inv) (omega arith)
-    (unsaid (c .before .hex-ok .result) (c .if1 .taken) (c .before .hex-ok .ensures)) (t .hexes)
-
-add-h : tie.Need-add-h Inv-loop μ-loop
-add-h c = search needs
-
-loop-less : tie.Need-loop-less Inv-loop μ-loop
-loop-less c = search needs
-
-loop-again : tie.Need-loop-again Inv-loop μ-loop
-loop-again c =
-    let l = c .before .before .before in
-    one-more (l .loop .inv) (omega arith) (said (c .before .hex-ok .result) (c .if1 .left) (c .before .hex-ok .ensures))
-
-returns-2 : tie.Need-returns-2 Inv-loop μ-loop
-returns-2 c = record { area = unfold hexes in refl; hexes = all (c .before .loop .inv) (omega arith) }
+returns-3 : tie.Need-returns-3
+returns-3 c =
+    let q1 = c .before .before in
+    record {
+      area = unfold hexes in refl;
+      hexes = said (q1 .before .hexes-ok .result) (q1 .if1 .left) (q1 .before .hexes-ok .ensures);
+      edges = said (c .before .rim-ok .result) (c .if2 .left) (c .before .rim-ok .ensures);
+    }
 
 pub map-ok-spec : {M : Type 1} → statement M
-map-ok-spec =
-    tie.close
-    (tie.spec
-    Inv-loop
-    μ-loop
-    loop-holds
-    hex-ok-requires
-    returns
-    add-h
-    loop-less
-    loop-again
-    returns-2)
+map-ok-spec = tie.close (tie.spec hexes-ok-requires returns rim-ok-requires returns-2 returns-3)
