@@ -43,10 +43,10 @@ module _ {b : Board} {u : ℕ} (a : AloneOk b u) where
         counter = a .counter;
         duty = a .duty;
         stand =
-          record {
-            destroyed = a .ground .destroyed;
-            mapped = λ n. record { stands = a .ground .stands n; room = s u l (omega arith) (alone-hex n) .room };
-          };
+            record {
+              destroyed = a .ground .destroyed;
+              mapped = λ n. record { stands = a .ground .stands n; room = s u l (omega arith) (alone-hex n) .room };
+            };
       }
 
 module _ {b : Board} where
@@ -62,11 +62,11 @@ module _ {b : Board} where
   pair a s r u l w m =
       record {
         two =
-          λ n.
-          record {
-            apart = λ k e. n (sym (s u l (omega arith) (alone-hex (a u l) k) .one w m e));
-            roles = λ k e. n (sym (two-roles r u w l m (a u l .duty .role) k e));
-          };
+            λ n.
+            record {
+              apart = λ k e. n (sym (s u l (omega arith) (alone-hex (a u l) k) .one w m e));
+              roles = λ k e. n (sym (two-roles r u w l m (a u l .duty .role) k e));
+            };
         one = λ e. record { roles = λ p q. r .apart u l w m p q (sym e) };
       }
 

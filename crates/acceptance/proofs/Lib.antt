@@ -4,3 +4,4 @@ pub mod Carries
 pub mod Lawfuls
 pub mod Seating
 pub mod Asking
+pub mod Roles

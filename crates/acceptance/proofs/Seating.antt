@@ -87,11 +87,11 @@ module _ {b : Board} {base u : ℕ} {s : List ℕ} (g : Seated b base u s) where
       record {
         long = length-set s k x ∙ g .long;
         seat =
-          λ j m.
-          same-or j k
-          (λ q. subst (λ (i : ℕ). Seat b (u + 1) (base + i) (getD (set s k x) i 0)) (sym q)
-          (rw (getD-set-same s k x 0 (omega (arith, g .long))) y))
-          (λ n. rw (getD-set-other s k j x 0 n) (passed-by b u (base + j) (λ z. n (omega arith)) (g .seat j m)));
+            λ j m.
+            same-or j k
+            (λ q. subst (λ (i : ℕ). Seat b (u + 1) (base + i) (getD (set s k x) i 0)) (sym q)
+            (rw (getD-set-same s k x 0 (omega (arith, g .long))) y))
+            (λ n. rw (getD-set-other s k j x 0 n) (passed-by b u (base + j) (λ z. n (omega arith)) (g .seat j m)));
       }
 
 -- Unit u, of force f, stands on hex k of the block, whose byte is x.
@@ -131,9 +131,9 @@ one-emptied {i} {s} g l =
       most = omega arith;
       long = length-set s i 0 ∙ g .long;
       zero =
-        λ k m.
-        same-or k i (λ q. ap (λ (j : ℕ). getD (set s i 0) j 0) q ∙ getD-set-same s i 0 0 (omega (arith, g .long)))
-        (λ n. getD-set-other s i k 0 0 n ∙ g .zero k (omega arith));
+          λ k m.
+          same-or k i (λ q. ap (λ (j : ℕ). getD (set s i 0) j 0) q ∙ getD-set-same s i 0 0 (omega (arith, g .long)))
+          (λ n. getD-set-other s i k 0 0 n ∙ g .zero k (omega arith));
     }
 
 pub all-emptied : {i : ℕ} {s : List ℕ} → Emptied i s → block ≤ i → Empty s
@@ -169,6 +169,7 @@ all-seated {b} {base} {n} {s} g c u l low high =
   where
     h : ℕ
     h = b .units .hex u
+
     seat : Seat b n h (getD s (h - base) 0)
     seat = subst (λ (k : ℕ). Seat b n k (getD s (h - base) 0)) (omega arith) (g .seat (h - base) (omega arith))
 

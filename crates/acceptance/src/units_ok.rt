@@ -1,26 +1,15 @@
-// Whether the units keep their lines of document 01, each by itself and two by two.
-ghost use mathlib.Core.Path.{_≡_};
+// Whether the units keep their lines of document 01: each alone, then their stacks and their roles.
 ghost use Prim.Native.Nat.{ℕ, _<_};
-ghost use Rattle.position.specs.Layout.{count, hex, role};
-ghost use Rattle.position.specs.Board.{board, nowhere};
-ghost use Rattle.acceptance.specs.Accepted.{
-  StrengthsOk,
-  MappedOk,
-  DestroyedOk,
-  CounterOk,
-  DutyOk,
-  StandOk,
-  UnitOk,
-  TwoForcesOk,
-  OneForceOk,
-  PairOk,
-  UnitsOk,
-};
+ghost use Rattle.position.specs.Layout.{count};
+ghost use Rattle.position.specs.Board.{board};
 ghost use Rattle.position.specs.Laid.{Laid, Says};
+ghost use Rattle.acceptance.specs.Accepted.{StrengthsOk, DestroyedOk, CounterOk, DutyOk, UnitsOk};
+ghost use Rattle.acceptance.specs.Asked.{GroundOk, AloneOk};
+use crate::roles_ok;
+use crate::stacks_ok;
 use position::View;
 use position::bits;
 use position::crowd;
-use position::forces;
 use position::ground;
 use position::kind::Kind;
 use position::read;
@@ -39,20 +28,6 @@ pub fn strengths_ok(p: &[u8], v: View) -> bool
     true
 }
 
-fn mapped_ok(p: &[u8], v: View, u: usize) -> bool
-    requires { ⌜ Laid (now p) v ⌝ }
-    ensures { λ r. ⌜ Says r (MappedOk (board (now (p .entry))) u) ⌝ }
-{
-    let h = read::hex(p, v, u);
-    if !ground::standable(p, v, h) {
-        return false;
-    }
-    if 3 < crowd::crowd(p, v, h) {
-        return false;
-    }
-    true
-}
-
 fn destroyed_ok(p: &[u8], v: View, u: usize) -> bool
     requires { ⌜ Laid (now p) v ⌝ }
     ensures { λ r. ⌜ Says r (DestroyedOk (board (now (p .entry))) u) ⌝ }
@@ -67,14 +42,18 @@ fn destroyed_ok(p: &[u8], v: View, u: usize) -> bool
 }
 
 // On the map or in the box, whichever the unit's hex says.
-fn stand_ok(p: &[u8], v: View, u: usize) -> bool
+fn ground_ok(p: &[u8], v: View, u: usize) -> bool
     requires { ⌜ Laid (now p) v ⌝ }
-    ensures { λ r. ⌜ Says r (StandOk (board (now (p .entry))) u) ⌝ }
+    ensures { λ r. ⌜ Says r (GroundOk (board (now (p .entry))) u) ⌝ }
 {
-    if read::hex(p, v, u) == crowd::NOWHERE {
+    let h = read::hex(p, v, u);
+    if h == crowd::NOWHERE {
         return destroyed_ok(p, v, u);
     }
-    mapped_ok(p, v, u)
+    if !ground::standable(p, v, h) {
+        return false;
+    }
+    true
 }
 
 fn counter_ok(p: &[u8], v: View, u: usize) -> bool
@@ -122,9 +101,10 @@ fn duty_ok(p: &[u8], v: View, u: usize) -> bool
     true
 }
 
-fn unit_ok(p: &[u8], v: View, u: usize) -> bool
+// Unit `u`, whoever stands with it.
+fn alone_ok(p: &[u8], v: View, u: usize) -> bool
     requires { ⌜ Laid (now p) v ⌝ }
-    ensures { λ r. ⌜ Says r (UnitOk (board (now (p .entry))) u) ⌝ }
+    ensures { λ r. ⌜ Says r (AloneOk (board (now (p .entry))) u) ⌝ }
 {
     if !counter_ok(p, v, u) {
         return false;
@@ -132,7 +112,7 @@ fn unit_ok(p: &[u8], v: View, u: usize) -> bool
     if !duty_ok(p, v, u) {
         return false;
     }
-    if !stand_ok(p, v, u) {
+    if !ground_ok(p, v, u) {
         return false;
     }
     true
@@ -140,111 +120,18 @@ fn unit_ok(p: &[u8], v: View, u: usize) -> bool
 
 fn each_ok(p: &[u8], v: View) -> bool
     requires { ⌜ Laid (now p) v ⌝ }
-    ensures { λ r. ⌜ Says r ((u : ℕ) → u < count (now (p .entry)) → UnitOk (board (now (p .entry))) u) ⌝ }
+    ensures { λ r. ⌜ Says r ((u : ℕ) → u < count (now (p .entry)) → AloneOk (board (now (p .entry))) u) ⌝ }
 {
     let count = v.count;
     for u in 0..count {
-        if !unit_ok(p, v, u) {
+        if !alone_ok(p, v, u) {
             return false;
         }
     }
     true
 }
 
-fn one_force_ok(p: &[u8], v: View, u: usize, w: usize) -> bool
-    requires { ⌜ Laid (now p) v ⌝ }
-    ensures { λ r. ⌜ Says r (OneForceOk (board (now (p .entry))) u w) ⌝ }
-{
-    if read::role(p, v, u) != 1 {
-        return true;
-    }
-    if read::role(p, v, w) == 2 {
-        return false;
-    }
-    true
-}
-
-// Two units of different forces stand in different hexes.
-fn apart_ok(p: &[u8], v: View, u: usize, w: usize) -> bool
-    requires { ⌜ Laid (now p) v ⌝ }
-    ensures { λ r. ⌜ Says r ((hex (now (p .entry)) u ≡ nowhere → ⊥) → hex (now (p .entry)) w ≡ hex (now (p .entry)) u → ⊥) ⌝ }
-{
-    let h = read::hex(p, v, u);
-    if h == crowd::NOWHERE {
-        return true;
-    }
-    if read::hex(p, v, w) == h {
-        return false;
-    }
-    true
-}
-
-// Two units of different forces have different roles.
-fn roles_ok(p: &[u8], v: View, u: usize, w: usize) -> bool
-    requires { ⌜ Laid (now p) v ⌝ }
-    ensures { λ r. ⌜ Says r ((role (now (p .entry)) u ≡ 0 → ⊥) → role (now (p .entry)) w ≡ role (now (p .entry)) u → ⊥) ⌝ }
-{
-    let r = read::role(p, v, u);
-    if r == 0 {
-        return true;
-    }
-    if read::role(p, v, w) == r {
-        return false;
-    }
-    true
-}
-
-fn two_forces_ok(p: &[u8], v: View, u: usize, w: usize) -> bool
-    requires { ⌜ Laid (now p) v ⌝ }
-    ensures { λ r. ⌜ Says r (TwoForcesOk (board (now (p .entry))) u w) ⌝ }
-{
-    if !apart_ok(p, v, u, w) {
-        return false;
-    }
-    if !roles_ok(p, v, u, w) {
-        return false;
-    }
-    true
-}
-
-// Units in one hex are of one force, and so are units of one role; those of role 1 and of role 2 are not.
-fn pair_ok(p: &[u8], v: View, u: usize, w: usize) -> bool
-    requires { ⌜ Laid (now p) v ⌝ }
-    ensures { λ r. ⌜ Says r (PairOk (board (now (p .entry))) u w) ⌝ }
-{
-    if forces::force_of(p, v, u) == forces::force_of(p, v, w) {
-        return one_force_ok(p, v, u, w);
-    }
-    two_forces_ok(p, v, u, w)
-}
-
-fn mates_ok(p: &[u8], v: View, u: usize) -> bool
-    requires { ⌜ Laid (now p) v ⌝ }
-    ensures { λ r. ⌜ Says r ((w : ℕ) → w < count (now (p .entry)) → PairOk (board (now (p .entry))) u w) ⌝ }
-{
-    let count = v.count;
-    for w in 0..count {
-        if !pair_ok(p, v, u, w) {
-            return false;
-        }
-    }
-    true
-}
-
-fn pairs_ok(p: &[u8], v: View) -> bool
-    requires { ⌜ Laid (now p) v ⌝ }
-    ensures { λ r.
-        ⌜ Says r ((u : ℕ) → u < count (now (p .entry)) → (w : ℕ) → w < count (now (p .entry)) → PairOk (board (now (p .entry))) u w) ⌝ }
-{
-    let count = v.count;
-    for u in 0..count {
-        if !mates_ok(p, v, u) {
-            return false;
-        }
-    }
-    true
-}
-
+// The stacks and the roles come last: they ask of units that stand on the map, and of forces 0 to 3.
 pub fn units_ok(p: &[u8], v: View) -> bool
     requires { ⌜ Laid (now p) v ⌝ }
     ensures { λ r. ⌜ Says r (UnitsOk (board (now (p .entry)))) ⌝ }
@@ -252,7 +139,10 @@ pub fn units_ok(p: &[u8], v: View) -> bool
     if !each_ok(p, v) {
         return false;
     }
-    if !pairs_ok(p, v) {
+    if !stacks_ok::stacks_ok(p, v) {
+        return false;
+    }
+    if !roles_ok::roles_ok(p, v) {
         return false;
     }
     true

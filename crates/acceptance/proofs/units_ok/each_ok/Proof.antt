@@ -3,14 +3,14 @@
 use Prim.Native.Nat.{_-_}
 use native.Mathlib.Omega.{arith}
 use borrow.Author.Needs.{needs}
-use Rattle.acceptance.specs.Accepted.{UnitOk}
+use Rattle.acceptance.specs.Asked.{AloneOk}
 use Rattle.position.specs.Board.{board}
 use Rattle.position.proofs.Answers.{said, unsaid, Passed, none-yet, one-more, all, not-all}
 use Rattle.acceptance.proofs.units_ok.each_ok.Statement.{statement}
 use Rattle.acceptance.proofs.units_ok.each_ok.Tie as tie
 
 abbrev Inv-loop : tie.InvT-loop
-Inv-loop p v count u₀ u = Passed (UnitOk (board p)) u count
+Inv-loop p v count u₀ u = Passed (AloneOk (board p)) u count
 
 abbrev μ-loop : tie.MeasureT-loop
 μ-loop p v count u₀ u = count - u
@@ -18,13 +18,13 @@ abbrev μ-loop : tie.MeasureT-loop
 loop-holds : tie.Need-loop-holds Inv-loop μ-loop
 loop-holds c = none-yet
 
-unit-ok-requires : tie.Need-unit-ok-requires Inv-loop μ-loop
-unit-ok-requires c κs = search needs
+alone-ok-requires : tie.Need-alone-ok-requires Inv-loop μ-loop
+alone-ok-requires c κs = search needs
 
 returns : tie.Need-returns Inv-loop μ-loop
 returns c =
     let l = c .before .before .before in
-    not-all (l .loop .inv) (omega arith) (unsaid (c .before .unit-ok .result) (c .if1 .taken) (c .before .unit-ok .ensures))
+    not-all (l .loop .inv) (omega arith) (unsaid (c .before .alone-ok .result) (c .if1 .taken) (c .before .alone-ok .ensures))
 
 add-u : tie.Need-add-u Inv-loop μ-loop
 add-u c = search needs
@@ -35,7 +35,7 @@ loop-less c = search needs
 loop-again : tie.Need-loop-again Inv-loop μ-loop
 loop-again c =
     let l = c .before .before .before in
-    one-more (l .loop .inv) (omega arith) (said (c .before .unit-ok .result) (c .if1 .left) (c .before .unit-ok .ensures))
+    one-more (l .loop .inv) (omega arith) (said (c .before .alone-ok .result) (c .if1 .left) (c .before .alone-ok .ensures))
 
 returns-2 : tie.Need-returns-2 Inv-loop μ-loop
 returns-2 c = all (c .before .loop .inv) (omega arith)
@@ -47,7 +47,7 @@ each-ok-spec =
     Inv-loop
     μ-loop
     loop-holds
-    unit-ok-requires
+    alone-ok-requires
     returns
     add-u
     loop-less

@@ -1,9 +1,9 @@
--- `units_ok::unit_ok` meets its contract: all three questions are asked.
+-- `units_ok::alone_ok` meets its contract: all three questions are asked.
 -- Assumes nothing.
 use borrow.Author.Needs.{needs}
 use Rattle.position.proofs.Answers.{said, unsaid}
-use Rattle.acceptance.proofs.units_ok.unit_ok.Statement.{statement}
-use Rattle.acceptance.proofs.units_ok.unit_ok.Tie as tie
+use Rattle.acceptance.proofs.units_ok.alone_ok.Statement.{statement}
+use Rattle.acceptance.proofs.units_ok.alone_ok.Tie as tie
 
 counter-ok-requires : tie.Need-counter-ok-requires
 counter-ok-requires c κs = search needs
@@ -17,11 +17,11 @@ duty-ok-requires c κs = search needs
 returns-2 : tie.Need-returns-2
 returns-2 c = λ t. unsaid (c .before .duty-ok .result) (c .if2 .taken) (c .before .duty-ok .ensures) (t .duty)
 
-stand-ok-requires : tie.Need-stand-ok-requires
-stand-ok-requires c κs = search needs
+ground-ok-requires : tie.Need-ground-ok-requires
+ground-ok-requires c κs = search needs
 
 returns-3 : tie.Need-returns-3
-returns-3 c = λ t. unsaid (c .before .stand-ok .result) (c .if3 .taken) (c .before .stand-ok .ensures) (t .stand)
+returns-3 c = λ t. unsaid (c .before .ground-ok .result) (c .if3 .taken) (c .before .ground-ok .ensures) (t .ground)
 
 returns-4 : tie.Need-returns-4
 returns-4 c =
@@ -30,17 +30,17 @@ returns-4 c =
     record {
       counter = said (q1 .before .counter-ok .result) (q1 .if1 .left) (q1 .before .counter-ok .ensures);
       duty = said (q2 .before .duty-ok .result) (q2 .if2 .left) (q2 .before .duty-ok .ensures);
-      stand = said (c .before .stand-ok .result) (c .if3 .left) (c .before .stand-ok .ensures);
+      ground = said (c .before .ground-ok .result) (c .if3 .left) (c .before .ground-ok .ensures);
     }
 
-pub unit-ok-spec : {M : Type 1} → statement M
-unit-ok-spec =
+pub alone-ok-spec : {M : Type 1} → statement M
+alone-ok-spec =
     tie.close
     (tie.spec
     counter-ok-requires
     returns
     duty-ok-requires
     returns-2
-    stand-ok-requires
+    ground-ok-requires
     returns-3
     returns-4)
