@@ -5,3 +5,4 @@ pub mod Lawfuls
 pub mod Seating
 pub mod Asking
 pub mod Roles
+pub mod Notes

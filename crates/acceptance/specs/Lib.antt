@@ -4,5 +4,6 @@ pub mod Checked
 pub mod Asked
 pub mod Seats
 pub mod Holder
+pub mod Noted
 pub mod Alike
 pub mod Examples

@@ -3,6 +3,7 @@ ghost use mathlib.Core.Path.{_≡_};
 ghost use Rattle.position.specs.Board.{board, desk};
 ghost use Rattle.acceptance.specs.Accepted.{ClockOk, QuietOk, RetreatsOk, LossesOk, AdvancesOk, DuringOk, StageOk};
 ghost use Rattle.position.specs.Laid.{Laid, Says};
+use crate::owing;
 use position::View;
 use position::crowd;
 use position::read;
@@ -61,7 +62,7 @@ fn retreats_ok(p: &[u8], v: View) -> bool
     if !shape::within(1, read::owed(p, v), 3) {
         return false;
     }
-    let k = crowd::owing_hexes(p, v);
+    let k = owing::owing_hexes(p, v);
     if k == 0 {
         return false;
     }

@@ -10,6 +10,7 @@ use setting::chart_ok;
 use setting::map_ok;
 
 mod desk_ok;
+mod owing;
 mod roles_ok;
 mod routes_ok;
 mod stacks_ok;

@@ -1,7 +1,7 @@
 -- Laws of counting and asking over the numbers below n, for every test.
 -- Assumes nothing.
 use Prim.Native.Nat.{ℕ, zero, suc, _+_, _≤_, _<_}
-use mathlib.Core.Path.{_≡_, refl, sym, ap, _∙_}
+use mathlib.Core.Path.{_≡_, refl, sym, ap, ap₂, _∙_}
 use mathlib.Core.Bool.{Bool, true, false, not, _&&_, _||_, and-true, and-false}
 use native.Mathlib.Omega.{arith}
 use native.Mathlib.Numerals.{add-one}
@@ -75,6 +75,10 @@ module _ (t : ℕ → Bool) (n : ℕ) where
   pub any-miss : t n ≡ false → any t (n + 1) ≡ any t n
   any-miss e = ap (any t) (add-one n) ∙ past e
 
+  pub any-step : any t (n + 1) ≡ (t n || any t n)
+  unfolding any
+  any-step = rw add-one
+
 module _ (t : ℕ → Bool) where
   pub tally-zero : tally t 0 ≡ 0
   unfolding tally
@@ -90,13 +94,13 @@ module _ (t : ℕ → Bool) where
       let h = tally-most n in
       either (t n) (λ e. omega (arith, hit t n e)) (λ e. omega (arith, miss t n e))
 
-  -- more numbers count no less
+  -- counting on never counts less
   pub tally-grows : (m n : ℕ) → m ≤ n → tally t m ≤ tally t n
-  tally-grows m zero l = omega (arith, ap (tally t) {x = m} {y = 0} (omega arith))
+  tally-grows m zero l = let e : m ≡ 0 = omega arith in omega (arith, ap (tally t) e)
   tally-grows m (suc n) l =
       same-or m (suc n) (λ e. omega (arith, ap (tally t) e))
-      (λ h.
-      let g = tally-grows m n (omega arith) in
+      (λ d.
+      let h = tally-grows m n (omega arith) in
       either (t n) (λ e. omega (arith, hit t n e)) (λ e. omega (arith, miss t n e)))
 
   -- where some pass, there is one; where none passes, each fails
@@ -152,6 +156,12 @@ tally-same t s n f =
     let a = tally-le t s n (λ k l e. sym (f k l) ∙ e) in
     let b = tally-le s t n (λ k l e. f k l ∙ e) in
     omega arith
+
+-- and are passed by some or by none
+pub any-same : (t s : ℕ → Bool) (n : ℕ) → ((k : ℕ) → k < n → t k ≡ s k) → any t n ≡ any s n
+unfolding any
+any-same t s zero f = refl
+any-same t s (suc n) f = ap₂ _||_ (f n (omega arith)) (any-same t s n (λ k l. f k (omega arith)))
 
 -- the test for the numbers that f takes to x
 unfoldable pub equals : (ℕ → ℕ) → ℕ → ℕ → Bool

@@ -1,9 +1,7 @@
 // How many units: in a hex, with a role; and how many routes are filled.
 ghost use mathlib.Core.Path.{_≡_};
-ghost use Prim.Native.Nat.{_<_, _≤_};
-ghost use Rattle.position.specs.Tally.{any};
 ghost use Rattle.position.specs.Board.{board};
-ghost use Rattle.position.specs.Crowd.{crowd, others, holders, owesAt, owingHexes, filled, routes};
+ghost use Rattle.position.specs.Crowd.{crowd, others, holders, filled, routes};
 ghost use Rattle.position.specs.Laid.{Laid, Read};
 use crate::View;
 use crate::read;
@@ -52,49 +50,6 @@ pub fn holders(p: &[u8], v: View, r: usize) -> usize
     for u in 0..count {
         if read::role(p, v, u) == r {
             n += 1;
-        }
-    }
-    n
-}
-
-// Whether unit `u` owes and stands in hex `h`.
-pub fn owes_at(p: &[u8], v: View, h: usize, u: usize) -> bool
-    requires { ⌜ Laid (now p) v ⌝ }
-    ensures { λ r. ⌜ r ≡ owesAt (board (now (p .entry))) h u ⌝ }
-{
-    if read::role(p, v, u) == 1 {
-        return read::hex(p, v, u) == h;
-    }
-    false
-}
-
-// Whether a unit below `n` owes and stands in hex `h`.
-pub fn owed_below(p: &[u8], v: View, h: usize, n: usize) -> bool
-    requires { ⌜ Laid (now p) v ⌝ }
-    ensures { λ r. ⌜ r ≡ any (owesAt (board (now (p .entry))) h) n ⌝ }
-{
-    let mut u = 0;
-    while u < n {
-        if owes_at(p, v, h, u) {
-            return true;
-        }
-        u += 1;
-    }
-    false
-}
-
-// In how many hexes units stand that owe: each is counted at the lowest-numbered of them.
-pub fn owing_hexes(p: &[u8], v: View) -> usize
-    requires { ⌜ Laid (now p) v ⌝ }
-    ensures { λ r. ⌜ Read (owingHexes (board (now (p .entry)))) 401 r ⌝ }
-{
-    let count = v.count;
-    let mut n = 0;
-    for u in 0..count {
-        if read::role(p, v, u) == 1 {
-            if !owed_below(p, v, read::hex(p, v, u), u) {
-                n += 1;
-            }
         }
     }
     n

@@ -18,12 +18,13 @@ use Rattle.position.specs.Board.{Map, ground}
 use Rattle.position.specs.Layout.{width, height, hexes}
 use Rattle.position.specs.Ground.{beside, side}
 use Rattle.position.proofs.Shapes.{hexes-is}
+use Rattle.position.proofs.Tallies.{any-step, any-same}
 use Rattle.field.specs.Scene.{Scene}
 use Rattle.field.specs.Zone.{holdsCaster, casterAt, castsOver, casts, enemyCasts, enemyZone}
 use Rattle.walk.specs.Chain.{mark}
 use Rattle.supply.specs.Paint.{Painted, Below, Lifted, pickedSome, casterThere, casterOver, covered}
 use Rattle.supply.proofs.Paints.{has-false, has-2-with-1, stamp-2, painted-keeps, painted-shows, Pass, inked, inked-painted}
-use Rattle.supply.proofs.Picking.{any-same, any-step, picks-casters}
+use Rattle.supply.proofs.Picking.{picks-casters}
 
 -- a neighbour's number is one of the map's
 pub beside-inside : (p : List ℕ) (h d n : ℕ) → beside (ground p) h d ≡ At n → n < hexes p

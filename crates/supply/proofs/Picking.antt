@@ -1,30 +1,19 @@
 -- Whom the passes over the units pick: the units that zones, open hexes and sources ask for.
 -- Assumes nothing.
 use Prim.Native.Nat.{ℕ, zero, suc, _+_, _<_}
-use mathlib.Core.Path.{_≡_, refl, sym, ap, ap₂, _∙_}
+use mathlib.Core.Path.{_≡_, refl, sym, ap, _∙_}
 use mathlib.Core.Bool.{Bool, true, false, _||_, and-false, and-assoc}
 use native.Mathlib.Omega.{arith}
-use native.Mathlib.Numerals.{add-one}
 use lib.Dec.{eqb}
 use borrow.Author.Tests.{eq-eqb, ne-eqb}
 use Rattle.position.specs.Tally.{any}
 use Rattle.position.specs.Kind.{castsZone}
 use Rattle.position.specs.Board.{Board, forceOf}
+use Rattle.position.proofs.Tallies.{any-step, any-same}
 use Rattle.field.specs.Scene.{Scene, scene, forceIn}
 use Rattle.field.specs.Zone.{standsOn, ownOn, holds, enemyOn, holdsEnemy, casterOn, holdsCaster}
 use Rattle.supply.specs.Open.{supplyUnitOn}
 use Rattle.supply.specs.Paint.{picks, pickedOn, pickedAt, pickedSome}
-
--- tests that agree are passed by some or by none
-pub any-same : (t u : ℕ → Bool) (n : ℕ) → ((k : ℕ) → k < n → t k ≡ u k) → any t n ≡ any u n
-unfolding any
-any-same t u zero f = refl
-any-same t u (suc n) f = ap₂ _||_ (f n (omega arith)) (any-same t u n (λ k l. f k (omega arith)))
-
--- one number more
-pub any-step : (t : ℕ → Bool) (n : ℕ) → any t (n + 1) ≡ (t n || any t n)
-unfolding any
-any-step t n = rw add-one
 
 -- the hexes that hold a unit below n which is picked
 unfoldable pub pickedBelow : Scene → ℕ → ℕ → ℕ → ℕ → Bool

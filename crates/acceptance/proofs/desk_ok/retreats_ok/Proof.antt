@@ -4,6 +4,7 @@ use mathlib.Core.Path.{sym}
 use native.Mathlib.Omega.{arith}
 use borrow.Author.Needs.{needs}
 use Rattle.position.proofs.Answers.{said, unsaid, carry}
+use Rattle.acceptance.proofs.Notes.{seven-most}
 use Rattle.acceptance.proofs.desk_ok.retreats_ok.Statement.{statement}
 use Rattle.acceptance.proofs.desk_ok.retreats_ok.Tie as tie
 
@@ -22,7 +23,7 @@ owing-hexes-requires : tie.Need-owing-hexes-requires
 owing-hexes-requires c κs = search needs
 
 returns-2 : tie.Need-returns-2
-returns-2 c = search needs
+returns-2 c = λ t. omega (arith, c .before .owing-hexes .ensures .exact (omega arith))
 
 routes-requires : tie.Need-routes-requires
 routes-requires c κs = search needs
@@ -31,11 +32,12 @@ add-if3 : tie.Need-add-if3
 add-if3 c = search needs
 
 returns-3 : tie.Need-returns-3
-returns-3 c = search needs
+returns-3 c = λ t. omega (arith, seven-most (c .before .before .before .owing-hexes .ensures))
 
 returns-4 : tie.Need-returns-4
 returns-4 c =
     let q1 = c .before .before .before .before in
+    let k = c .before .before .before .owing-hexes .ensures .exact (omega arith) in
     record {
       owed = carry (q1 .before .before .owed .ensures .is)
           (said (q1 .before .within .result) (q1 .if1 .left) (q1 .before .within .ensures));
