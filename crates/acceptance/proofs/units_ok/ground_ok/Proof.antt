@@ -1,3 +1,5 @@
+-- `units_ok::ground_ok` meets its contract: the hex says which of the two answers it is.
+-- Assumes nothing.
 use mathlib.Core.Path.{_≡_, ap, _∙_}
 use native.Mathlib.Omega.{arith}
 use borrow.Author.Needs.{needs}
@@ -6,11 +8,6 @@ use Rattle.position.specs.Ground.{standable}
 use Rattle.position.proofs.Answers.{told, holds, fails}
 use Rattle.acceptance.proofs.units_ok.ground_ok.Statement.{statement}
 use Rattle.acceptance.proofs.units_ok.ground_ok.Tie as tie
-use Rattle.acceptance.proofs.units_ok.ground_ok.Reads as reads
-use Rattle.acceptance.proofs.units_ok.ground_ok.Lts as lts
-use Rattle.acceptance.proofs.units_ok.destroyed_ok.Reads as destroyed-ok-reads
-use Rattle.position.proofs.ground.standable.Reads as standable-reads
-use Rattle.position.proofs.read.hex.Reads as hex-reads
 
 stands : (c : tie.After-standable) →
     let b = board (c .before .before .before .before .args .p .now) in
@@ -19,15 +16,12 @@ stands c =
     let s = c .before .before .before .before in
     c .standable .ensures ∙ ap (standable (board (s .args .p .now))) (c .before .before .hex .ensures .is)
 
--- src/units_ok.rt:49:9
 hex-requires : tie.Need-hex-requires
 hex-requires c κs = search needs
 
--- src/units_ok.rt:51:9
 destroyed-ok-requires : tie.Need-destroyed-ok-requires
 destroyed-ok-requires c κs = search needs
 
--- src/units_ok.rt:51:9
 returns : tie.Need-returns
 returns c =
     told (c .destroyed-ok .result)
@@ -35,15 +29,12 @@ returns c =
     (λ s. s .destroyed (omega (arith, c .before .before .hex .ensures .is)))
     (c .destroyed-ok .ensures)
 
--- src/units_ok.rt:53:9
 standable-requires : tie.Need-standable-requires
 standable-requires c κs = search needs
 
--- src/units_ok.rt:54:9
 returns-2 : tie.Need-returns-2
 returns-2 c = λ t. fails (stands (c .before)) (c .if2 .taken) (t .stands (λ e. omega (arith, c .before .before .before .hex .ensures .is)))
 
--- src/units_ok.rt:45:1
 returns-3 : tie.Need-returns-3
 returns-3 c =
     record {
