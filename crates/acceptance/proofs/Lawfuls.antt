@@ -12,7 +12,7 @@ use Rattle.position.specs.Board.{Board, nowhere, forceOf}
 use Rattle.position.specs.Ground.{standable}
 use Rattle.position.specs.Crowd.{crowd, others}
 use Rattle.position.specs.Shape.{In}
-use Rattle.acceptance.specs.Accepted.{StandOk, UnitOk, PairOk, ClockOk, RetreatsOk, Lawful}
+use Rattle.acceptance.specs.Accepted.{StandOk, UnitOk, PairOk, UnitsOk, ClockOk, RetreatsOk, Lawful}
 use Rattle.position.specs.Change.Change.{placed, marked, timed}
 use Rattle.position.specs.Effect.{withHex, withUnits, change}
 use Rattle.position.proofs.Tallies.{same-or, not-both, equals, but, but-self, but-other, tally-same}
@@ -231,6 +231,17 @@ module _ {b : Board} (u h : ℕ) (n : u < b .units .count) (r : Room b u h) wher
   pub placed-hex : change b (placed u h) .units .hex u ≡ h
   placed-hex = rw (placed-is b u h (r .stands)) (there u refl)
 
+-- the lines on units, with unit u on hex h
+units-moved : {b : Board} → UnitsOk b → (u h : ℕ) → u < b .units .count → Room b u h → UnitsOk (moved b u h)
+units-moved o u h n r =
+    record {
+      each = λ w m. unit-moved u h n r w (o .each w m);
+      pairs = λ v m w k. pair-moved u h n r v w m k (o .pairs v m w k);
+    }
+
+pub units-placed : {b : Board} → UnitsOk b → (u h : ℕ) → u < b .units .count → Room b u h → UnitsOk (change b (placed u h))
+units-placed {b} o u h n r = rw (placed-is b u h (r .stands)) (units-moved o u h n r)
+
 -- role 1 units may stand in other hexes then, so what the stage of retreats asks is a condition
 pub lawful-placed :
     {b : Board} → Lawful b → (u h : ℕ) → u < b .units .count → Room b u h
@@ -239,12 +250,6 @@ lawful-placed {b} l u h n r retreats =
     let e = placed-is b u h (r .stands) in
     let f = fixed b u h in
     rw e
-    (lawful-by f
-    (record {
-      each = λ w m. unit-moved u h n r w (l .units .each w m);
-      pairs = λ v m w k. pair-moved u h n r v w m k (l .units .pairs v m w k);
-    })
-    (l .clock)
-    (stage-by f refl refl refl refl refl (rw e at retreats) (l .stage))
+    (lawful-by f (units-moved (l .units) u h n r) (l .clock) (stage-by f refl refl refl refl refl (rw e at retreats) (l .stage))
     (routes-ok-by f refl (l .routes))
     l)

@@ -6,3 +6,10 @@ pub mod Seating
 pub mod Asking
 pub mod Roles
 pub mod Notes
+pub mod Counts
+pub mod Owings
+pub mod Stills
+pub mod Fates
+pub mod Routings
+pub mod Stages
+pub mod Since

@@ -1,2 +1,5 @@
 pub mod Zones
 pub mod Scenes
+pub mod Bearings
+pub mod Lists
+pub mod Named

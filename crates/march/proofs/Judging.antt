@@ -4,29 +4,20 @@ use Prim.Native.Nat.{ℕ, _+_, _≤_, _<_}
 use mathlib.Core.Path.{_≡_, sym, subst}
 use mathlib.Core.Bool.{true, false}
 use mathlib.Core.List.{List}
-use native.Mathlib.Omega.{arith}
-use lib.ListN.{length, getD, drop, drop-of-length-le}
-use borrow.Author.Tests.{le-leb, lt-leb, lt-ltb, le-ltb}
-use Rattle.position.specs.Board.{Board, board, forceOf}
-use Rattle.ruling.specs.Verdict.{Verdict, Ruling, Met, along}
+use lib.ListN.{length, getD}
+use borrow.Author.Tests.{lt-ltb, le-ltb}
+use Rattle.position.specs.Board.{Board, forceOf}
+use Rattle.ruling.specs.Verdict.{Verdict, Ruling, Met}
 use Rattle.ruling.specs.Verdict.Ruling.{refused}
-use Rattle.ruling.proofs.Meets.{pass, stop, along-at}
+use Rattle.ruling.specs.Judged.{Passes, Stops}
+use Rattle.ruling.proofs.Meets.{pass, stop}
+use Rattle.ruling.proofs.Going.{Gone, gone-more}
 use Rattle.field.specs.Scene.{scene}
 use Rattle.field.specs.Zone.{holdsEnemy}
-use Rattle.march.specs.Move.{Leg, leg, offMap, afterStep, allowed, leavesZone, noStep, step}
-use Rattle.march.specs.Judged.{Passes, Stops, Onward, PathOf}
+use Rattle.march.specs.Move.{Leg, leg, afterStep, allowed, leavesZone, noStep, step}
+use Rattle.march.specs.Judged.{Onward, PathOf}
 use Rattle.march.specs.declared.Path.{Path}
 use Rattle.march.specs.declared.Path.the-variants as P
-
--- a hex of the map, and one that is not
-module _ (p : List ℕ) (b : Board) (s x k : ℕ) where
-  pub on-map : x < b .map .hexes → Passes p (offMap b s x k)
-  unfolding offMap
-  on-map m l v a q r g = pass (lt-leb (b .map .hexes) x m) g
-
-  pub off-map : b .map .hexes ≤ x → Stops p (offMap b s x k) 3 k
-  unfolding offMap
-  off-map m l v = stop (le-leb (b .map .hexes) x m)
 
 -- the tests of a step, in their order
 module _ (p : List ℕ) (b : Board) (u : ℕ) (l : Leg) (x k : ℕ) where
@@ -58,40 +49,6 @@ module _ (p : List ℕ) (b : Board) (u : ℕ) (l : Leg) (x k : ℕ) where
   unfolding step
   passes-step e f g h m v a q r w = pass e (pass f (pass g (pass (le-ltb (allowed b u) (afterStep b l x .spent) h) w)))
 
--- The tests along a path are passed up to place i, where they have come to s: what meets the tests from there on meets them all.
-pub record Gone {S : Type 0} (p : List ℕ) (test : S → ℕ → ℕ → Verdict → Verdict) (next : S → ℕ → S) (first : S) (path : List ℕ) (i : ℕ) (s : S) : Type 0 where
-  pub most : i ≤ length path
-  pub ahead :
-      (l : List ℕ) (v : S → Verdict) (a : Ruling) (q m : List ℕ)
-      → Met p l (along test next s (drop i path) (i + 1) v) a q m
-      → Met p l (along test next first path 1 v) a q m
-
-module _ {S : Type 0} {p : List ℕ} {test : S → ℕ → ℕ → Verdict → Verdict} {next : S → ℕ → S} {first : S} {path : List ℕ} where
-  pub gone-none : Gone p test next first path 0 first
-  gone-none = record { most = omega arith; ahead = λ l v a q m g. g }
-
-  module _ {i : ℕ} {s : S} (o : Gone p test next first path i s) where
-    -- past the next element, at a refusal there, and at the end
-    pub gone-more :
-        i < length path → Passes p (test s (getD path i 0) (i + 1))
-        → Gone p test next first path (i + 1) (next s (getD path i 0))
-    gone-more b t =
-        record {
-          most = omega arith;
-          ahead = λ l v a q m g. o .ahead l v a q m (rw (along-at test next s path i (i + 1) v b) (t l _ a q m g));
-        }
-
-    pub gone-stop :
-        {n k : ℕ} → i < length path → Stops p (test s (getD path i 0) (i + 1)) n k
-        → Stops p (along test next first path 1) n k
-    gone-stop {n} {k} b t l v = o .ahead l v (refused n k) p l (rw (along-at test next s path i (i + 1) v b) (t l _))
-
-    pub gone-end :
-        length path ≤ i → (l : List ℕ) (v : S → Verdict) (a : Ruling) (q m : List ℕ) → Met p l (v s) a q m
-        → Met p l (along test next first path 1 v) a q m
-    unfolding along
-    gone-end b l v a q m g = o .ahead l v a q m (rw (drop-of-length-le path {i = i} b) g)
-
 -- past a step, to where it leads and what it comes to
 pub gone-step :
     (b : Board) (u : ℕ) {p path : List ℕ} {i at spent total : ℕ} {first : Leg}
@@ -110,7 +67,3 @@ pub path-through :
     → (r : Path) → PathOf p f r → PathOf p g r
 path-through t (P.To h) o = record { leg = o .leg; at = o .at; passes = λ l v a q m w. t l v a q m (o .passes l v a q m w) }
 path-through {p} t (P.Stop n k) o = λ l v. t l v (refused n k) p l (o l v)
-
--- refusal 3 along the path, passed up to place i
-pub record OnMap (p path : List ℕ) (i : ℕ) : Type 0 where
-  pub gone : Gone p (offMap (board p)) (λ s x. s) 0 path i 0

@@ -19,14 +19,14 @@ use Rattle.position.proofs.Shapes.{hexes-most}
 use Rattle.position.proofs.Tallies.{same-or, any-false, both-yes, neither}
 use Rattle.ruling.specs.Verdict.{Verdict, outcome}
 use Rattle.field.specs.Scene.{scene}
+use Rattle.field.specs.Phasing.{notPhasing}
+use Rattle.field.specs.Listed.{offMap, onMapAll}
 use Rattle.field.specs.Zone.{enemyOn, holdsEnemy}
 use Rattle.field.proofs.Zones.{force-in, enemy-here}
 use Rattle.march.specs.Move.{
   pathLength,
   mayMoveNow,
-  notPhasing,
   forbidden,
-  offMap,
   Leg,
   leg,
   afterStep,
@@ -34,7 +34,6 @@ use Rattle.march.specs.Move.{
   leavesZone,
   noStep,
   step,
-  onMapAll,
   steps,
   moveChecks,
   moveChanges,

@@ -2,7 +2,7 @@
 -- Assumes nothing.
 use Prim.Native.Nat.{ℕ, _≤_, _<_}
 use mathlib.Core.Path.{_≡_, ap₂, _∙_}
-use mathlib.Core.Bool.{true, false, not, and-false}
+use mathlib.Core.Bool.{true, false, and-false}
 use mathlib.Core.List.{List}
 use native.Mathlib.Omega.{arith}
 use lib.ListN.{length}
@@ -11,10 +11,10 @@ use borrow.Author.Tests.{le-leb, lt-leb, eq-eqb, ne-eqb}
 use Rattle.position.specs.Bits.{has, with, moved}
 use Rattle.position.specs.Kind.{movesByLand, movesInPhase2}
 use Rattle.position.specs.Layout.{marks}
-use Rattle.position.specs.Board.{Board, board, nowhere, forceOf}
+use Rattle.position.specs.Board.{Board, board}
 use Rattle.position.specs.Change.{make, makes}
 use Rattle.position.specs.Change.Change.{placed, marked}
-use Rattle.march.specs.Move.{pathLength, mayMoveNow, notPhasing, movesIn, forbidden, moveChanges}
+use Rattle.march.specs.Move.{pathLength, mayMoveNow, movesIn, forbidden, moveChanges}
 
 module _ (path : List ℕ) where
   pub path-short : length path < 1 → pathLength path ≡ false
@@ -44,15 +44,6 @@ module _ (b : Board) where
   may-later e f = simp (eq-eqb (b .desk .stage) 0 e, ne-eqb (b .desk .phase) 0 f)
 
 module _ (b : Board) (u : ℕ) where
-  -- a destroyed unit, and one on the map
-  pub phasing-destroyed : b .units .hex u ≡ nowhere → notPhasing b u ≡ true
-  unfolding notPhasing
-  phasing-destroyed e = simp (eq-eqb (b .units .hex u) nowhere e)
-
-  pub phasing-mapped : (b .units .hex u ≡ nowhere → ⊥) → notPhasing b u ≡ not (eqb (forceOf b u) (b .desk .force))
-  unfolding notPhasing
-  phasing-mapped e = simp (ne-eqb (b .units .hex u) nowhere e)
-
   -- the type forbids it, or the mark is asked
   pub forbidden-type : movesIn (b .desk .phase) (b .units .kind u) ≡ false → forbidden b u ≡ true
   unfolding forbidden

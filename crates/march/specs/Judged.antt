@@ -4,20 +4,12 @@ use Prim.Native.Nat.{ℕ, _<_}
 use mathlib.Core.Path.{_≡_}
 use mathlib.Core.List.{List}
 use Rattle.ruling.specs.Verdict.{Verdict, Ruling, Met}
-use Rattle.ruling.specs.Verdict.Ruling.{refused}
+use Rattle.ruling.specs.Judged.{Passes, Stops}
 use Rattle.march.specs.Move.{Leg}
 use Rattle.march.specs.declared.Way.{Way}
 use Rattle.march.specs.declared.Way.the-variants as W
 use Rattle.march.specs.declared.Path.{Path}
 use Rattle.march.specs.declared.Path.the-variants as P
-
--- the tests f are passed: whatever meets what follows meets them and what follows
-abbrev pub Passes : List ℕ → (Verdict → Verdict) → Type 0
-Passes p f = (l : List ℕ) (v : Verdict) (a : Ruling) (q m : List ℕ) → Met p l v a q m → Met p l (f v) a q m
-
--- the tests f refuse with number n and place k, whatever follows
-abbrev pub Stops : {A : Type 0} → List ℕ → (A → Verdict) → ℕ → ℕ → Type 0
-Stops {A} p f n k = (l : List ℕ) (v : A) → Met p l (f v) (refused n k) p l
 
 -- On(spent) is what the move has spent after the tests, never more than an allowance can be; a test without cost hands on what it was given
 pub record Onward (p : List ℕ) (f : Verdict → Verdict) (want spent : ℕ) : Type 0 where

@@ -1,4 +1,3 @@
-pub mod Working
 pub mod Step
 pub mod Move
 pub mod Answers

@@ -7,7 +7,7 @@ use lib.ListN.{length}
 use lib.Dec.{leb, ltb, eqb}
 use Rattle.position.specs.Bits.{has, with, supplied, moved}
 use Rattle.position.specs.Kind.{movesByLand, movesInPhase2}
-use Rattle.position.specs.Board.{Board, board, nowhere, forceOf}
+use Rattle.position.specs.Board.{Board, board, forceOf}
 use Rattle.position.specs.Ground.{joined, standable}
 use Rattle.position.specs.Crowd.{others}
 use Rattle.acceptance.specs.Broken.{broken}
@@ -18,7 +18,9 @@ use Rattle.ruling.specs.Verdict.Judge.{rule}
 use Rattle.ruling.specs.Verdict.Verdict.{refuseIf, judge}
 use Rattle.field.specs.Scene.{scene}
 use Rattle.field.specs.Zone.{holdsEnemy, enemyZone}
-use Rattle.march.specs.Working.{working}
+use Rattle.field.specs.Working.{working}
+use Rattle.field.specs.Phasing.{notPhasing}
+use Rattle.field.specs.Listed.{onMapAll}
 use Rattle.march.specs.Step.{stepCost}
 
 -- "path 1..30"
@@ -29,10 +31,6 @@ pathLength path = leb 1 (length path) && leb (length path) 30
 unfoldable pub mayMoveNow : Board → Bool
 mayMoveNow b = eqb (b .desk .stage) 0 && (eqb (b .desk .phase) 0 || eqb (b .desk .phase) 2)
 
--- "unit destroyed or not of the phasing force"
-unfoldable pub notPhasing : Board → ℕ → Bool
-notPhasing b u = eqb (b .units .hex u) nowhere || not (eqb (forceOf b u) (b .desk .force))
-
 -- whether the type moves in the phase: "may move by land (all but 5)", "moves in phase 2 (0, 1)"
 unfoldable pub movesIn : ℕ → ℕ → Bool
 movesIn phase kind = movesByLand kind && (not (eqb phase 2) || movesInPhase2 kind)
@@ -40,10 +38,6 @@ movesIn phase kind = movesByLand kind && (not (eqb phase 2) || movesInPhase2 kin
 -- "type or mark forbids it: moved for a move"
 unfoldable pub forbidden : Board → ℕ → Bool
 forbidden b u = not (movesIn (b .desk .phase) (b .units .kind u)) || has moved (b .units .marks u)
-
--- "a hex not below width x height"
-unfoldable pub offMap : Board → ℕ → ℕ → ℕ → Verdict → Verdict
-offMap b s x k rest = refuseIf (leb (b .map .hexes) x) 3 k rest
 
 -- where a move has come to: the hex, and what it has spent
 pub record Leg : Type 0 where
@@ -75,10 +69,7 @@ step b u l x k rest =
     (refuseIf (holdsEnemy (scene b) (forceOf b u) x) 8 k
     (refuseIf (ltb (allowed b u) (afterStep b l x .spent)) 10 k rest)))
 
--- refusal 3 along the path, and the questions of every step
-unfoldable pub onMapAll : Board → List ℕ → Verdict → Verdict
-onMapAll b path rest = along (offMap b) (λ s x. s) 0 path 1 (λ s. rest)
-
+-- the questions of every step
 unfoldable pub steps : Board → ℕ → List ℕ → (Leg → Verdict) → Verdict
 steps b u path rest = along (step b u) (afterStep b) (leg (b .units .hex u) 0) path 1 rest
 

@@ -6,21 +6,23 @@ ghost use lib.ListN.{length};
 ghost use Rattle.position.specs.Board.{board};
 ghost use Rattle.position.specs.Laid.{Laid};
 ghost use Rattle.ruling.specs.Verdict.{Met};
-ghost use Rattle.march.specs.Move.{mayMoveNow, notPhasing, movesIn, forbidden, onMapAll, steps, moveChecks, arrival, moveVerdict};
-ghost use Rattle.march.specs.Judged.{WayOf, PathOf};
+ghost use Rattle.march.specs.Move.{mayMoveNow, movesIn, forbidden, steps, moveChecks, arrival, moveVerdict};
+ghost use Rattle.march.specs.Judged.{PathOf};
 ghost use Rattle.march.specs.Answers.{movedAs};
 use crate::Moved;
 use crate::Path;
 use crate::Way;
 use crate::stepping;
+use field::listed;
+use field::unit;
 use position::Checked;
 use position::View;
 use position::bits;
 use position::crowd;
-use position::forces;
 use position::kind::Kind;
 use position::read;
 use position::write;
+use ruling::Tested;
 
 // Whether a move may be made in this stage and phase.
 fn may_move_now(p: &[u8], v: View) -> bool
@@ -35,17 +37,6 @@ fn may_move_now(p: &[u8], v: View) -> bool
         return true;
     }
     phase == 2
-}
-
-// Whether unit `u` is destroyed or not of the phasing force.
-pub fn not_phasing(p: &[u8], v: View, u: usize) -> bool
-    requires { ⌜ Laid (now p) v ⌝ }
-    ensures { λ r. ⌜ r ≡ notPhasing (board (now (p .entry))) u ⌝ }
-{
-    if read::hex(p, v, u) == crowd::NOWHERE {
-        return true;
-    }
-    forces::force_of(p, v, u) != read::phasing(p, v)
 }
 
 // Whether a type moves in a phase.
@@ -70,20 +61,6 @@ fn forbidden(p: &[u8], v: View, u: usize) -> bool
         return true;
     }
     bits::has(bits::MOVED, read::marks(p, v, u))
-}
-
-// Refusal 3 along the path: every number is a hex of the map.
-fn on_map_all(p: &[u8], v: View, path: &[u16]) -> Way
-    requires { ⌜ Laid (now p) v × (length (now path) < 31) ⌝ }
-    ensures { λ r. ⌜ WayOf (now (p .entry)) (onMapAll (board (now (p .entry))) (now (path .entry))) 0 r ⌝ }
-{
-    let hexes = v.hexes;
-    for i in 0..path.len() {
-        if hexes <= path[i] as usize {
-            return Way::Stop(3, i + 1);
-        }
-    }
-    Way::On(0)
 }
 
 // The questions of every step, along the path.
@@ -120,13 +97,13 @@ pub fn judge_move(p: &[u8], v: View, u: usize, path: &[u16]) -> Path
     if count <= u {
         return Path::Stop(3, 0);
     }
-    if let Way::Stop(n, k) = on_map_all(p, v, path) {
+    if let Tested::Stopped(n, k) = listed::on_map_all(p, v, path) {
         return Path::Stop(n, k);
     }
     if !may_move_now(p, v) {
         return Path::Stop(2, 0);
     }
-    if not_phasing(p, v, u) {
+    if unit::not_phasing(p, v, u) {
         return Path::Stop(4, 0);
     }
     if forbidden(p, v, u) {

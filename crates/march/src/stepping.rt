@@ -5,11 +5,12 @@ ghost use Prim.Native.Nat.{_+_, _<_, _≤_};
 ghost use Rattle.position.specs.Board.{board, ground};
 ghost use Rattle.position.specs.Ground.{joined};
 ghost use Rattle.position.specs.Laid.{Laid, Read};
-ghost use Rattle.march.specs.Working.{half, working};
-ghost use Rattle.march.specs.Step.{bearing, sideCost, stepCost};
+ghost use Rattle.march.specs.Step.{sideCost, stepCost};
 ghost use Rattle.march.specs.Move.{allowed, leavesZone, noStep, step, afterStep, leg};
 ghost use Rattle.march.specs.Judged.{WayOf};
 use crate::Way;
+use field::bearing;
+use field::unit;
 use field::zone;
 use position::View;
 use position::bits;
@@ -22,39 +23,13 @@ const RIVER_COST: usize = 16;
 
 const MAJOR_RIVER_COST: usize = 17;
 
-// What `n` comes to for unit `u`: halved, fractions up, out of supply. The one place that halves.
-pub fn working(p: &[u8], v: View, u: usize, in_supply: bool, n: usize) -> usize
-    requires { ⌜ Laid (now p) v × (n < 65536) ⌝ }
-    ensures { λ r. ⌜ Read (working (board (now (p .entry))) u in_supply n) 65536 r ⌝ }
-{
-    if in_supply {
-        return n;
-    }
-    (n + 1) / 2
-}
-
 // The allowance that unit `u` may spend: halved without the supplied mark.
 pub fn allowed(p: &[u8], v: View, u: usize) -> usize
     requires { ⌜ Laid (now p) v ⌝ }
     ensures { λ r. ⌜ Read (allowed (board (now (p .entry))) u) 256 r ⌝ }
 {
     let marked = bits::has(bits::SUPPLIED, read::marks(p, v, u));
-    working(p, v, u, marked, read::allowance(p, v, u))
-}
-
-// The direction in which a step over an unblocked side leads from hex `h` to hex `x`; 6 if none does.
-fn bearing(p: &[u8], v: View, h: usize, x: usize) -> usize
-    requires { ⌜ Laid (now p) v ⌝ }
-    ensures { λ r. ⌜ Read (bearing (ground (now (p .entry))) h x) 7 r ⌝ }
-{
-    let mut d = 0;
-    while d < 6 {
-        if ground::is_at(ground::next(p, v, h, d), x) {
-            return d;
-        }
-        d += 1;
-    }
-    6
+    unit::working(p, v, u, marked, read::allowance(p, v, u))
 }
 
 fn side_cost(p: &[u8], v: View, s: usize) -> usize
@@ -75,7 +50,7 @@ fn step_cost(p: &[u8], v: View, h: usize, x: usize) -> usize
     requires { ⌜ Laid (now p) v × (joined (ground (now p)) h x ≡ true) ⌝ }
     ensures { λ r. ⌜ Read (stepCost (board (now (p .entry))) h x) 512 r ⌝ }
 {
-    let d = bearing(p, v, h, x);
+    let d = bearing::bearing(p, v, h, x);
     let terrain = read::terrain(p, v, x);
     read::cost(p, v, terrain) + side_cost(p, v, ground::side(p, v, h, d))
 }

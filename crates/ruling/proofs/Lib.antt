@@ -1,3 +1,5 @@
 pub mod Meets
-pub mod Secrets
+pub mod Going
 pub mod Kept
+pub mod Secrets
+pub mod Turning

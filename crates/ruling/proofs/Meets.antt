@@ -13,7 +13,7 @@ use Rattle.position.specs.Shape.{Shaped}
 use Rattle.position.specs.Change.{Change, makes, turned}
 use Rattle.position.proofs.Front.{shaped-kept}
 use Rattle.position.proofs.Changes.{turned-made}
-use Rattle.ruling.specs.Verdict.{Judge, Verdict, Ruling, Outcome, revealAll, along, judged, outcome, Met}
+use Rattle.ruling.specs.Verdict.{Judge, Verdict, Ruling, Outcome, revealAll, turnedAll, along, judged, outcome, Met}
 use Rattle.ruling.specs.Verdict.Judge.{reveal, rule}
 use Rattle.ruling.specs.Verdict.Verdict.{refuseIf, judge}
 use Rattle.ruling.specs.Verdict.Ruling.{refused, accepted}
@@ -80,10 +80,6 @@ untouched p l (refuseIf false n k v) e = untouched p l v e
 untouched p l (judge j) e = absurd (rules p j e)
 
 -- units turned over one after another
-unfoldable pub turnedAll : List ℕ → List ℕ → List ℕ
-turnedAll p [] = p
-turnedAll p (u ∷ us) = turnedAll (turned p u) us
-
 pub seen-all :
     {p : List ℕ} → Shaped p → (us : List ℕ) (k : List ℕ → Judge)
     → judged p (revealAll us k) ≡ judged (turnedAll p us) (k (map (strength p) us))

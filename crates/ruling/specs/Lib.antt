@@ -1,3 +1,4 @@
 pub mod Verdict
 pub mod Answers
+pub mod Judged
 pub mod Secret

@@ -23,6 +23,10 @@ unfoldable pub revealAll : List ℕ → (List ℕ → Judge) → Judge
 revealAll [] k = k []
 revealAll (u ∷ us) k = reveal u (λ s. revealAll us (λ ss. k (s ∷ ss)))
 
+unfoldable pub turnedAll : List ℕ → List ℕ → List ℕ
+turnedAll p [] = p
+turnedAll p (u ∷ us) = turnedAll (turned p u) us
+
 -- The tests along a list, from place k on: `test s x k` are those of element x, with what the elements before it came to, s.
 -- "Checks go along the list": every question for one place, then every question for the next.
 unfoldable pub along : {S : Type 0} → (S → ℕ → ℕ → Verdict → Verdict) → (S → ℕ → S) → S → List ℕ → ℕ → (S → Verdict) → Verdict

@@ -9,8 +9,9 @@ use borrow.Author.Tests.{le-leb, lt-leb}
 use Rattle.position.specs.Board.{board}
 use Rattle.ruling.specs.Verdict.Verdict.{refuseIf}
 use Rattle.ruling.proofs.Meets.{pass, stop}
-use Rattle.march.specs.Move.{pathLength, mayMoveNow, onMapAll, moveChecks}
-use Rattle.march.specs.Judged.{Passes, WayOf}
+use Rattle.march.specs.Move.{pathLength, mayMoveNow, moveChecks}
+use Rattle.ruling.specs.Judged.{Passes, TestedOf}
+use Rattle.field.specs.Listed.{onMapAll}
 use Rattle.march.proofs.Moves.{path-short, path-long, path-fits}
 use Rattle.march.proofs.Judging.{path-through}
 use Rattle.march.proofs.moving.judge_move.Statement.{statement}
@@ -35,7 +36,7 @@ to-map : (c : tie.After-enum-told) →
 to-map c l v a q m w =
     let k = c .before .before .before in
     pass (fits (k .before))
-    (pass (there k) (subst (WayOf _ _ _) (c .enum-told .given .1) (c .before .before .on-map-all .ensures) .passes l v a q m w))
+    (pass (there k) (subst (TestedOf _ _ _) (c .enum-told .given .1) (c .before .before .on-map-all .ensures) .0 l v a q m w))
 
 to-now : (c : tie.Else4) →
     let a = c .before .before .before .before .before .before .before .before .before .before .args in
@@ -70,7 +71,7 @@ returns-4 : tie.Need-returns-4
 unfolding moveChecks
 returns-4 c =
     let k = c .before .before .before .before in
-    λ l v. pass (fits (k .before)) (pass (there k) (subst (WayOf _ _ _) (c .before .n .given .1) (c .before .before .before .on-map-all .ensures) l _))
+    λ l v. pass (fits (k .before)) (pass (there k) (subst (TestedOf _ _ _) (c .before .n .given .1) (c .before .before .before .on-map-all .ensures) l _))
 
 enum-told : tie.Need-enum-told
 enum-told c = search needs

@@ -9,7 +9,8 @@ use lib.ListN.{getD}
 use Rattle.position.specs.Board.{board}
 use Rattle.march.specs.Move.{leg, step, afterStep, steps}
 use Rattle.march.specs.Judged.{Onward, WayOf}
-use Rattle.march.proofs.Judging.{Gone, gone-none, gone-stop, gone-end, gone-step}
+use Rattle.ruling.proofs.Going.{Gone, gone-none, gone-stop, gone-end}
+use Rattle.march.proofs.Judging.{gone-step}
 use Rattle.march.proofs.moving.steps.Statement.{statement}
 use Rattle.march.proofs.moving.steps.Tie as tie
 

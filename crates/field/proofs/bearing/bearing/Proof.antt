@@ -1,4 +1,4 @@
--- `stepping::bearing` meets its contract. The loop's invariant: no direction passed leads there.
+-- `bearing::bearing` meets its contract. The loop's invariant: no direction passed leads there.
 -- The measure is how many directions are left.
 -- Assumes nothing.
 use Prim.Native.Nat.{_-_}
@@ -9,10 +9,10 @@ use Rattle.grid.specs.declared.Beside.{Beside}
 use Rattle.position.specs.Board.{ground}
 use Rattle.position.specs.Ground.{isAt}
 use Rattle.position.proofs.Sides.{reaches}
 use Rattle.field.proofs.Zones.{None, none-yet, one-more, none-at-all}
-use Rattle.march.proofs.Steps.{bearing-at, bearing-none}
-use Rattle.march.proofs.stepping.bearing.Statement.{statement}
-use Rattle.march.proofs.stepping.bearing.Tie as tie
+use Rattle.field.proofs.Bearings.{bearing-at, bearing-none}
+use Rattle.field.proofs.bearing.bearing.Statement.{statement}
+use Rattle.field.proofs.bearing.bearing.Tie as tie
 
 abbrev Inv-loop : tie.InvT-loop
 Inv-loop p v h x d₀ d = None (reaches (ground p) h x) d 6

@@ -1,13 +1,13 @@
--- `stepping::working` meets its contract: the whole number in supply, half of it out of supply.
+-- `unit::working` meets its contract: the whole number in supply, half of it out of supply.
 -- Assumes nothing.
 use mathlib.Core.Path.{sym}
 use native.Mathlib.Omega.{arith}
 use borrow.Author.Needs.{needs}
 use Rattle.position.specs.Board.{board}
-use Rattle.march.specs.Working.{half}
-use Rattle.march.proofs.Steps.{working-whole, working-half}
-use Rattle.march.proofs.stepping.working.Statement.{statement}
-use Rattle.march.proofs.stepping.working.Tie as tie
+use Rattle.field.specs.Working.{half}
+use Rattle.field.proofs.Bearings.{working-whole, working-half}
+use Rattle.field.proofs.unit.working.Statement.{statement}
+use Rattle.field.proofs.unit.working.Tie as tie
 
 returns : tie.Need-returns
 returns c = record { is = sym (working-whole _ _ _ _ (c .if1 .taken)); small = omega arith }

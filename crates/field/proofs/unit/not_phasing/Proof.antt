@@ -1,13 +1,13 @@
--- `moving::not_phasing` meets its contract: a destroyed unit, or one of another force.
+-- `unit::not_phasing` meets its contract: a destroyed unit, or one of another force.
 -- Assumes nothing.
 use Prim.Native.Nat.{ℕ}
 use mathlib.Core.Path.{sym, ap₂, _∙_}
 use mathlib.Core.Bool.{not}
 use borrow.Author.Needs.{needs}
 use lib.Dec.{eqb}
-use Rattle.march.proofs.Moves.{phasing-destroyed, phasing-mapped}
-use Rattle.march.proofs.moving.not_phasing.Statement.{statement}
-use Rattle.march.proofs.moving.not_phasing.Tie as tie
+use Rattle.field.proofs.Bearings.{phasing-destroyed, phasing-mapped}
+use Rattle.field.proofs.unit.not_phasing.Statement.{statement}
+use Rattle.field.proofs.unit.not_phasing.Tie as tie
 
 hex-requires : tie.Need-hex-requires
 hex-requires c κs = search needs

@@ -1,16 +1,16 @@
--- `moving::on_map_all` meets its contract. The loop's invariant: what meets the tests from the next place on meets them all.
+-- `listed::on_map_all` meets its contract. The loop's invariant: what meets the tests from the next place on meets them all.
 -- The measure is how many places are left.
 -- Assumes nothing.
 use Prim.Native.Nat.{_+_, _-_}
-use mathlib.Core.Path.{refl}
 use native.Mathlib.Omega.{arith}
 use borrow.Author.Needs.{needs}
 use lib.ListN.{getD}
 use Rattle.position.specs.Board.{board}
-use Rattle.march.specs.Move.{onMapAll}
-use Rattle.march.proofs.Judging.{on-map, off-map, gone-none, gone-more, gone-stop, gone-end, OnMap}
-use Rattle.march.proofs.moving.on_map_all.Statement.{statement}
-use Rattle.march.proofs.moving.on_map_all.Tie as tie
+use Rattle.field.specs.Listed.{onMapAll}
+use Rattle.ruling.proofs.Going.{gone-end, gone-none, gone-stop}
+use Rattle.field.proofs.Lists.{OnMap, map-more, off-map}
+use Rattle.field.proofs.listed.on_map_all.Statement.{statement}
+use Rattle.field.proofs.listed.on_map_all.Tie as tie
 
 abbrev Inv-loop : tie.InvT-loop
 Inv-loop p path hexes i₀ i-end i = OnMap p path i
@@ -19,7 +19,7 @@ abbrev μ-loop : tie.MeasureT-loop
 μ-loop p path hexes i₀ i-end i = i-end - i
 
 loop-holds : tie.Need-loop-holds Inv-loop μ-loop
-loop-holds c = record { gone = gone-none }
+loop-holds c = record { gone = gone-none; charted = λ j l. absurd (omega arith) }
 
 mul-if1 : tie.Need-mul-if1 Inv-loop μ-loop
 mul-if1 c = search needs
@@ -48,22 +48,11 @@ loop-less : tie.Need-loop-less Inv-loop μ-loop
 loop-less c = search needs
 
 loop-again : tie.Need-loop-again Inv-loop μ-loop
-loop-again c =
-    let a = c .before .before .before .before .args in
-    record {
-      gone =
-          gone-more (c .before .before .before .loop .inv .gone) (omega arith)
-          (on-map (a .p .now) (board (a .p .now)) 0 (getD (a .path .now) (c .before .before .before .loop .i) 0) (c .before .before .before .loop .i + 1) (omega arith));
-    }
+loop-again c = map-more (c .before .before .before .loop .inv) (omega arith) (omega arith)
 
 returns-2 : tie.Need-returns-2 Inv-loop μ-loop
 unfolding onMapAll
-returns-2 c =
-    record {
-      passes = λ l v a q m w. gone-end (c .before .loop .inv .gone) (omega arith) l (λ s. v) a q m w;
-      is = refl;
-      small = omega arith;
-    }
+returns-2 c = (λ l v a q m w. gone-end (c .before .loop .inv .gone) (omega arith) l (λ s. v) a q m w, λ j l. c .before .loop .inv .charted j (omega arith))
 
 pub on-map-all-spec : {M : Type 1} → statement M
 on-map-all-spec =

@@ -1,0 +1,63 @@
+-- The lines on stages, one stage at a time.
+-- Assumes nothing.
+use mathlib.Core.Path.{_≡_}
+use native.Mathlib.Omega.{arith}
+use Rattle.position.specs.Board.{Board}
+use Rattle.acceptance.specs.Accepted.{QuietOk, RetreatsOk, LossesOk, AdvancesOk, StageOk}
+
+module _ {b : Board} where
+  pub stage-quiet : b .desk .stage ≡ 0 → b .desk .owed ≡ 0 → b .desk .need ≡ 0 → QuietOk b → StageOk b
+  stage-quiet e n x o =
+      record {
+        during =
+            record {
+              quiet = λ _. o;
+              retreats = λ f. absurd (omega arith);
+              losses = λ f. absurd (omega arith);
+              advances = λ f. absurd (omega arith);
+            };
+        owed = λ _. n;
+        need = λ _. x;
+      }
+
+  pub stage-retreats : b .desk .stage ≡ 1 → b .desk .need ≡ 0 → RetreatsOk b → StageOk b
+  stage-retreats e x o =
+      record {
+        during =
+            record {
+              quiet = λ f. absurd (omega arith);
+              retreats = λ _. o;
+              losses = λ f. absurd (omega arith);
+              advances = λ f. absurd (omega arith);
+            };
+        owed = λ n. absurd (n e);
+        need = λ _. x;
+      }
+
+  pub stage-losses : b .desk .stage ≡ 2 → b .desk .owed ≡ 0 → LossesOk b → StageOk b
+  stage-losses e n o =
+      record {
+        during =
+            record {
+              quiet = λ f. absurd (omega arith);
+              retreats = λ f. absurd (omega arith);
+              losses = λ _. o;
+              advances = λ f. absurd (omega arith);
+            };
+        owed = λ _. n;
+        need = λ z. absurd (z e);
+      }
+
+  pub stage-advances : b .desk .stage ≡ 3 → b .desk .owed ≡ 0 → b .desk .need ≡ 0 → AdvancesOk b → StageOk b
+  stage-advances e n x o =
+      record {
+        during =
+            record {
+              quiet = λ f. absurd (omega arith);
+              retreats = λ f. absurd (omega arith);
+              losses = λ f. absurd (omega arith);
+              advances = λ _. o;
+            };
+        owed = λ _. n;
+        need = λ _. x;
+      }
