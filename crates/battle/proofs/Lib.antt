@@ -1,0 +1,14 @@
+pub mod Asks
+pub mod Columns
+pub mod Lines
+pub mod Settles
+pub mod Fights
+pub mod Rulings
+pub mod Onces
+pub mod Ring
+pub mod Upshots
+pub mod Totals
+pub mod Striking
+pub mod Aftermath
+pub mod Battles
+pub mod KeepAttack

@@ -1,0 +1,45 @@
+-- The battle: what an attack that is let through turns over, answers and changes; and the ruling on the attack.
+-- Assumes nothing.
+use Prim.Native.Nat.{ℕ, _+_, _*_}
+use mathlib.Core.List.{List, [], _∷_}
+use lib.ListN.{replicate}
+use Rattle.position.specs.Board.{Board, board}
+use Rattle.acceptance.specs.Broken.{broken}
+use Rattle.ruling.specs.Verdict.{Verdict, Judge, revealAll}
+use Rattle.ruling.specs.Verdict.Judge.{rule}
+use Rattle.ruling.specs.Verdict.Verdict.{refuseIf, judge}
+use Rattle.battle.specs.Line.{participants, attackLine, defenceLine, fightingTotal, printedTotal}
+use Rattle.battle.specs.Odds.{multipleAt, column}
+use Rattle.battle.specs.Results.{upshot, needOf, battleChanges}
+use Rattle.battle.specs.Attack.{attackChecks}
+
+-- the column of a battle, counted from 0: "Defence is the sum times" the multiple
+unfoldable pub columnOf : Board → ℕ → List ℕ → List ℕ → ℕ
+columnOf b target units ss =
+    column (b .results) (fightingTotal (attackLine b units ss))
+    (fightingTotal (defenceLine b target units ss) * multipleAt b target units)
+
+unfoldable pub codeOf : Board → ℕ → List ℕ → ℕ → List ℕ → ℕ
+codeOf b target units die ss = b .results .code (columnOf b target units ss) die
+
+unfoldable pub needFor : Board → ℕ → List ℕ → ℕ → List ℕ → ℕ
+needFor b target units die ss =
+    needOf (upshot (codeOf b target units die ss)) (printedTotal (attackLine b units ss)) (printedTotal (defenceLine b target units ss))
+
+-- "The answer is column, from 1, and result code."
+unfoldable pub ruled : Board → ℕ → List ℕ → ℕ → List ℕ → Judge
+ruled b target units die ss =
+    rule ((columnOf b target units ss + 1) ∷ codeOf b target units die ss ∷ [])
+    (battleChanges b target units (upshot (codeOf b target units die ss)) (needFor b target units die ss))
+    (replicate (b .map .hexes) 0)
+
+-- "All participants turn over": their strengths decide
+unfoldable pub battle : Board → ℕ → List ℕ → ℕ → Verdict
+battle b target units die = judge (revealAll (participants b target units) (ruled b target units die))
+
+unfoldable pub attackRule : Board → ℕ → List ℕ → ℕ → ℕ → Verdict
+attackRule b target units die long = attackChecks b target units die long (battle b target units die)
+
+-- the ruling on an attack: refusal 1 unless the position is accepted
+unfoldable pub attackVerdict : List ℕ → ℕ → List ℕ → ℕ → ℕ → Verdict
+attackVerdict p target units die long = refuseIf (broken p) 1 0 (attackRule (board p) target units die long)

@@ -1,0 +1,65 @@
+// The attack: its questions, and then the battle.
+ghost use mathlib.Core.Path.{_≡_};
+ghost use lib.ListN.{length};
+ghost use Rattle.position.specs.Board.{board};
+ghost use Rattle.acceptance.specs.Accepted.{Accepted};
+ghost use Rattle.position.specs.Laid.{Laid};
+ghost use Rattle.ruling.specs.Verdict.{Met};
+ghost use Rattle.battle.specs.Asked.{Engaged};
+ghost use Rattle.battle.specs.Battle.{battle, attackVerdict};
+ghost use Rattle.battle.specs.Answers.{foughtAs};
+use crate::Fought;
+use crate::asking;
+use crate::line;
+use crate::odds;
+use crate::results;
+use position::Checked;
+use position::View;
+use position::read;
+use ruling::Tested;
+use supply::paint;
+
+// The battle of an attack that is let through.
+fn fight(
+    p: &mut [u8],
+    v: View,
+    target: usize,
+    units: &[u16],
+    die: usize,
+    scratch: &mut [u8],
+) -> Fought
+    requires { ⌜ Laid (now p) v × Accepted (now p) × Engaged (board (now p)) target (now units) (length (now scratch)) ⌝ }
+    ensures { λ r.
+        ⌜ Met (now (p .entry)) (now (scratch .entry)) (battle (board (now (p .entry))) target (now (units .entry)) die) (foughtAs r) (now (p .exit)) (now (scratch .exit)) ⌝ }
+{
+    let k = units.len();
+    let mut who = [0; 21];
+    let n = line::muster(p, v, target, units, &mut who);
+    let mut printed = [0; 21];
+    line::strengths(p, v, &who, n, &mut printed);
+    let mut fighting = [0; 21];
+    line::arm_all(p, v, &who, n, &printed, &mut fighting, scratch);
+    let attack = line::total(&fighting, 0, k);
+    let defence = line::total(&fighting, k, n) * odds::multiple_at(p, v, target, units);
+    let column = odds::column(p, v, attack, defence);
+    let code = read::code(p, v, column, die);
+    let o = results::upshot(code);
+    let need = results::need_of(o, line::total(&printed, 0, k), line::total(&printed, k, n));
+    results::settle(p, v, target, units, &who[0..n], o, need);
+    paint::clear(scratch);
+    Fought::Done(column + 1, code)
+}
+
+// The units of the list attack the target. The scratch has exactly width x height bytes, and is handed back all 0.
+pub fn attack(p: &mut [u8], target: usize, units: &[u16], die: usize, scratch: &mut [u8]) -> Fought
+    ensures { λ r.
+        ⌜ Met (now (p .entry)) (now (scratch .entry)) (attackVerdict (now (p .entry)) target (now (units .entry)) die (length (now (scratch .entry)))) (foughtAs r) (now (p .exit)) (now (scratch .exit)) ⌝ }
+{
+    let Checked::Whole(v) = acceptance::check(p) else {
+        return Fought::Refused(1, 0);
+    };
+    if let Tested::Stopped(n, k) = asking::judge_attack(p, v, target, units, die, scratch.len()) {
+        return Fought::Refused(n, k);
+    }
+    fight(p, v, target, units, die, scratch)
+}
