@@ -4,7 +4,8 @@
  * any bytes, any length, a null pointer with length 0. Lent regions must not overlap.
  *
  * The answer's low byte is the refusal's number, 0 if the call is accepted. Of a refusal bits 8 to 23 are the place in the list or
- * path, counted from 1, and 0 if there is none. All other bits are 0. A refused call changes no byte that was lent.
+ * path, counted from 1, and 0 if there is none. Of an accepted attack bits 8 to 15 are the column, counted from 1, and bits 16 to 23
+ * the result code. All other bits are 0. A refused call changes no byte that was lent.
  *
  * Refusal 1: the position breaks a line of its rules; nothing further is looked at. Single numbers are 32 bits wide, so that no
  * number is cut to a legal one: out of range they are refusal 3. */
@@ -34,6 +35,16 @@ uint64_t ia_move(uint8_t *pos, size_t pos_len, uint32_t unit, const uint16_t *pa
  * the force then phasing get or lose the supplied mark. The scratch has exactly width x height bytes and is handed back all 0.
  * Refusals in order: 1; 3 the scratch's length; 2 wrong stage; 16 last phase of the last turn. */
 uint64_t ia_end_phase(uint8_t *pos, size_t pos_len, uint8_t *scratch, size_t scratch_len);
+
+/* Units of a list of 1 to 18 attack the units on the target hex, with a die of 1 to 6. Accepted: the answer has column and result
+ * code; all that take part are turned over and marked fought, the result is carried out, and what it asks for next stands on the
+ * desk. The scratch has exactly width x height bytes and is handed back all 0.
+ * Refusals in order: 1; 3 the list's length; 3 the scratch's length; 3 the target is no hex; 3 the die; 3 at the first number that
+ * is no unit, with its place; 2 wrong stage or phase; 12 no Enemy on the target, or a unit there has fought; then for each unit
+ * with its place 4 destroyed or not of the phasing force, 5 its type or its fought mark, 6 named before, 13 not beside the target
+ * over an unblocked side. */
+uint64_t ia_attack(uint8_t *pos, size_t pos_len, uint32_t target, const uint16_t *units, size_t units_len, uint32_t die,
+                   uint8_t *scratch, size_t scratch_len);
 
 #ifdef __cplusplus
 }

@@ -8,6 +8,7 @@ use crate::rooms;
 use crate::rooms::NONE;
 use crate::rooms::Numbers;
 use crate::rooms::Output;
+use battle::Fought;
 use march::Moved;
 use position::Checked;
 use ruling::Answer;
@@ -99,4 +100,44 @@ pub fn end_call(g: Game, l: Line, pos: &mut [u8], lent: &mut [u8], out: &mut Out
     let n = rooms::within(length(g, &pos[..size]), lent);
     let a = ended(&mut pos[..size], &mut lent[..n]);
     answer(game::called(g, n), a, out)
+}
+
+// The column and the result code, or refused.
+fn fought(g: Game, a: Fought, out: &mut Output) -> Game {
+    match a {
+        Fought::Done(column, code) => game::printed(g, print::fought(out, g.full, column, code)),
+        Fought::Refused(n, place) => game::printed(g, print::refused(out, g.full, n, place)),
+    }
+}
+
+fn attacked(p: &mut [u8], target: usize, units: &[u16], die: usize, scratch: &mut [u8]) -> Fought {
+    fill(scratch);
+    rules::attack(p, target, units, die, scratch)
+}
+
+pub fn attack_call(
+    g: Game,
+    l: Line,
+    pos: &mut [u8],
+    lent: &mut [u8],
+    nums: &Numbers,
+    out: &mut Output,
+) -> Game {
+    let words = number::listed(l);
+    if words < 2 {
+        return game::what(g, out);
+    }
+    let size = rooms::within(g.size, pos);
+    let n = rooms::within(length(g, &pos[..size]), lent);
+    let list: &[u16] = nums;
+    let target = number::wide(nums[0]);
+    let die = number::wide(nums[1]);
+    let a = attacked(
+        &mut pos[..size],
+        target,
+        &list[2..words],
+        die,
+        &mut lent[..n],
+    );
+    fought(game::called(g, n), a, out)
 }

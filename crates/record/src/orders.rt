@@ -25,6 +25,8 @@ const MOVE: u64 = 0x6d6f7665;
 
 const END: u64 = 0x656e64;
 
+const ATTACK: u64 = 0x61747461636b;
+
 const NOTHING: u64 = 0;
 
 // A line that could be read as words. Each call has its arm.
@@ -47,6 +49,7 @@ fn obey(
         SUPPLY => calls::supply_call(g, l, pos, lent, nums, out),
         MOVE => calls::move_call(g, l, pos, nums, out),
         END => calls::end_call(g, l, pos, lent, out),
+        ATTACK => calls::attack_call(g, l, pos, lent, nums, out),
         _ => game::what(g, out),
     }
 }

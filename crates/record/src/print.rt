@@ -67,10 +67,19 @@ pub fn what(out: &mut Output, full: usize, line: u64) -> usize {
     put(out, h, b'\n')
 }
 
-pub fn refused(out: &mut Output, full: usize, n: usize, place: usize) -> usize {
-    let f = text(out, full, b"no ");
-    let h = number(out, f, n as u64);
+// A word with its blank, two numbers and the line's end.
+fn pair(out: &mut Output, full: usize, word: &[u8], a: usize, b: usize) -> usize {
+    let f = text(out, full, word);
+    let h = number(out, f, a as u64);
     let k = put(out, h, b' ');
-    let m = number(out, k, place as u64);
+    let m = number(out, k, b as u64);
     put(out, m, b'\n')
+}
+
+pub fn refused(out: &mut Output, full: usize, n: usize, place: usize) -> usize {
+    pair(out, full, b"no ", n, place)
+}
+
+pub fn fought(out: &mut Output, full: usize, column: usize, code: usize) -> usize {
+    pair(out, full, b"fought ", column, code)
 }

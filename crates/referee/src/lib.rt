@@ -3,9 +3,11 @@ ghost use mathlib.Core.Path.{_≡_};
 ghost use mathlib.Core.List.{[]};
 ghost use Rattle.ruling.specs.Answers.{answerAs};
 ghost use Rattle.march.specs.Answers.{movedAs};
+ghost use Rattle.battle.specs.Answers.{foughtAs};
 ghost use Rattle.rules.specs.Order.{verdict};
-ghost use Rattle.rules.specs.Order.Order.{supply, move, endPhase};
+ghost use Rattle.rules.specs.Order.Order.{supply, move, endPhase, attack};
 ghost use Rattle.referee.specs.Packed.{refusalOf, packed, Exported};
+use battle::Fought;
 use march::Moved;
 use ruling::Answer;
 
@@ -34,6 +36,16 @@ fn pack_moved(a: Moved) -> u64
     }
 }
 
+// Column and code: the values of an answer, in bits 8 to 15 and from bit 16 on.
+fn pack_fought(a: Fought) -> u64
+    ensures { λ r. ⌜ r ≡ packed (foughtAs a) ⌝ }
+{
+    match a {
+        Fought::Done(column, code) => (256 * (column % 256) + 65536 * (code % 65536)) as u64,
+        Fought::Refused(n, k) => refusal(n, k),
+    }
+}
+
 #[no_mangle]
 pub extern "C" fn ia_supply(pos: &[u8], nationality: u32, out: &mut [u8]) -> u64
     ensures { λ r.
@@ -55,4 +67,18 @@ pub extern "C" fn ia_end_phase(pos: &mut [u8], scratch: &mut [u8]) -> u64
         ⌜ Exported (now (pos .entry)) (now (scratch .entry)) (verdict (now (pos .entry)) endPhase (now (scratch .entry))) r (now (pos .exit)) (now (scratch .exit)) ⌝ }
 {
     pack_answer(rules::end_phase(pos, scratch))
+}
+
+#[no_mangle]
+pub extern "C" fn ia_attack(
+    pos: &mut [u8],
+    target: u32,
+    units: &[u16],
+    die: u32,
+    scratch: &mut [u8],
+) -> u64
+    ensures { λ r.
+        ⌜ Exported (now (pos .entry)) (now (scratch .entry)) (verdict (now (pos .entry)) (attack target (now (units .entry)) die) (now (scratch .entry))) r (now (pos .exit)) (now (scratch .exit)) ⌝ }
+{
+    pack_fought(rules::attack(pos, target as usize, units, die as usize, scratch))
 }

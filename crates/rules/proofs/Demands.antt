@@ -20,8 +20,10 @@ use Rattle.march.specs.Move.{moveVerdict}
 use Rattle.march.specs.EndPhase.{endVerdict}
 use Rattle.march.proofs.KeepMove.{move-keeps}
 use Rattle.march.proofs.KeepEnd.{end-keeps}
+use Rattle.battle.specs.Battle.{attackVerdict}
+use Rattle.battle.proofs.KeepAttack.{attack-keeps}
 use Rattle.rules.specs.Order.{Order, ruleOf, verdict, step}
-use Rattle.rules.specs.Order.Order.{supply, move, endPhase}
+use Rattle.rules.specs.Order.Order.{supply, move, endPhase, attack}
 use Rattle.rules.specs.Demands.{StaysAccepted, Secrecy, OneResult, RefusalsLeaveAll}
 
 -- the supply call leaves the position as it was
@@ -36,6 +38,7 @@ unfolding ruleOf
 order-keeps p l (supply n) a = unfold supplyVerdict in supply-keeps p l n a .ok
 order-keeps p l (move u path) a = unfold moveVerdict in move-keeps p l u path a
 order-keeps p l endPhase a = unfold endVerdict in end-keeps p l a
+order-keeps p l (attack target units die) a = unfold attackVerdict in attack-keeps p l target units die a
 
 pub stays-accepted : StaysAccepted
 stays-accepted p c a = order-keeps p (c .lent) (c .order) a

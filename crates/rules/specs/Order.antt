@@ -8,17 +8,21 @@ use Rattle.ruling.specs.Secret.{Sent, Rules, verdictOn, afterCall}
 use Rattle.supply.specs.Supply.{supplyRule}
 use Rattle.march.specs.Move.{moveRule}
 use Rattle.march.specs.EndPhase.{endRule}
+use Rattle.battle.specs.Battle.{attackRule}
 
 -- an order has the numbers and lists of a call; what is lent with it is kept apart
 pub data Order : Type 0 where
   supply : ℕ → Order
   move : ℕ → List ℕ → Order
   endPhase : Order
+  -- target, units, die
+  attack : ℕ → List ℕ → ℕ → Order
 
 unfoldable pub ruleOf : Rules Order
 ruleOf b (supply n) long = supplyRule b n long
 ruleOf b (move u path) long = moveRule b u path
 ruleOf b endPhase long = endRule b long
+ruleOf b (attack target units die) long = attackRule b target units die long
 
 -- the ruling on an order with the bytes lent: refusal 1 unless the position is accepted
 abbrev pub verdict : List ℕ → Order → List ℕ → Verdict

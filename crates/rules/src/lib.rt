@@ -3,8 +3,10 @@ ghost use mathlib.Core.List.{[]};
 ghost use Rattle.ruling.specs.Verdict.{Met};
 ghost use Rattle.ruling.specs.Answers.{answerAs};
 ghost use Rattle.march.specs.Answers.{movedAs};
+ghost use Rattle.battle.specs.Answers.{foughtAs};
 ghost use Rattle.rules.specs.Order.{verdict};
-ghost use Rattle.rules.specs.Order.Order.{supply, move, endPhase};
+ghost use Rattle.rules.specs.Order.Order.{supply, move, endPhase, attack};
+use battle::Fought;
 use march::Moved;
 use ruling::Answer;
 
@@ -29,4 +31,12 @@ pub fn end_phase(p: &mut [u8], scratch: &mut [u8]) -> Answer
         ⌜ Met (now (p .entry)) (now (scratch .entry)) (verdict (now (p .entry)) endPhase (now (scratch .entry))) (answerAs r) (now (p .exit)) (now (scratch .exit)) ⌝ }
 {
     march::ending::end_phase(p, scratch)
+}
+
+// Units of a list attack a target, and a die is rolled. The scratch has exactly width x height bytes, and is handed back all 0.
+pub fn attack(p: &mut [u8], target: usize, units: &[u16], die: usize, scratch: &mut [u8]) -> Fought
+    ensures { λ r.
+        ⌜ Met (now (p .entry)) (now (scratch .entry)) (verdict (now (p .entry)) (attack target (now (units .entry)) die) (now (scratch .entry))) (foughtAs r) (now (p .exit)) (now (scratch .exit)) ⌝ }
+{
+    battle::attacking::attack(p, target, units, die, scratch)
 }

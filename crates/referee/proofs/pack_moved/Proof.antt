@@ -4,7 +4,7 @@ use mathlib.Core.Path.{sym, ap, _∙_}
 use borrow.Author.Needs.{needs}
 use Rattle.march.specs.Answers.{movedAs}
 use Rattle.march.specs.declared.Moved.{Moved}
-use Rattle.referee.specs.Packed.{packed}
+use Rattle.referee.specs.Packed.{packed, valuesOf}
 use Rattle.referee.proofs.pack_moved.Statement.{statement}
 use Rattle.referee.proofs.pack_moved.Tie as tie
 
@@ -18,11 +18,11 @@ refusal-requires : tie.Need-refusal-requires
 refusal-requires c κs = search needs
 
 returns : tie.Need-returns
-unfolding packed
+unfolding packed valuesOf
 returns c = sym (ap (λ (a : Moved). packed (movedAs a)) (c .enum-told .given .1))
 
 returns-2 : tie.Need-returns-2
-unfolding packed
+unfolding packed valuesOf
 returns-2 c = c .refusal .ensures ∙ sym (ap (λ (a : Moved). packed (movedAs a)) (c .before .before .a .given .1))
 
 pub pack-moved-spec : {M : Type 1} → statement M
