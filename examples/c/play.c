@@ -20,7 +20,9 @@ static void say(const char *call, uint64_t answer)
 {
     unsigned number = (unsigned)(answer & 255);
     unsigned place = (unsigned)(answer >> 8 & 65535);
-    if (number == 0) {
+    if (number == 0 && answer != 0) {
+        printf("%s: column %u, result code %u\n", call, (unsigned)(answer >> 8 & 255), (unsigned)(answer >> 16 & 255));
+    } else if (number == 0) {
         printf("%s: accepted\n", call);
     } else if (place == 0) {
         printf("%s: refused by %u\n", call, number);
@@ -35,6 +37,7 @@ int main(void)
     const uint16_t west[] = {1, 0};
     const uint16_t away[] = {1, 3};
     const uint16_t jump[] = {0};
+    const uint16_t infantry[] = {0};
 
     say("supply of the US", ia_supply(position, sizeof position, 3, map, sizeof map));
     printf("supplied hexes: %u %u %u\n", map[0], map[1], map[2]);
@@ -45,6 +48,11 @@ int main(void)
     say("move again", ia_move(position, sizeof position, 0, west, 2));
     say("end of the phase", ia_end_phase(position, sizeof position, map, sizeof map));
     say("move in combat", ia_move(position, sizeof position, 0, west, 2));
+    say("attack on an empty hex", ia_attack(position, sizeof position, 1, infantry, 1, 3, map, sizeof map));
+    /* The E.S.C. infantry is put on hex 1, beside the US infantry. */
+    position[94] = 1;
+    position[95] = 0;
+    say("attack", ia_attack(position, sizeof position, 1, infantry, 1, 3, map, sizeof map));
     say("no position", ia_end_phase(NULL, 0, NULL, 0));
     return 0;
 }
