@@ -1,0 +1,6 @@
+pub mod Bears
+pub mod Run
+pub mod Words
+pub mod Legal
+pub mod Search
+pub mod Rulings
