@@ -23,27 +23,27 @@ plain =
       chart = record { cost = λ t. 1; multiple = λ t. 1 };
       results = record { columns = 1; attack = λ c. 1; defence = λ c. 1; code = λ c die. 1 };
       map =
-        record {
-          width = 5;
-          height = 5;
-          hexes = 25;
-          terrain = λ h. 0;
-          surface = λ h. 0;
-          flags = λ h. 0;
-          country = λ h. 0;
-          sides = λ h. 0;
-        };
+          record {
+            width = 5;
+            height = 5;
+            hexes = 25;
+            terrain = λ h. 0;
+            surface = λ h. 0;
+            flags = λ h. 0;
+            country = λ h. 0;
+            sides = λ h. 0;
+          };
       units =
-        record {
-          count = 0;
-          nationality = λ u. 0;
-          kind = λ u. 0;
-          hex = λ u. nowhere;
-          shown = λ u. 0;
-          allowance = λ u. 0;
-          marks = λ u. 0;
-          role = λ u. 0;
-        };
+          record {
+            count = 0;
+            nationality = λ u. 0;
+            kind = λ u. 0;
+            hex = λ u. nowhere;
+            shown = λ u. 0;
+            allowance = λ u. 0;
+            marks = λ u. 0;
+            role = λ u. 0;
+          };
       desk = record { turn = 1; lastTurn = 1; force = 0; phase = 1; stage = 1; owed = 2; need = 0; route = λ r j. nowhere };
     }
 

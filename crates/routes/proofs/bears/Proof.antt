@@ -1,26 +1,27 @@
+-- `routes::bears` meets its contract, test by test.
+-- Assumes nothing.
+use Prim.Native.Nat.{ℕ}
+use mathlib.Core.Path.{sym, ap, _∙_}
+use mathlib.Core.Bool.{not}
 use borrow.Author.Needs.{needs}
+use borrow.Author.Tests.{not-true, not-false}
+use Rattle.routes.specs.Bears.{bears}
 use Rattle.routes.proofs.bears.Statement.{statement}
 use Rattle.routes.proofs.bears.Tie as tie
-use Rattle.routes.proofs.bears.Reads as reads
-use Rattle.routes.proofs.bears.Lts as lts
-use Rattle.field.proofs.zone.enemy_zone.Reads as enemy-zone-reads
-use Rattle.position.proofs.ground.standable.Reads as standable-reads
 
--- src/lib.rt:28:9
 standable-requires : tie.Need-standable-requires
 standable-requires c κs = search needs
 
--- src/lib.rt:29:9
 returns : tie.Need-returns
-returns c = ?
+unfolding bears
+returns c = simp (sym (c .before .standable .ensures) ∙ not-true _ (c .if1 .taken))
 
--- src/lib.rt:31:6
 enemy-zone-requires : tie.Need-enemy-zone-requires
 enemy-zone-requires c κs = search needs
 
--- src/lib.rt:24:1
 returns-2 : tie.Need-returns-2
-returns-2 c = ?
+unfolding bears
+returns-2 c = simp (sym (c .before .before .standable .ensures) ∙ not-false _ (c .before .if1 .left)) (ap not (c .enemy-zone .ensures))
 
 pub bears-spec : {M : Type 1} → statement M
 bears-spec = tie.close (tie.spec standable-requires returns enemy-zone-requires returns-2)

@@ -1,30 +1,33 @@
+-- `routes::enters` meets its contract: the distance by the view's width is the distance on the board.
+-- Assumes nothing.
+use Prim.Native.Nat.{ℕ}
+use mathlib.Core.Path.{sym, ap, _∙_}
 use borrow.Author.Needs.{needs}
+use Rattle.grid.specs.Walk.{distanceOf}
+use Rattle.routes.proofs.Steps.{on-view, enters-near, enters-away}
 use Rattle.routes.proofs.enters.Statement.{statement}
 use Rattle.routes.proofs.enters.Tie as tie
-use Rattle.routes.proofs.enters.Reads as reads
-use Rattle.routes.proofs.enters.Lts as lts
-use Rattle.grid.proofs.distance.Reads as distance-reads
-use Rattle.routes.proofs.refuge.Reads as refuge-reads
 
--- src/lib.rt:51:8
 distance-requires : tie.Need-distance-requires
-distance-requires c κs = ?
+distance-requires c κs = (on-view (c .before .pre .0) _ (c .before .pre .1), on-view (c .before .pre .0) _ (c .before .pre .2))
 
--- src/lib.rt:51:55
 add-if1 : tie.Need-add-if1
 add-if1 c = search needs
 
--- src/lib.rt:52:9
 returns : tie.Need-returns
-returns c = ?
+returns c =
+    let s = (c .before .before .before) in
+    let w = s .pre .0 .view .width in
+    sym (enters-near _ _ _ _ _ (λ e. c .if1 .taken (c .before .distance .ensures ∙ ap (λ (w : ℕ). distanceOf w (s .args .start) (s .args .x)) w ∙ e)))
 
--- src/lib.rt:54:5
 refuge-requires : tie.Need-refuge-requires
 refuge-requires c κs = search needs
 
--- src/lib.rt:47:1
 returns-2 : tie.Need-returns-2
-returns-2 c = ?
+returns-2 c =
+    let s = (c .before .before .before .before) in
+    let w = s .pre .0 .view .width in
+    c .refuge .ensures ∙ sym (enters-away _ _ _ _ _ (ap (λ (w : ℕ). distanceOf w (s .args .start) (s .args .x)) (sym w) ∙ sym (c .before .before .distance .ensures) ∙ c .before .if1 .left))
 
 pub enters-spec : {M : Type 1} → statement M
 enters-spec = tie.close (tie.spec distance-requires add-if1 returns refuge-requires returns-2)

@@ -1,3 +1,14 @@
+-- `routes::is_legal` meets its contract. The loop's invariant: what is left of the test is the test of what is left of the route.
+-- The measure is how many hexes are left.
+-- Assumes nothing.
+use Prim.Native.Nat.{_-_, _≤_}
+use mathlib.Core.Path.{sym, refl, _∙_}
+use native.Mathlib.Omega.{arith}
+use borrow.Author.Needs.{needs}
+use borrow.Author.Tests.{not-true, not-false}
+use Rattle.position.specs.Board.{board}
+use Rattle.routes.specs.Legal.{legal}
+use Rattle.routes.proofs.Legal.{wrong-length, right-length, Still, all-passed, stopped, passed}
 use Rattle.routes.proofs.is_legal.Statement.{statement}
 use Rattle.routes.proofs.is_legal.Tie as tie
 use Rattle.routes.proofs.is_legal.Reads as reads
@@ -5,54 +16,45 @@ use Rattle.routes.proofs.is_legal.Lts as lts
 use Rattle.routes.proofs.steps_to.Reads as steps-to-reads
 
 abbrev Inv-loop : tie.InvT-loop
-Inv-loop p v f start n route a₀ i₀ a i = ?
+Inv-loop p v f start n route a₀ i₀ a i = (i ≤ n) × Still (legal (board p) f start n route) (board p) f start i a route
 
 abbrev μ-loop : tie.MeasureT-loop
-μ-loop p v f start n route a₀ i₀ a i = ?
+μ-loop p v f start n route a₀ i₀ a i = n - i
 
--- src/lib.rt:88:9
 returns : tie.Need-returns Inv-loop μ-loop
-returns c = ?
+returns c = sym (wrong-length _ _ _ _ _ (c .if1 .taken))
 
--- src/lib.rt:91:5
 loop-holds : tie.Need-loop-holds Inv-loop μ-loop
-loop-holds c = ?
+loop-holds c = (omega arith, record { is = right-length _ _ _ _ _ (c .if1 .left) })
 
--- src/lib.rt:92:17
 mul-x : tie.Need-mul-x Inv-loop μ-loop
-mul-x c = ?
+mul-x c = search needs
 
--- src/lib.rt:92:17
 shared-slice-read-x : tie.Need-shared-slice-read-x Inv-loop μ-loop
-shared-slice-read-x c = ?
+shared-slice-read-x c = omega arith
 
--- src/lib.rt:92:17
 cast-x : tie.Need-cast-x Inv-loop μ-loop
-cast-x c = ?
+cast-x c = omega (arith, c .shared-slice-known3 .given (c .before .before .loop .i))
 
--- src/lib.rt:93:13
 steps-to-requires : tie.Need-steps-to-requires Inv-loop μ-loop
-steps-to-requires c κs = ?
+steps-to-requires c κs = (c .before .before .before .before .before .before .pre .0, c .before .before .before .before .before .before .pre .1, omega arith)
 
--- src/lib.rt:94:13
 returns-2 : tie.Need-returns-2 Inv-loop μ-loop
-returns-2 c = ?
+returns-2 c =
+    sym (stopped (c .before .before .before .before .loop .inv .1) (omega arith) refl (sym (c .before .steps-to .ensures) ∙ not-true _ (c .if2 .taken)))
 
--- src/lib.rt:91:9
 add-i : tie.Need-add-i Inv-loop μ-loop
-add-i c = ?
+add-i c = omega arith
 
--- src/lib.rt:91:5
 loop-less : tie.Need-loop-less Inv-loop μ-loop
-loop-less c = ?
+loop-less c = omega arith
 
--- src/lib.rt:91:5
 loop-again : tie.Need-loop-again Inv-loop μ-loop
-loop-again c = ?
+loop-again c =
+    (omega arith, passed (c .before .before .before .before .loop .inv .1) (omega arith) refl (sym (c .before .steps-to .ensures) ∙ not-false _ (c .if2 .left)))
 
--- src/lib.rt:83:1
 returns-3 : tie.Need-returns-3 Inv-loop μ-loop
-returns-3 c = ?
+returns-3 c = sym (all-passed (c .before .loop .inv .1) (omega arith))
 
 pub is-legal-spec : {M : Type 1} → statement M
 is-legal-spec =

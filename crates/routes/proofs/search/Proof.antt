@@ -1,3 +1,14 @@
+-- `routes::search` meets its contract: at each turn of a loop the answer is what is still ahead (Ahead.antt).
+-- The measures are how many directions are left.
+-- Assumes nothing.
+use Prim.Native.Nat.{_-_, _≤_}
+use mathlib.Core.Path.{_≡_, sym, refl, _∙_}
+use native.Mathlib.Omega.{arith}
+use borrow.Author.Needs.{needs}
+use Rattle.position.specs.Board.{board}
+use Rattle.routes.specs.declared.Found.the-variants.{Nothing}
+use Rattle.routes.specs.Search.{firstRoute}
+use Rattle.routes.proofs.Ahead.{from, further, rest, Ahead, begins, over, none, reached, inward, outward}
 use Rattle.routes.proofs.search.Statement.{statement}
 use Rattle.routes.proofs.search.Tie as tie
 use Rattle.routes.proofs.search.Reads as reads
@@ -5,145 +16,122 @@ use Rattle.routes.proofs.search.Lts as lts
 use Rattle.routes.proofs.step.Reads as step-reads
 
 abbrev Inv-loop2 : tie.InvT-loop2
-Inv-loop2 p v f start n found₀ d1 a d2 b d3₀ found d3 = ?
+Inv-loop2 p v f start n found₀ d1 a d2 b d3₀ found d3 =
+    let k = from (board p) f start n in
+    (d3 ≤ 6)
+    × (found ≡ Nothing)
+    × Ahead (firstRoute (board p) f start n) (further (further k a) b) d3 (rest (further k a) d2 (rest k d1 Nothing))
 
 abbrev μ-loop2 : tie.MeasureT-loop2
-μ-loop2 p v f start n found₀ d1 a d2 b d3₀ found d3 = ?
+μ-loop2 p v f start n found₀ d1 a d2 b d3₀ found d3 = 6 - d3
 
 abbrev Inv-loop : tie.InvT-loop
-Inv-loop p v f start n found₀ d1 a d2₀ found d2 = ?
+Inv-loop p v f start n found₀ d1 a d2₀ found d2 =
+    let k = from (board p) f start n in
+    (d2 ≤ 6) × (found ≡ Nothing) × Ahead (firstRoute (board p) f start n) (further k a) d2 (rest k d1 Nothing)
 
 abbrev μ-loop : tie.MeasureT-loop
-μ-loop p v f start n found₀ d1 a d2₀ found d2 = ?
+μ-loop p v f start n found₀ d1 a d2₀ found d2 = 6 - d2
 
 abbrev Inv-search : tie.InvT-search
-Inv-search p v f start n found₀ d1₀ found d1 = ?
+Inv-search p v f start n found₀ d1₀ found d1 =
+    (d1 ≤ 6) × (found ≡ Nothing) × Ahead (firstRoute (board p) f start n) (from (board p) f start n) d1 Nothing
 
 abbrev μ-search : tie.MeasureT-search
-μ-search p v f start n found₀ d1₀ found d1 = ?
+μ-search p v f start n found₀ d1₀ found d1 = 6 - d1
 
--- src/lib.rt:107:5
 search-holds : tie.Need-search-holds Inv-loop2 μ-loop2 Inv-loop μ-loop Inv-search μ-search
-search-holds c = ?
+search-holds c = (omega arith, refl, begins _ _ _ _ (omega arith))
 
--- src/lib.rt:108:29
 step-requires : tie.Need-step-requires Inv-loop2 μ-loop2 Inv-loop μ-loop Inv-search μ-search
-step-requires c κs = ?
+step-requires c κs = (c .before .before .before .pre .0, c .before .before .before .pre .1, omega arith, c .search-test .taken)
 
--- src/lib.rt:108:24
 enum-known-a : tie.Need-enum-known-a Inv-loop2 μ-loop2 Inv-loop μ-loop Inv-search μ-search
-enum-known-a c = ?
+enum-known-a c = search needs
 
--- src/lib.rt:109:13
 enum-told : tie.Need-enum-told Inv-loop2 μ-loop2 Inv-loop μ-loop Inv-search μ-search
-enum-told c = ?
+enum-told c = search needs
 
--- src/lib.rt:109:13
 add-d1 : tie.Need-add-d1 Inv-loop2 μ-loop2 Inv-loop μ-loop Inv-search μ-search
-add-d1 c = ?
+add-d1 c = omega arith
 
--- src/lib.rt:107:5
 search-less : tie.Need-search-less Inv-loop2 μ-loop2 Inv-loop μ-loop Inv-search μ-search
-search-less c = ?
+search-less c = omega arith
 
--- src/lib.rt:107:5
 search-again : tie.Need-search-again Inv-loop2 μ-loop2 Inv-loop μ-loop Inv-search μ-search
-search-again c = ?
+search-again c = (omega arith, c .before .before .before .before .search .inv .1, none (c .before .before .before .before .search .inv .2) (c .before .before .before .search-test .taken) (sym (c .before .before .step .ensures) ∙ c .enum-told .given .1))
 
--- src/lib.rt:115:9
 loop-holds : tie.Need-loop-holds Inv-loop2 μ-loop2 Inv-loop μ-loop Inv-search μ-search
-loop-holds c = ?
+loop-holds c = (omega arith, c .before .before .before .before .before .before .search .inv .1, inward (c .before .before .before .before .before .before .search .inv .2) (c .before .before .before .before .before .search-test .taken) (sym (c .before .before .before .before .step .ensures) ∙ c .before .before .a .given .1) (omega arith))
 
--- src/lib.rt:116:33
 step-requires-2 : tie.Need-step-requires-2 Inv-loop2 μ-loop2 Inv-loop μ-loop Inv-search μ-search
-step-requires-2 c κs = ?
+step-requires-2 c κs = (c .before .before .before .before .before .before .before .before .before .before .pre .0, c .before .before .before .before .before .before .before .before .before .before .pre .1, omega arith, c .loop-test .taken)
 
--- src/lib.rt:116:28
 enum-known-b : tie.Need-enum-known-b Inv-loop2 μ-loop2 Inv-loop μ-loop Inv-search μ-search
-enum-known-b c = ?
+enum-known-b c = search needs
 
--- src/lib.rt:117:17
 enum-told-2 : tie.Need-enum-told-2 Inv-loop2 μ-loop2 Inv-loop μ-loop Inv-search μ-search
-enum-told-2 c = ?
+enum-told-2 c = search needs
 
--- src/lib.rt:117:17
 add-d2 : tie.Need-add-d2 Inv-loop2 μ-loop2 Inv-loop μ-loop Inv-search μ-search
-add-d2 c = ?
+add-d2 c = omega arith
 
--- src/lib.rt:115:9
 loop-less : tie.Need-loop-less Inv-loop2 μ-loop2 Inv-loop μ-loop Inv-search μ-search
-loop-less c = ?
+loop-less c = omega arith
 
--- src/lib.rt:115:9
 loop-again : tie.Need-loop-again Inv-loop2 μ-loop2 Inv-loop μ-loop Inv-search μ-search
-loop-again c = ?
+loop-again c = (omega arith, c .before .before .before .before .loop .inv .1, none (c .before .before .before .before .loop .inv .2) (c .before .before .before .loop-test .taken) (sym (c .before .before .step2 .ensures) ∙ c .enum-told2 .given .1))
 
--- src/lib.rt:123:13
 loop2-holds : tie.Need-loop2-holds Inv-loop2 μ-loop2 Inv-loop μ-loop Inv-search μ-search
-loop2-holds c = ?
+loop2-holds c = (omega arith, c .before .before .before .before .before .before .loop .inv .1, inward (c .before .before .before .before .before .before .loop .inv .2) (c .before .before .before .before .before .loop-test .taken) (sym (c .before .before .before .before .step2 .ensures) ∙ c .before .before .b .given .1) (omega arith))
 
--- src/lib.rt:124:40
 step-requires-3 : tie.Need-step-requires-3 Inv-loop2 μ-loop2 Inv-loop μ-loop Inv-search μ-search
-step-requires-3 c κs = ?
+step-requires-3 c κs = (c .before .before .before .before .before .before .before .before .before .before .before .before .before .before .before .before .before .pre .0, c .before .before .before .before .before .before .before .before .before .before .before .before .before .before .before .before .before .pre .1, omega arith, c .loop2-test .taken)
 
--- src/lib.rt:124:35
 enum-known-c : tie.Need-enum-known-c Inv-loop2 μ-loop2 Inv-loop μ-loop Inv-search μ-search
-enum-known-c c = ?
+enum-known-c c = search needs
 
 enum-told-3 : tie.Need-enum-told-3 Inv-loop2 μ-loop2 Inv-loop μ-loop Inv-search μ-search
-enum-told-3 c = ?
+enum-told-3 c = search needs
 
--- src/lib.rt:123:17
 add-d3 : tie.Need-add-d3 Inv-loop2 μ-loop2 Inv-loop μ-loop Inv-search μ-search
-add-d3 c = ?
+add-d3 c = omega arith
 
--- src/lib.rt:123:13
 loop2-less : tie.Need-loop2-less Inv-loop2 μ-loop2 Inv-loop μ-loop Inv-search μ-search
-loop2-less c = ?
+loop2-less c = omega arith
 
--- src/lib.rt:123:13
 loop2-again : tie.Need-loop2-again Inv-loop2 μ-loop2 Inv-loop μ-loop Inv-search μ-search
-loop2-again c = ?
+loop2-again c = (omega arith, c .before .before .before .before .loop2 .inv .1, none (c .before .before .before .before .loop2 .inv .2) (c .before .before .before .loop2-test .taken) (sym (c .before .before .step3 .ensures) ∙ c .enum-told3 .given .1))
 
--- src/lib.rt:115:13
 add-d2-2 : tie.Need-add-d2-2 Inv-loop2 μ-loop2 Inv-loop μ-loop Inv-search μ-search
-add-d2-2 c = ?
+add-d2-2 c = omega arith
 
--- src/lib.rt:115:9
 loop-less-2 : tie.Need-loop-less-2 Inv-loop2 μ-loop2 Inv-loop μ-loop Inv-search μ-search
-loop-less-2 c = ?
+loop-less-2 c = omega arith
 
--- src/lib.rt:115:9
 loop-again-2 : tie.Need-loop-again-2 Inv-loop2 μ-loop2 Inv-loop μ-loop Inv-search μ-search
-loop-again-2 c = ?
+loop-again-2 c = (omega arith, c .before .loop2 .inv .1, outward (c .before .before .before .before .before .before .before .before .loop .inv .2) (omega arith) (over (c .before .loop2 .inv .2) (c .loop2-test .left)))
 
--- src/lib.rt:107:18
 add-d1-2 : tie.Need-add-d1-2 Inv-loop2 μ-loop2 Inv-loop μ-loop Inv-search μ-search
-add-d1-2 c = ?
+add-d1-2 c = omega arith
 
--- src/lib.rt:107:5
 search-less-2 : tie.Need-search-less-2 Inv-loop2 μ-loop2 Inv-loop μ-loop Inv-search μ-search
-search-less-2 c = ?
+search-less-2 c = omega arith
 
--- src/lib.rt:107:5
 search-again-2 : tie.Need-search-again-2 Inv-loop2 μ-loop2 Inv-loop μ-loop Inv-search μ-search
-search-again-2 c = ?
+search-again-2 c = (omega arith, c .before .loop .inv .1, outward (c .before .before .before .before .before .before .before .before .search .inv .2) (omega arith) (over (c .before .loop .inv .2) (c .loop-test .left)))
 
--- src/lib.rt:102:1
 returns : tie.Need-returns Inv-loop2 μ-loop2 Inv-loop μ-loop Inv-search μ-search
-returns c = ?
+returns c = c .before .search .inv .1 ∙ sym (over (c .before .search .inv .2) (c .search-test .left))
 
--- src/lib.rt:102:1
 returns-2 : tie.Need-returns-2 Inv-loop2 μ-loop2 Inv-loop μ-loop Inv-search μ-search
-returns-2 c = ?
+returns-2 c = reached (c .before .before .before .before .before .before .search .inv .2) (c .before .before .before .before .before .search-test .taken) (sym (c .before .before .before .before .step .ensures) ∙ c .before .before .a .given .1) (omega arith)
 
--- src/lib.rt:102:1
 returns-3 : tie.Need-returns-3 Inv-loop2 μ-loop2 Inv-loop μ-loop Inv-search μ-search
-returns-3 c = ?
+returns-3 c = reached (c .before .before .before .before .before .before .loop .inv .2) (omega arith) (sym (c .before .before .before .before .step2 .ensures) ∙ c .before .before .b .given .1) (omega arith)
 
--- src/lib.rt:102:1
 returns-4 : tie.Need-returns-4 Inv-loop2 μ-loop2 Inv-loop μ-loop Inv-search μ-search
-returns-4 c = ?
+returns-4 c = reached (c .before .before .before .before .before .loop2 .inv .2) (omega arith) (sym (c .before .before .before .step3 .ensures) ∙ c .before .c .given .1) (omega (arith, c .before .before .before .before .before .before .before .before .before .before .before .before .before .before .before .before .before .before .before .before .before .pre .3))
 
 pub search-spec : {M : Type 1} → statement M
 search-spec =

@@ -1,4 +1,10 @@
+-- `routes::step` meets its contract, test by test.
+-- Assumes nothing.
+use mathlib.Core.Path.{sym, ap, _∙_}
+use native.Mathlib.Omega.{arith}
 use borrow.Author.Needs.{needs}
+use Rattle.routes.specs.Search.{entered, stepOf}
+use Rattle.routes.proofs.Steps.{next-in}
 use Rattle.routes.proofs.step.Statement.{statement}
 use Rattle.routes.proofs.step.Tie as tie
 use Rattle.routes.proofs.step.Reads as reads
@@ -6,33 +12,31 @@ use Rattle.routes.proofs.step.Lts as lts
 use Rattle.position.proofs.ground.next.Reads as next-reads
 use Rattle.routes.proofs.enters.Reads as enters-reads
 
--- src/lib.rt:62:25
 next-requires : tie.Need-next-requires
 next-requires c κs = search needs
 
--- src/lib.rt:62:20
 enum-known-x : tie.Need-enum-known-x
 enum-known-x c = search needs
 
--- src/lib.rt:63:9
 enum-told : tie.Need-enum-told
 enum-told c = search needs
 
--- src/lib.rt:63:9
 returns : tie.Need-returns
-returns c = ?
+unfolding stepOf entered
+returns c = simp (sym (c .before .before .next .ensures) ∙ c .enum-told .given .1)
 
--- src/lib.rt:65:8
 enters-requires : tie.Need-enters-requires
-enters-requires c κs = ?
+enters-requires c κs =
+    let s = c .before .before .before .before .before .pre in
+    (s .0, s .1, next-in (s .0) _ _ _ (sym (c .before .before .before .next .ensures) ∙ c .before .x .given .1), s .2)
 
--- src/lib.rt:66:9
 returns-2 : tie.Need-returns-2
-returns-2 c = ?
+unfolding stepOf entered
+returns-2 c = simp (sym (c .before .before .before .before .before .next .ensures) ∙ c .before .before .before .x .given .1, sym (c .before .enters .ensures) ∙ c .if1 .taken)
 
--- src/lib.rt:58:1
 returns-3 : tie.Need-returns-3
-returns-3 c = ?
+unfolding stepOf entered
+returns-3 c = simp (sym (c .before .before .before .before .before .next .ensures) ∙ c .before .before .before .x .given .1, sym (c .before .enters .ensures) ∙ c .if1 .left)
 
 pub step-spec : {M : Type 1} → statement M
 step-spec =

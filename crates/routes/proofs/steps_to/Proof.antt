@@ -1,4 +1,10 @@
+-- `routes::steps_to` meets its contract, test by test.
+-- Assumes nothing.
+use mathlib.Core.Path.{sym, _∙_}
 use borrow.Author.Needs.{needs}
+use borrow.Author.Tests.{not-true, not-false}
+use Rattle.routes.specs.Legal.{stepsTo}
+use Rattle.routes.proofs.Steps.{joined-in}
 use Rattle.routes.proofs.steps_to.Statement.{statement}
 use Rattle.routes.proofs.steps_to.Tie as tie
 use Rattle.routes.proofs.steps_to.Reads as reads
@@ -6,21 +12,21 @@ use Rattle.routes.proofs.steps_to.Lts as lts
 use Rattle.position.proofs.ground.joined.Reads as joined-reads
 use Rattle.routes.proofs.enters.Reads as enters-reads
 
--- src/lib.rt:76:9
 joined-requires : tie.Need-joined-requires
 joined-requires c κs = search needs
 
--- src/lib.rt:77:9
 returns : tie.Need-returns
-returns c = ?
+unfolding stepsTo
+returns c = simp (sym (c .before .joined .ensures) ∙ not-true _ (c .if1 .taken))
 
--- src/lib.rt:79:5
 enters-requires : tie.Need-enters-requires
-enters-requires c κs = ?
+enters-requires c κs =
+    let s = c .before .before .before .pre in
+    (s .0, s .1, joined-in (s .0) _ _ (sym (c .before .joined .ensures) ∙ not-false _ (c .if1 .left)), s .2)
 
--- src/lib.rt:72:1
 returns-2 : tie.Need-returns-2
-returns-2 c = ?
+unfolding stepsTo
+returns-2 c = simp (sym (c .before .before .joined .ensures) ∙ not-false _ (c .before .if1 .left)) (c .enters .ensures)
 
 pub steps-to-spec : {M : Type 1} → statement M
 steps-to-spec = tie.close (tie.spec joined-requires returns enters-requires returns-2)

@@ -1,0 +1,134 @@
+-- Laws of one step of a run: as a fact, as a test, and by its direction.
+-- Assumes nothing.
+use Prim.Native.Nat.{ℕ, _+_, _*_, _<_}
+use mathlib.Core.Path.{_≡_, refl, sym, ap, _∙_}
+use mathlib.Core.List.{List}
+use mathlib.Core.Bool.{Bool, true, false, _&&_, cond}
+use native.Mathlib.Omega.{arith}
+use lib.Dec.{eqb}
+use borrow.Author.Tests.{eqb-true, eq-eqb, ne-eqb}
+use Rattle.grid.specs.declared.Beside.{Beside}
+use Rattle.grid.specs.declared.Beside.the-variants.{At, Off}
+use Rattle.grid.specs.Map.{On}
+use Rattle.grid.specs.Walk.{distanceOf}
+use Rattle.grid.proofs.Laws.{on-map, direction}
+use Rattle.position.specs.declared.View.{View}
+use Rattle.position.specs.Layout.{width, height, hexes}
+use Rattle.position.specs.Laid.{Laid}
+use Rattle.position.specs.Board.{Board, Map, board, ground}
+use Rattle.position.specs.Ground.{beside, side, blockedSide, next, isAt, joined}
+use Rattle.position.proofs.Tallies.{both-yes, not-both, any-some, any-true}
+use Rattle.position.proofs.Sides.{next-blocked, next-beside, reaches, joined-is}
+use Rattle.routes.specs.Bears.{refuge}
+use Rattle.routes.specs.Run.{Step}
+use Rattle.routes.specs.Legal.{enters, stepsTo}
+use Rattle.routes.specs.Search.{entered, stepOf}
+
+pub off-at : {A : Type 0} {r : Beside} {x : ℕ} → r ≡ Off → r ≡ At x → A
+off-at p q = let z : _≡_ {A = ℕ} 0 1 = cc in absurd (omega arith)
+
+-- a hex of the view is a hex of the map
+pub on-view : {p : List ℕ} {v : View} → Laid p v → (x : ℕ) → x < v .hexes → On (v .width) (v .height) x
+unfolding hexes
+on-view {p} {v} l x e =
+    let w = l .view .width in
+    let h = l .view .height in
+    record {
+      wide = omega (arith, l .shaped .width .low);
+      wide64 = omega (arith, l .shaped .width .high);
+      high = omega (arith, l .shaped .height .low);
+      high64 = omega (arith, l .shaped .height .high);
+      below = rw (w, h) (omega (arith, l .view .hexes));
+    }
+
+-- a step over an unblocked side leads to the neighbour, a hex of the map, in one of six directions
+module _ (m : Map) (a d x : ℕ) (e : next m a d ≡ At x) where
+  pub next-over : beside m a d ≡ At x
+  next-over = sym (next-beside m a d (λ p. off-at (next-blocked m a d p) e)) ∙ e
+
+  pub next-on : On (m .width) (m .height) x
+  next-on = on-map (m .width) (m .height) a d x next-over
+
+  pub next-dir : d < 6
+  next-dir = direction (m .width) (m .height) a d x next-over
+
+pub next-in : {p : List ℕ} {v : View} → Laid p v → (a d x : ℕ) → next (ground p) a d ≡ At x → x < v .hexes
+unfolding hexes
+next-in {p} l a d x e = omega (arith, l .view .hexes, next-on (ground p) a d x e .below)
+
+-- hexes are joined exactly if some step leads from one to the other
+module _ (m : Map) (a x : ℕ) where
+  is-at : (r : Beside) → isAt r x ≡ true → r ≡ At x
+  unfolding isAt
+  is-at (At y) e = ap At (eqb-true y x e)
+  is-at Off e = not-both false e refl
+
+  at-is : {r : Beside} → r ≡ At x → isAt r x ≡ true
+  unfolding isAt
+  at-is e = rw e (eq-eqb x x refl)
+
+  pub joined-next : joined m a x ≡ true → (d : ℕ) × (next m a d ≡ At x)
+  unfolding reaches
+  joined-next e =
+      let s = any-some (reaches m a x) 6 (sym (joined-is m a x) ∙ e) in
+      (s .at, is-at (next m a (s .at)) (s .passes))
+
+  pub next-joined : (d : ℕ) → next m a d ≡ At x → joined m a x ≡ true
+  unfolding reaches
+  next-joined d e = joined-is m a x ∙ any-true (reaches m a x) 6 d (next-dir m a d x e) (at-is e)
+
+pub joined-in : {p : List ℕ} {v : View} → Laid p v → (a x : ℕ) → joined (ground p) a x ≡ true → x < v .hexes
+joined-in {p} l a x e = let s = joined-next (ground p) a x e in next-in l a (s .0) x (s .1)
+
+-- the test of the hex entered
+module _ (b : Board) (f start i x : ℕ) where
+  pub enters-near : (distanceOf (b .map .width) start x ≡ i + 1 → ⊥) → enters b f start i x ≡ false
+  unfolding enters
+  enters-near h = simp (ne-eqb (distanceOf (b .map .width) start x) (i + 1) h)
+
+  pub enters-away : distanceOf (b .map .width) start x ≡ i + 1 → enters b f start i x ≡ refuge b f x
+  unfolding enters
+  enters-away h = simp (eq-eqb (distanceOf (b .map .width) start x) (i + 1) h)
+
+  enters-is : enters b f start i x ≡ true → (distanceOf (b .map .width) start x ≡ i + 1) × (refuge b f x ≡ true)
+  unfolding enters
+  enters-is e =
+      let s = both-yes (eqb (distanceOf (b .map .width) start x) (i + 1)) (refuge b f x) e in
+      (eqb-true (distanceOf (b .map .width) start x) (i + 1) (s .0), s .1)
+
+module _ (b : Board) (f start i a : ℕ) where
+  -- a step by its test
+  pub steps-step : (x : ℕ) → stepsTo b f start i a x ≡ true → (d : ℕ) × Step b f start i a d x
+  unfolding stepsTo
+  steps-step x e =
+      let s = both-yes (joined (b .map) a x) (enters b f start i x) e in
+      let j = joined-next (b .map) a x (s .0) in
+      let k = enters-is b f start i x (s .1) in
+      (j .0, record { leads = j .1; into = k .1; away = k .0 })
+
+  pub step-steps : {d x : ℕ} → Step b f start i a d x → stepsTo b f start i a x ≡ true
+  unfolding stepsTo
+  step-steps {d} {x} s =
+      simp (next-joined (b .map) a x d (s .leads), enters-away b f start i x (s .away), s .into)
+
+  -- and by its direction
+  module _ (d x : ℕ) where
+    lands : (y : ℕ) (t : Bool) → next (b .map) a d ≡ At y → enters b f start i y ≡ t → cond t (At y) Off ≡ At x → Step b f start i a d x
+    lands y true e g q =
+        let yx : y ≡ x = cc in
+        let k = enters-is b f start i x (rw yx at g) in
+        record { leads = rw yx at e; into = k .1; away = k .0 }
+    lands y false e g q = off-at refl q
+
+    leads : (r : Beside) → next (b .map) a d ≡ r → entered b f start i r ≡ At x → Step b f start i a d x
+    unfolding entered
+    leads (At y) e q = lands y (enters b f start i y) e refl q
+    leads Off e q = off-at refl q
+
+    pub step-is : stepOf b f start i a d ≡ At x → Step b f start i a d x
+    unfolding stepOf
+    step-is q = leads (next (b .map) a d) refl q
+
+    pub is-step : Step b f start i a d x → stepOf b f start i a d ≡ At x
+    unfolding stepOf entered
+    is-step s = simp (s .leads, enters-away b f start i x (s .away), s .into)
