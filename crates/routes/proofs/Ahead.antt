@@ -53,7 +53,10 @@ tries k d = onward (onFrom k) (stepFrom k d)
 abbrev pub rest : Stand → ℕ → Found → Found
 rest k d outer = orElse (firstOf (6 - (d + 1)) (d + 1) (tries k)) outer
 
-pub record Ahead (r : Found) (k : Stand) (d : ℕ) (outer : Found) : Type 0 where
+-- in a loop over directions: nothing is found yet, and r, the answer, is what is found from direction d on, or else what the outer loops
+-- have left
+pub record Ahead (found r : Found) (k : Stand) (d : ℕ) (outer : Found) : Type 0 where
+  pub yet : found ≡ Nothing
   pub is : r ≡ orElse (firstOf (6 - d) d (tries k)) outer
 
 turn : (d : ℕ) (t : ℕ → Found) → d < 6 → firstOf (6 - d) d t ≡ orElse (t d) (firstOf (6 - (d + 1)) (d + 1) t)
@@ -78,13 +81,13 @@ unfolding goOn
 opened b f start i zero past a l = absurd (omega arith)
 opened b f start i (suc k) past a l = let e : suc k - 1 ≡ k = omega arith in rw e refl
 
-pub begins : (b : Board) (f start n : ℕ) → 1 ≤ n → Ahead (firstRoute b f start n) (from b f start n) 0 Nothing
+pub begins : (b : Board) (f start n : ℕ) → 1 ≤ n → Ahead Nothing (firstRoute b f start n) (from b f start n) 0 Nothing
 unfolding firstRoute
-begins b f start n l = record { is = opened b f start 0 n [] start l ∙ nothing-more _ }
+begins b f start n l = record { yet = refl; is = opened b f start 0 n [] start l ∙ nothing-more _ }
 
-module _ {r : Found} {k : Stand} {d : ℕ} {outer : Found} (p : Ahead r k d outer) where
+module _ {found r : Found} {k : Stand} {d : ℕ} {outer : Found} (p : Ahead found r k d outer) where
   -- after the last direction
-  pub over : 6 ≤ d → r ≡ outer
+  over : 6 ≤ d → r ≡ outer
   unfolding firstOf
   over l = let e : 6 - d ≡ 0 = omega arith in p .is ∙ ap (λ (m : ℕ). orElse (firstOf m d (tries k)) outer) e
 
@@ -95,20 +98,25 @@ module _ {r : Found} {k : Stand} {d : ℕ} {outer : Found} (p : Ahead r k d oute
         ∙ ap (λ (z : Found). orElse z outer) (turn d (tries k) l ∙ ap (λ (z : Found). orElse z (firstOf (6 - (d + 1)) (d + 1) (tries k))) e)
         ∙ assoc y _ outer
 
-    -- no step there
-    pub none : stepFrom k d ≡ Off → Ahead r k (d + 1) outer
-    none e = record { is = is-now (ap (onward (onFrom k)) e) }
+    module _ {s : Beside} (q : s ≡ stepFrom k d) where
+      -- no step there
+      pub none : s ≡ Off → Ahead found r k (d + 1) outer
+      none e = record { yet = p .yet; is = is-now (ap (onward (onFrom k)) (sym q ∙ e)) }
 
-    module _ {x : ℕ} (e : stepFrom k d ≡ At x) where
-      -- the last step
-      pub reached : k .left ≡ 0 → routeOf (k .past ++ (x ∷ [])) ≡ r
-      unfolding goOn
-      reached z = sym (is-now {y = routeOf (k .past ++ (x ∷ []))} (ap (onward (onFrom k)) e ∙ rw z refl))
+      module _ {x : ℕ} (e : s ≡ At x) where
+        -- the last step
+        pub reached : k .left ≡ 0 → routeOf (k .past ++ (x ∷ [])) ≡ r
+        unfolding goOn
+        reached z = sym (is-now {y = routeOf (k .past ++ (x ∷ []))} (ap (onward (onFrom k)) (sym q ∙ e) ∙ rw z refl))
 
-      -- one loop further in
-      pub inward : 1 ≤ k .left → Ahead r (further k x) 0 (rest k d outer)
-      inward m = record { is = is-now (ap (onward (onFrom k)) e ∙ opened _ _ _ _ (k .left) _ x m) }
+        -- one loop further in
+        pub inward : 1 ≤ k .left → Ahead found r (further k x) 0 (rest k d outer)
+        inward m = record { yet = p .yet; is = is-now (ap (onward (onFrom k)) (sym q ∙ e) ∙ opened _ _ _ _ (k .left) _ x m) }
 
-    -- and out of it again: what is left there is what is left here
-    pub outward : r ≡ rest k d outer → Ahead r k (d + 1) outer
-    outward e = record { is = e }
+-- out of a loop again: what it has left is what is left outside
+pub outward : (d : ℕ) {e : ℕ} {found r : Found} {k m : Stand} {outer : Found} → Ahead found r m e (rest k d outer) → 6 ≤ e → Ahead found r k (d + 1) outer
+outward d p l = record { yet = p .yet; is = over p l }
+
+-- out of all
+pub done : {found r : Found} {k : Stand} {d : ℕ} → Ahead found r k d Nothing → 6 ≤ d → found ≡ r
+done p l = p .yet ∙ sym (over p l)

@@ -16,7 +16,7 @@ add-if1 c = search needs
 
 returns : tie.Need-returns
 returns c =
-    let s = (c .before .before .before) in
+    let s = c .before .before .before in
     let w = s .pre .0 .view .width in
     sym (enters-near _ _ _ _ _ (λ e. c .if1 .taken (c .before .distance .ensures ∙ ap (λ (w : ℕ). distanceOf w (s .args .start) (s .args .x)) w ∙ e)))
 
@@ -25,7 +25,7 @@ refuge-requires c κs = search needs
 
 returns-2 : tie.Need-returns-2
 returns-2 c =
-    let s = (c .before .before .before .before) in
+    let s = c .before .before .before .before in
     let w = s .pre .0 .view .width in
     c .refuge .ensures ∙ sym (enters-away _ _ _ _ _ (ap (λ (w : ℕ). distanceOf w (s .args .start) (s .args .x)) (sym w) ∙ sym (c .before .before .distance .ensures) ∙ c .before .if1 .left))
 

@@ -11,9 +11,6 @@ use Rattle.routes.specs.Legal.{legal}
 use Rattle.routes.proofs.Legal.{wrong-length, right-length, Still, all-passed, stopped, passed}
 use Rattle.routes.proofs.is_legal.Statement.{statement}
 use Rattle.routes.proofs.is_legal.Tie as tie
-use Rattle.routes.proofs.is_legal.Reads as reads
-use Rattle.routes.proofs.is_legal.Lts as lts
-use Rattle.routes.proofs.steps_to.Reads as steps-to-reads
 
 abbrev Inv-loop : tie.InvT-loop
 Inv-loop p v f start n route a₀ i₀ a i = (i ≤ n) × Still (legal (board p) f start n route) (board p) f start i a route
@@ -37,7 +34,7 @@ cast-x : tie.Need-cast-x Inv-loop μ-loop
 cast-x c = omega (arith, c .shared-slice-known3 .given (c .before .before .loop .i))
 
 steps-to-requires : tie.Need-steps-to-requires Inv-loop μ-loop
-steps-to-requires c κs = (c .before .before .before .before .before .before .pre .0, c .before .before .before .before .before .before .pre .1, omega arith)
+steps-to-requires c κs = search needs
 
 returns-2 : tie.Need-returns-2 Inv-loop μ-loop
 returns-2 c =

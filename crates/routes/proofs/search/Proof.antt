@@ -1,26 +1,20 @@
 -- `routes::search` meets its contract: at each turn of a loop the answer is what is still ahead (Ahead.antt).
 -- The measures are how many directions are left.
 -- Assumes nothing.
-use Prim.Native.Nat.{_-_, _≤_}
-use mathlib.Core.Path.{_≡_, sym, refl, _∙_}
+use Prim.Native.Nat.{_-_}
 use native.Mathlib.Omega.{arith}
 use borrow.Author.Needs.{needs}
 use Rattle.position.specs.Board.{board}
 use Rattle.routes.specs.declared.Found.the-variants.{Nothing}
 use Rattle.routes.specs.Search.{firstRoute}
-use Rattle.routes.proofs.Ahead.{from, further, rest, Ahead, begins, over, none, reached, inward, outward}
+use Rattle.routes.proofs.Ahead.{from, further, rest, Ahead, begins, none, reached, inward, outward, done}
 use Rattle.routes.proofs.search.Statement.{statement}
 use Rattle.routes.proofs.search.Tie as tie
-use Rattle.routes.proofs.search.Reads as reads
-use Rattle.routes.proofs.search.Lts as lts
-use Rattle.routes.proofs.step.Reads as step-reads
 
 abbrev Inv-loop2 : tie.InvT-loop2
 Inv-loop2 p v f start n found₀ d1 a d2 b d3₀ found d3 =
     let k = from (board p) f start n in
-    (d3 ≤ 6)
-    × (found ≡ Nothing)
-    × Ahead (firstRoute (board p) f start n) (further (further k a) b) d3 (rest (further k a) d2 (rest k d1 Nothing))
+    Ahead found (firstRoute (board p) f start n) (further (further k a) b) d3 (rest (further k a) d2 (rest k d1 Nothing))
 
 abbrev μ-loop2 : tie.MeasureT-loop2
 μ-loop2 p v f start n found₀ d1 a d2 b d3₀ found d3 = 6 - d3
@@ -28,23 +22,22 @@ abbrev μ-loop2 : tie.MeasureT-loop2
 abbrev Inv-loop : tie.InvT-loop
 Inv-loop p v f start n found₀ d1 a d2₀ found d2 =
     let k = from (board p) f start n in
-    (d2 ≤ 6) × (found ≡ Nothing) × Ahead (firstRoute (board p) f start n) (further k a) d2 (rest k d1 Nothing)
+    Ahead found (firstRoute (board p) f start n) (further k a) d2 (rest k d1 Nothing)
 
 abbrev μ-loop : tie.MeasureT-loop
 μ-loop p v f start n found₀ d1 a d2₀ found d2 = 6 - d2
 
 abbrev Inv-search : tie.InvT-search
-Inv-search p v f start n found₀ d1₀ found d1 =
-    (d1 ≤ 6) × (found ≡ Nothing) × Ahead (firstRoute (board p) f start n) (from (board p) f start n) d1 Nothing
+Inv-search p v f start n found₀ d1₀ found d1 = Ahead found (firstRoute (board p) f start n) (from (board p) f start n) d1 Nothing
 
 abbrev μ-search : tie.MeasureT-search
 μ-search p v f start n found₀ d1₀ found d1 = 6 - d1
 
 search-holds : tie.Need-search-holds Inv-loop2 μ-loop2 Inv-loop μ-loop Inv-search μ-search
-search-holds c = (omega arith, refl, begins _ _ _ _ (omega arith))
+search-holds c = begins _ _ _ _ (omega arith)
 
 step-requires : tie.Need-step-requires Inv-loop2 μ-loop2 Inv-loop μ-loop Inv-search μ-search
-step-requires c κs = (c .before .before .before .pre .0, c .before .before .before .pre .1, omega arith, c .search-test .taken)
+step-requires c κs = search needs
 
 enum-known-a : tie.Need-enum-known-a Inv-loop2 μ-loop2 Inv-loop μ-loop Inv-search μ-search
 enum-known-a c = search needs
@@ -59,13 +52,18 @@ search-less : tie.Need-search-less Inv-loop2 μ-loop2 Inv-loop μ-loop Inv-searc
 search-less c = omega arith
 
 search-again : tie.Need-search-again Inv-loop2 μ-loop2 Inv-loop μ-loop Inv-search μ-search
-search-again c = (omega arith, c .before .before .before .before .search .inv .1, none (c .before .before .before .before .search .inv .2) (c .before .before .before .search-test .taken) (sym (c .before .before .step .ensures) ∙ c .enum-told .given .1))
+search-again c =
+    let s = c .before .before in
+    none (s .before .before .search .inv) (s .before .search-test .taken) (s .step .ensures) (c .enum-told .given .1)
 
 loop-holds : tie.Need-loop-holds Inv-loop2 μ-loop2 Inv-loop μ-loop Inv-search μ-search
-loop-holds c = (omega arith, c .before .before .before .before .before .before .search .inv .1, inward (c .before .before .before .before .before .before .search .inv .2) (c .before .before .before .before .before .search-test .taken) (sym (c .before .before .before .before .step .ensures) ∙ c .before .before .a .given .1) (omega arith))
+loop-holds c =
+    let s = c .before .before .before .before in
+    inward (s .before .before .search .inv) (s .before .search-test .taken) (s .step .ensures) (c .before .before .a .given .1)
+    (omega arith)
 
 step-requires-2 : tie.Need-step-requires-2 Inv-loop2 μ-loop2 Inv-loop μ-loop Inv-search μ-search
-step-requires-2 c κs = (c .before .before .before .before .before .before .before .before .before .before .pre .0, c .before .before .before .before .before .before .before .before .before .before .pre .1, omega arith, c .loop-test .taken)
+step-requires-2 c κs = search needs
 
 enum-known-b : tie.Need-enum-known-b Inv-loop2 μ-loop2 Inv-loop μ-loop Inv-search μ-search
 enum-known-b c = search needs
@@ -80,13 +78,18 @@ loop-less : tie.Need-loop-less Inv-loop2 μ-loop2 Inv-loop μ-loop Inv-search μ
 loop-less c = omega arith
 
 loop-again : tie.Need-loop-again Inv-loop2 μ-loop2 Inv-loop μ-loop Inv-search μ-search
-loop-again c = (omega arith, c .before .before .before .before .loop .inv .1, none (c .before .before .before .before .loop .inv .2) (c .before .before .before .loop-test .taken) (sym (c .before .before .step2 .ensures) ∙ c .enum-told2 .given .1))
+loop-again c =
+    let s = c .before .before in
+    none (s .before .before .loop .inv) (s .before .loop-test .taken) (s .step2 .ensures) (c .enum-told2 .given .1)
 
 loop2-holds : tie.Need-loop2-holds Inv-loop2 μ-loop2 Inv-loop μ-loop Inv-search μ-search
-loop2-holds c = (omega arith, c .before .before .before .before .before .before .loop .inv .1, inward (c .before .before .before .before .before .before .loop .inv .2) (c .before .before .before .before .before .loop-test .taken) (sym (c .before .before .before .before .step2 .ensures) ∙ c .before .before .b .given .1) (omega arith))
+loop2-holds c =
+    let s = c .before .before .before .before in
+    inward (s .before .before .loop .inv) (s .before .loop-test .taken) (s .step2 .ensures) (c .before .before .b .given .1)
+    (omega arith)
 
 step-requires-3 : tie.Need-step-requires-3 Inv-loop2 μ-loop2 Inv-loop μ-loop Inv-search μ-search
-step-requires-3 c κs = (c .before .before .before .before .before .before .before .before .before .before .before .before .before .before .before .before .before .pre .0, c .before .before .before .before .before .before .before .before .before .before .before .before .before .before .before .before .before .pre .1, omega arith, c .loop2-test .taken)
+step-requires-3 c κs = search needs
 
 enum-known-c : tie.Need-enum-known-c Inv-loop2 μ-loop2 Inv-loop μ-loop Inv-search μ-search
 enum-known-c c = search needs
@@ -101,7 +104,9 @@ loop2-less : tie.Need-loop2-less Inv-loop2 μ-loop2 Inv-loop μ-loop Inv-search 
 loop2-less c = omega arith
 
 loop2-again : tie.Need-loop2-again Inv-loop2 μ-loop2 Inv-loop μ-loop Inv-search μ-search
-loop2-again c = (omega arith, c .before .before .before .before .loop2 .inv .1, none (c .before .before .before .before .loop2 .inv .2) (c .before .before .before .loop2-test .taken) (sym (c .before .before .step3 .ensures) ∙ c .enum-told3 .given .1))
+loop2-again c =
+    let s = c .before .before in
+    none (s .before .before .loop2 .inv) (s .before .loop2-test .taken) (s .step3 .ensures) (c .enum-told3 .given .1)
 
 add-d2-2 : tie.Need-add-d2-2 Inv-loop2 μ-loop2 Inv-loop μ-loop Inv-search μ-search
 add-d2-2 c = omega arith
@@ -110,7 +115,7 @@ loop-less-2 : tie.Need-loop-less-2 Inv-loop2 μ-loop2 Inv-loop μ-loop Inv-searc
 loop-less-2 c = omega arith
 
 loop-again-2 : tie.Need-loop-again-2 Inv-loop2 μ-loop2 Inv-loop μ-loop Inv-search μ-search
-loop-again-2 c = (omega arith, c .before .loop2 .inv .1, outward (c .before .before .before .before .before .before .before .before .loop .inv .2) (omega arith) (over (c .before .loop2 .inv .2) (c .loop2-test .left)))
+loop-again-2 c = outward _ (c .before .loop2 .inv) (c .loop2-test .left)
 
 add-d1-2 : tie.Need-add-d1-2 Inv-loop2 μ-loop2 Inv-loop μ-loop Inv-search μ-search
 add-d1-2 c = omega arith
@@ -119,19 +124,30 @@ search-less-2 : tie.Need-search-less-2 Inv-loop2 μ-loop2 Inv-loop μ-loop Inv-s
 search-less-2 c = omega arith
 
 search-again-2 : tie.Need-search-again-2 Inv-loop2 μ-loop2 Inv-loop μ-loop Inv-search μ-search
-search-again-2 c = (omega arith, c .before .loop .inv .1, outward (c .before .before .before .before .before .before .before .before .search .inv .2) (omega arith) (over (c .before .loop .inv .2) (c .loop-test .left)))
+search-again-2 c = outward _ (c .before .loop .inv) (c .loop-test .left)
 
 returns : tie.Need-returns Inv-loop2 μ-loop2 Inv-loop μ-loop Inv-search μ-search
-returns c = c .before .search .inv .1 ∙ sym (over (c .before .search .inv .2) (c .search-test .left))
+returns c = done (c .before .search .inv) (c .search-test .left)
 
 returns-2 : tie.Need-returns-2 Inv-loop2 μ-loop2 Inv-loop μ-loop Inv-search μ-search
-returns-2 c = reached (c .before .before .before .before .before .before .search .inv .2) (c .before .before .before .before .before .search-test .taken) (sym (c .before .before .before .before .step .ensures) ∙ c .before .before .a .given .1) (omega arith)
+returns-2 c =
+    let s = c .before .before .before .before in
+    reached (s .before .before .search .inv) (s .before .search-test .taken) (s .step .ensures) (c .before .before .a .given .1)
+    (omega arith)
 
 returns-3 : tie.Need-returns-3 Inv-loop2 μ-loop2 Inv-loop μ-loop Inv-search μ-search
-returns-3 c = reached (c .before .before .before .before .before .before .loop .inv .2) (omega arith) (sym (c .before .before .before .before .step2 .ensures) ∙ c .before .before .b .given .1) (omega arith)
+returns-3 c =
+    let s = c .before .before .before .before in
+    reached (s .before .before .loop .inv) (s .before .loop-test .taken) (s .step2 .ensures) (c .before .before .b .given .1)
+    (omega arith)
 
 returns-4 : tie.Need-returns-4 Inv-loop2 μ-loop2 Inv-loop μ-loop Inv-search μ-search
-returns-4 c = reached (c .before .before .before .before .before .loop2 .inv .2) (omega arith) (sym (c .before .before .before .step3 .ensures) ∙ c .before .c .given .1) (omega (arith, c .before .before .before .before .before .before .before .before .before .before .before .before .before .before .before .before .before .before .before .before .before .pre .3))
+returns-4 c =
+    let s = c .before .before .before in
+    let s2 = s .before .before .before .before .before .before .before in
+    let s1 = s2 .before .before .before .before .before .before .before in
+    reached (s .before .before .loop2 .inv) (s .before .loop2-test .taken) (s .step3 .ensures) (c .before .c .given .1)
+    (omega (arith, s1 .before .before .before .before .pre .3))
 
 pub search-spec : {M : Type 1} → statement M
 search-spec =

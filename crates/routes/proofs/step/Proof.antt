@@ -7,10 +7,6 @@ use Rattle.routes.specs.Search.{entered, stepOf}
 use Rattle.routes.proofs.Steps.{next-in}
 use Rattle.routes.proofs.step.Statement.{statement}
 use Rattle.routes.proofs.step.Tie as tie
-use Rattle.routes.proofs.step.Reads as reads
-use Rattle.routes.proofs.step.Lts as lts
-use Rattle.position.proofs.ground.next.Reads as next-reads
-use Rattle.routes.proofs.enters.Reads as enters-reads
 
 next-requires : tie.Need-next-requires
 next-requires c κs = search needs

@@ -7,10 +7,6 @@ use Rattle.routes.specs.Legal.{stepsTo}
 use Rattle.routes.proofs.Steps.{joined-in}
 use Rattle.routes.proofs.steps_to.Statement.{statement}
 use Rattle.routes.proofs.steps_to.Tie as tie
-use Rattle.routes.proofs.steps_to.Reads as reads
-use Rattle.routes.proofs.steps_to.Lts as lts
-use Rattle.position.proofs.ground.joined.Reads as joined-reads
-use Rattle.routes.proofs.enters.Reads as enters-reads
 
 joined-requires : tie.Need-joined-requires
 joined-requires c κs = search needs
