@@ -1,9 +1,9 @@
 -- The search finds the first legal route, and nothing only where there is none.
 -- Assumes nothing.
 use Prim.Native.Nat.{ℕ, zero, suc, _+_, _≤_, _<_}
-use mathlib.Core.Path.{_≡_, refl, sym, ap, subst, _∙_}
+use mathlib.Core.Path.{_≡_, refl, sym, ap, subst}
 use mathlib.Core.List.{List, [], _∷_, _++_, append-assoc}
-use mathlib.Core.Bool.{Bool, true, false}
+use mathlib.Core.Bool.{true, false}
 use native.Mathlib.Omega.{arith}
 use native.Mathlib.Decide.{ℕ-discrete}
 use mathlib.Core.Logic.{_↔_}
@@ -28,7 +28,6 @@ use Rattle.routes.specs.Search.{
   same,
   sooner,
   later,
-  FirstRoute,
   Searched,
   found,
   FirstRight,

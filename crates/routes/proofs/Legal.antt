@@ -11,7 +11,7 @@ use lib.Seq.{drop-cons}
 use borrow.Author.Tests.{eqb-true, eq-eqb, ne-eqb}
 use Rattle.position.specs.Board.{Board}
 use Rattle.position.proofs.Tallies.{both-yes}
-use Rattle.routes.specs.Run.{Run, stay, go, LegalRoute}
+use Rattle.routes.specs.Run.{Run, stay, go}
 use Rattle.routes.specs.Legal.{stepsTo, along, legal, LegalRight}
 use Rattle.routes.proofs.Steps.{steps-step, step-steps}
 

@@ -1,9 +1,9 @@
 -- Laws of one step of a run: as a fact, as a test, and by its direction.
 -- Assumes nothing.
-use Prim.Native.Nat.{ℕ, _+_, _*_, _<_}
+use Prim.Native.Nat.{ℕ, _+_, _<_}
 use mathlib.Core.Path.{_≡_, refl, sym, ap, _∙_}
 use mathlib.Core.List.{List}
-use mathlib.Core.Bool.{Bool, true, false, _&&_, cond}
+use mathlib.Core.Bool.{Bool, true, false, cond}
 use native.Mathlib.Omega.{arith}
 use lib.Dec.{eqb}
 use borrow.Author.Tests.{eqb-true, eq-eqb, ne-eqb}
@@ -13,10 +13,10 @@ use Rattle.grid.specs.Map.{On}
 use Rattle.grid.specs.Walk.{distanceOf}
 use Rattle.grid.proofs.Laws.{on-map, direction}
 use Rattle.position.specs.declared.View.{View}
-use Rattle.position.specs.Layout.{width, height, hexes}
+use Rattle.position.specs.Layout.{width, hexes}
 use Rattle.position.specs.Laid.{Laid}
-use Rattle.position.specs.Board.{Board, Map, board, ground}
-use Rattle.position.specs.Ground.{beside, side, blockedSide, next, isAt, joined}
+use Rattle.position.specs.Board.{Board, Map, ground}
+use Rattle.position.specs.Ground.{beside, next, isAt, joined}
 use Rattle.position.proofs.Tallies.{both-yes, not-both, any-some, any-true}
 use Rattle.position.proofs.Sides.{next-blocked, next-beside, reaches, joined-is}
 use Rattle.routes.specs.Bears.{refuge}
@@ -40,6 +40,9 @@ on-view {p} {v} l x e =
       high64 = omega (arith, l .shaped .height .high);
       below = rw (w, h) (omega (arith, l .view .hexes));
     }
+
+pub far-view : {p : List ℕ} {v : View} → Laid p v → (start x : ℕ) → distanceOf (v .width) start x ≡ distanceOf (width p) start x
+far-view l start x = ap (λ (w : ℕ). distanceOf w start x) (l .view .width)
 
 -- a step over an unblocked side leads to the neighbour, a hex of the map, in one of six directions
 module _ (m : Map) (a d x : ℕ) (e : next m a d ≡ At x) where
@@ -111,7 +114,21 @@ module _ (b : Board) (f start i a : ℕ) where
   step-steps {d} {x} s =
       simp (next-joined (b .map) a x d (s .leads), enters-away b f start i x (s .away), s .into)
 
-  -- and by its direction
+  -- and by its direction: no step, one into a hex that may be entered, and one that may not
+  module _ (d : ℕ) {s : Beside} (q : s ≡ next (b .map) a d) where
+    pub step-off : s ≡ Off → Off ≡ stepOf b f start i a d
+    unfolding stepOf entered
+    step-off e = simp (sym q ∙ e)
+
+    module _ {x : ℕ} {t : Bool} (e : s ≡ At x) (r : t ≡ enters b f start i x) where
+      pub step-lands : t ≡ true → At x ≡ stepOf b f start i a d
+      unfolding stepOf entered
+      step-lands g = simp (sym q ∙ e, sym r ∙ g)
+
+      pub step-barred : t ≡ false → Off ≡ stepOf b f start i a d
+      unfolding stepOf entered
+      step-barred g = simp (sym q ∙ e, sym r ∙ g)
+
   module _ (d x : ℕ) where
     lands : (y : ℕ) (t : Bool) → next (b .map) a d ≡ At y → enters b f start i y ≡ t → cond t (At y) Off ≡ At x → Step b f start i a d x
     lands y true e g q =

@@ -1,16 +1,16 @@
 -- A run is a legal route in the document's words: what ends at distance n after n steps was at distance i after i steps.
 -- Assumes nothing.
-use Prim.Native.Nat.{ℕ, zero, suc, _+_}
-use mathlib.Core.Path.{_≡_, refl, sym, ap, subst, _∙_}
-use mathlib.Core.List.{List, [], _∷_}
+use Prim.Native.Nat.{ℕ, _+_}
+use mathlib.Core.Path.{_≡_, subst}
+use mathlib.Core.List.{List}
 use native.Mathlib.Omega.{arith}
 use lib.ListN.{length}
 use Rattle.grid.specs.Map.{On}
 use Rattle.grid.specs.Walk.{Walk, here, step, Distance, distanceOf}
 use Rattle.grid.proofs.Laws.{then, closed, measured, same-zero, first-part}
 use Rattle.position.specs.Board.{Board}
-use Rattle.routes.specs.Run.{Run, stay, go, LegalRoute}
-use Rattle.routes.specs.Words.{Steps, ended, into, Worded, RunsAsWorded}
+use Rattle.routes.specs.Run.{Run, stay, go}
+use Rattle.routes.specs.Words.{Steps, stop, enter, RunsAsWorded}
 use Rattle.routes.proofs.Steps.{next-over, next-on}
 
 module _ (b : Board) (f : ℕ) where
@@ -24,17 +24,17 @@ module _ (b : Board) (f : ℕ) where
   Far a x n = Distance (b .map .width) (b .map .height) a x n
 
   ends-on : {a last : ℕ} {route : List ℕ} → Onto a → Steps b f a route last → Onto last
-  ends-on o ended = o
-  ends-on o (into {a} {x} d e r k) = ends-on (next-on (b .map) a d x e) k
+  ends-on o stop = o
+  ends-on o (enter {a} {x} d e r k) = ends-on (next-on (b .map) a d x e) k
 
   walked : {a last : ℕ} {route : List ℕ} → Onto a → Steps b f a route last → Walked a last (length route)
-  walked o ended = here o
-  walked o (into {a} {x} d e r k) = step d (next-over (b .map) a d x e) (walked (next-on (b .map) a d x e) k)
+  walked o stop = here o
+  walked o (enter {a} {x} d e r k) = step d (next-over (b .map) a d x e) (walked (next-on (b .map) a d x e) k)
 
   module _ (start : ℕ) where
     steps-of : {i a last : ℕ} {route : List ℕ} → Run b f start i a route last → Steps b f a route last
-    steps-of stay = ended
-    steps-of (go d s k) = into d (s .leads) (s .into) (steps-of k)
+    steps-of stay = stop
+    steps-of (go d s k) = enter d (s .leads) (s .into) (steps-of k)
 
     -- a run that is at distance i after i steps ends as far away as it has steps
     away : {i a last : ℕ} {route : List ℕ} → distanceOf (b .map .width) start a ≡ i → Run b f start i a route last
@@ -45,8 +45,8 @@ module _ (b : Board) (f : ℕ) where
     -- steps that go on from hex a after i steps, and end as far away as there are steps, are a run
     runs : {i a last : ℕ} {route : List ℕ} → Walked start a i → Steps b f a route last → Far start last (i + length route)
         → Run b f start i a route last
-    runs w ended p = stay
-    runs {i} w (into {a} {x} {last} {route} d e r k) p =
+    runs w stop p = stay
+    runs {i} w (enter {a} {x} {last} {route} d e r k) p =
         let n = next-on (b .map) a d x e in
         let w1 : Walked start x (i + 1) = then w (step d (next-over (b .map) a d x e) (here n)) in
         let q : Far start last (i + 1 + length route) = subst (λ (m : ℕ). Far start last m) (omega arith) p in

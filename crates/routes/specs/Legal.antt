@@ -26,7 +26,7 @@ unfoldable pub along : Board → ℕ → ℕ → ℕ → ℕ → List ℕ → Bo
 along b f start i a [] = true
 along b f start i a (x ∷ route) = stepsTo b f start i a x && along b f start (suc i) x route
 
--- "route not legal" is refused: this is the test
+-- a route is legal: this is asked where "route not legal though one exists" is refused
 unfoldable pub legal : Board → ℕ → ℕ → ℕ → List ℕ → Bool
 legal b f start n route = eqb (length route) n && along b f start 0 start route
 

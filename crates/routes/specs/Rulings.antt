@@ -2,7 +2,7 @@
 -- Assumes nothing.
 use Prim.Native.Nat.{ℕ}
 use mathlib.Core.List.{List, [], _∷_}
-use mathlib.Core.Bool.{Bool, true, false}
+use mathlib.Core.Bool.{true, false}
 use Rattle.grid.specs.Rulings.{Row, row, gridOpen}
 use Rattle.position.specs.Tally.{any}
 use Rattle.position.specs.Board.{Board, nowhere, enemy}

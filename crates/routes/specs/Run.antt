@@ -11,8 +11,8 @@ use Rattle.position.specs.Board.{Board}
 use Rattle.position.specs.Ground.{next}
 use Rattle.routes.specs.Bears.{refuge}
 
--- after i steps from the start a group of force f goes on from hex a, over the unblocked side in direction d, into hex x, a refuge at
--- distance i + 1
+-- "steps over unblocked sides, into vacant unprohibited land or coast outside Enemy zones": after i steps from the start a group of force f
+-- goes on from hex a in direction d into hex x, at distance i + 1
 pub record Step (b : Board) (f start i a d x : ℕ) : Type 0 where
   pub leads : next (b .map) a d ≡ At x
   pub into : refuge b f x ≡ true
@@ -23,7 +23,7 @@ pub data Run (b : Board) (f start : ℕ) : ℕ → ℕ → List ℕ → ℕ → 
   stay : {i a : ℕ} → Run b f start i a [] a
   go : {i a x last : ℕ} {route : List ℕ} (d : ℕ) → Step b f start i a d x → Run b f start (suc i) x route last → Run b f start i a (x ∷ route) last
 
--- a legal route: a run of exactly n hexes from the start. Words.antt has the document's line on it
+-- "Legal: n steps .., ending at distance n": a run of n hexes from the start. Words.antt has this line word by word, and the two agree
 pub record LegalRoute (b : Board) (f start n : ℕ) (route : List ℕ) : Type 0 where
   pub long : length route ≡ n
   pub last : ℕ

@@ -1,4 +1,4 @@
--- "The search tries directions in clockwise order and stops at the first legal route found."
+-- The search for a legal route.
 -- Assumes nothing.
 use Prim.Native.Nat.{ℕ, zero, suc, _<_}
 use mathlib.Core.Path.{_≡_}
@@ -47,10 +47,11 @@ goOn b f start i zero past a = routeOf past
 goOn b f start i (suc left) past a =
     firstOf 6 0 (λ d. onward (λ x. goOn b f start (suc i) left (past ++ (x ∷ [])) x) (stepOf b f start i a d))
 
+-- "The search tries directions in clockwise order and stops at the first legal route found."
 unfoldable pub firstRoute : Board → ℕ → ℕ → ℕ → Found
 firstRoute b f start n = goOn b f start 0 n [] start
 
--- a run's directions, and the clockwise order: the first direction in which two runs differ decides
+-- a run's directions, and "clockwise order": the first direction in which two runs differ decides
 abbrev pub headings : {b : Board} {f start i a last : ℕ} {route : List ℕ} → Run b f start i a route last → List ℕ
 headings stay = []
 headings (go d s k) = d ∷ headings k

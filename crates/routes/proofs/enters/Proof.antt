@@ -1,10 +1,8 @@
 -- `routes::enters` meets its contract: the distance by the view's width is the distance on the board.
 -- Assumes nothing.
-use Prim.Native.Nat.{ℕ}
-use mathlib.Core.Path.{sym, ap, _∙_}
+use mathlib.Core.Path.{sym, _∙_}
 use borrow.Author.Needs.{needs}
-use Rattle.grid.specs.Walk.{distanceOf}
-use Rattle.routes.proofs.Steps.{on-view, enters-near, enters-away}
+use Rattle.routes.proofs.Steps.{on-view, far-view, enters-near, enters-away}
 use Rattle.routes.proofs.enters.Statement.{statement}
 use Rattle.routes.proofs.enters.Tie as tie
 
@@ -16,18 +14,16 @@ add-if1 c = search needs
 
 returns : tie.Need-returns
 returns c =
-    let s = c .before .before .before in
-    let w = s .pre .0 .view .width in
-    sym (enters-near _ _ _ _ _ (λ e. c .if1 .taken (c .before .distance .ensures ∙ ap (λ (w : ℕ). distanceOf w (s .args .start) (s .args .x)) w ∙ e)))
+    let l = c .before .before .before .pre .0 in
+    sym (enters-near _ _ _ _ _ (λ e. c .if1 .taken (c .before .distance .ensures ∙ far-view l _ _ ∙ e)))
 
 refuge-requires : tie.Need-refuge-requires
 refuge-requires c κs = search needs
 
 returns-2 : tie.Need-returns-2
 returns-2 c =
-    let s = c .before .before .before .before in
-    let w = s .pre .0 .view .width in
-    c .refuge .ensures ∙ sym (enters-away _ _ _ _ _ (ap (λ (w : ℕ). distanceOf w (s .args .start) (s .args .x)) (sym w) ∙ sym (c .before .before .distance .ensures) ∙ c .before .if1 .left))
+    let l = c .before .before .before .before .pre .0 in
+    c .refuge .ensures ∙ sym (enters-away _ _ _ _ _ (sym (far-view l _ _) ∙ sym (c .before .before .distance .ensures) ∙ c .before .if1 .left))
 
 pub enters-spec : {M : Type 1} → statement M
 enters-spec = tie.close (tie.spec distance-requires add-if1 returns refuge-requires returns-2)

@@ -1,10 +1,8 @@
 -- `routes::step` meets its contract, test by test.
 -- Assumes nothing.
-use mathlib.Core.Path.{sym, ap, _∙_}
-use native.Mathlib.Omega.{arith}
+use mathlib.Core.Path.{sym, _∙_}
 use borrow.Author.Needs.{needs}
-use Rattle.routes.specs.Search.{entered, stepOf}
-use Rattle.routes.proofs.Steps.{next-in}
+use Rattle.routes.proofs.Steps.{next-in, step-off, step-lands, step-barred}
 use Rattle.routes.proofs.step.Statement.{statement}
 use Rattle.routes.proofs.step.Tie as tie
 
@@ -18,8 +16,7 @@ enum-told : tie.Need-enum-told
 enum-told c = search needs
 
 returns : tie.Need-returns
-unfolding stepOf entered
-returns c = simp (sym (c .before .before .next .ensures) ∙ c .enum-told .given .1)
+returns c = step-off _ _ _ _ _ _ (c .before .before .next .ensures) (c .enum-told .given .1)
 
 enters-requires : tie.Need-enters-requires
 enters-requires c κs =
@@ -27,12 +24,14 @@ enters-requires c κs =
     (s .0, s .1, next-in (s .0) _ _ _ (sym (c .before .before .before .next .ensures) ∙ c .before .x .given .1), s .2)
 
 returns-2 : tie.Need-returns-2
-unfolding stepOf entered
-returns-2 c = simp (sym (c .before .before .before .before .before .next .ensures) ∙ c .before .before .before .x .given .1, sym (c .before .enters .ensures) ∙ c .if1 .taken)
+returns-2 c =
+    let x = c .before .before .before in
+    step-lands _ _ _ _ _ _ (x .before .before .next .ensures) (x .x .given .1) (c .before .enters .ensures) (c .if1 .taken)
 
 returns-3 : tie.Need-returns-3
-unfolding stepOf entered
-returns-3 c = simp (sym (c .before .before .before .before .before .next .ensures) ∙ c .before .before .before .x .given .1, sym (c .before .enters .ensures) ∙ c .if1 .left)
+returns-3 c =
+    let x = c .before .before .before in
+    step-barred _ _ _ _ _ _ (x .before .before .next .ensures) (x .x .given .1) (c .before .enters .ensures) (c .if1 .left)
 
 pub step-spec : {M : Type 1} → statement M
 step-spec =
