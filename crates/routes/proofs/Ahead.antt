@@ -114,7 +114,8 @@ module _ {found r : Found} {k : Stand} {d : ℕ} {outer : Found} (p : Ahead foun
         inward m = record { yet = p .yet; is = is-now (ap (onward (onFrom k)) (sym q ∙ e) ∙ opened _ _ _ _ (k .left) _ x m) }
 
 -- out of a loop again: what it has left is what is left outside
-pub outward : (d : ℕ) {e : ℕ} {found r : Found} {k m : Stand} {outer : Found} → Ahead found r m e (rest k d outer) → 6 ≤ e → Ahead found r k (d + 1) outer
+pub outward : (d : ℕ) {e : ℕ} {found r : Found} {k m : Stand} {outer : Found} → Ahead found r m e (rest k d outer) → 6 ≤ e
+    → Ahead found r k (d + 1) outer
 outward d p l = record { yet = p .yet; is = over p l }
 
 -- out of all

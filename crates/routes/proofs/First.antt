@@ -125,9 +125,11 @@ module _ (b : Board) (f start : ℕ) where
         → AnswerFrom i left past a d (firstOf k d (tries i left past a))
     unfolding firstOf
     all-turns g zero d e = λ u l. omega (arith, next-dir (b .map) a (u .dir) (u .hex) (u .step .leads))
-    all-turns g (suc k) d e = turn i left past a d g (stepOf b f start i a d) refl (firstOf k (suc d) (tries i left past a)) (all-turns g k (suc d) (omega arith))
+    all-turns g (suc k) d e =
+        turn i left past a d g (stepOf b f start i a d) refl (firstOf k (suc d) (tries i left past a)) (all-turns g k (suc d) (omega arith))
 
-    apart : {last : ℕ} {route : List ℕ} (k : Run b f start i a route last) → length route ≡ suc left → (t : Turn i left a) × (headings k ≡ turns t)
+    apart : {last : ℕ} {route : List ℕ} (k : Run b f start i a route last) → length route ≡ suc left
+        → (t : Turn i left a) × (headings k ≡ turns t)
     apart stay e = absurd (omega arith)
     apart (go {i} {a} {x} {last} {route} d s k) e =
         (record { dir = d; hex = x; step = s; way = record { route = route; long = omega arith; last = last; run = k } }, refl)

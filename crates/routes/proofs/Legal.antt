@@ -33,19 +33,19 @@ module _ {t : Bool} {b : Board} {f start i a : ℕ} {route : List ℕ} (s : Stil
   unfolding along
   all-passed l = s .is ∙ rw (drop-of-length-le route l) refl
 
-  module _ {x : ℕ} (l : i < length route) (e : x ≡ getD route i 0) where
-    next : (r : Bool) → stepsTo b f start i a x ≡ r → t ≡ (r && along b f start (i + 1) x (drop (i + 1) route))
+  module _ {x : ℕ} {r : Bool} (l : i < length route) (e : x ≡ getD route i 0) (q : r ≡ stepsTo b f start i a x) where
+    next : t ≡ (r && along b f start (i + 1) x (drop (i + 1) route))
     unfolding along
-    next r q = s .is ∙ rw (drop-cons route i 0 l, ← e, q, add-one) refl
+    next = s .is ∙ rw (drop-cons route i 0 l, ← e, ← q, add-one) refl
 
-    pub stopped : stepsTo b f start i a x ≡ false → t ≡ false
-    stopped q = next false q
+    pub stopped : r ≡ false → t ≡ false
+    stopped h = rw h at next
 
-    pub passed : stepsTo b f start i a x ≡ true → Still t b f start (i + 1) x route
-    passed q = record { is = next true q }
+    pub passed : r ≡ true → Still t b f start (i + 1) x route
+    passed h = record { is = rw h at next }
 
 -- a run by its test
-pub record Runs (b : Board) (f start i a : ℕ) (route : List ℕ) : Type 0 where
+record Runs (b : Board) (f start i a : ℕ) (route : List ℕ) : Type 0 where
   pub last : ℕ
   pub run : Run b f start i a route last
 

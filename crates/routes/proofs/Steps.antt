@@ -130,7 +130,8 @@ module _ (b : Board) (f start i a : ℕ) where
       step-barred g = simp (sym q ∙ e, sym r ∙ g)
 
   module _ (d x : ℕ) where
-    lands : (y : ℕ) (t : Bool) → next (b .map) a d ≡ At y → enters b f start i y ≡ t → cond t (At y) Off ≡ At x → Step b f start i a d x
+    lands : (y : ℕ) (t : Bool) → next (b .map) a d ≡ At y → enters b f start i y ≡ t → cond t (At y) Off ≡ At x
+        → Step b f start i a d x
     lands y true e g q =
         let yx : y ≡ x = cc in
         let k = enters-is b f start i x (rw yx at g) in

@@ -4,3 +4,4 @@ pub mod Words
 pub mod Legal
 pub mod Search
 pub mod Rulings
+pub mod Examples

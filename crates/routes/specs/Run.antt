@@ -21,7 +21,9 @@ pub record Step (b : Board) (f start i a d x : ℕ) : Type 0 where
 -- the hexes of a run that goes on from hex a after i steps, and its last hex, which is a itself if it has none
 pub data Run (b : Board) (f start : ℕ) : ℕ → ℕ → List ℕ → ℕ → Type 0 where
   stay : {i a : ℕ} → Run b f start i a [] a
-  go : {i a x last : ℕ} {route : List ℕ} (d : ℕ) → Step b f start i a d x → Run b f start (suc i) x route last → Run b f start i a (x ∷ route) last
+  go :
+      {i a x last : ℕ} {route : List ℕ} (d : ℕ) → Step b f start i a d x → Run b f start (suc i) x route last
+      → Run b f start i a (x ∷ route) last
 
 -- "Legal: n steps .., ending at distance n": a run of n hexes from the start. Words.antt has this line word by word, and the two agree
 pub record LegalRoute (b : Board) (f start n : ℕ) (route : List ℕ) : Type 0 where

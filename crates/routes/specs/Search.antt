@@ -15,14 +15,16 @@ use Rattle.routes.specs.declared.Found.the-variants.{Route, Nothing}
 use Rattle.routes.specs.Legal.{enters}
 use Rattle.routes.specs.Run.{Run, stay, go, LegalRoute, RouteExists}
 
--- the hex that a run goes on to from hex a in direction d after i steps, if it may
+-- the hex that a step leads to, if a run may enter it after i steps
 unfoldable pub entered : Board → ℕ → ℕ → ℕ → Beside → Beside
 entered b f start i (At x) = cond (enters b f start i x) (At x) Off
 entered b f start i Off = Off
 
+-- the hex that a run goes on to from hex a in direction d after i steps
 unfoldable pub stepOf : Board → ℕ → ℕ → ℕ → ℕ → ℕ → Beside
 stepOf b f start i a d = entered b f start i (next (b .map) a d)
 
+-- what is found first, or else what is found later
 abbrev pub orElse : Found → Found → Found
 orElse (Route x y z) r = Route x y z
 orElse Nothing r = r
@@ -41,7 +43,8 @@ onward search Off = Nothing
 abbrev pub routeOf : List ℕ → Found
 routeOf route = Route (getD route 0 nowhere) (getD route 1 nowhere) (getD route 2 nowhere)
 
--- the first run of `left` more hexes that goes on from hex a after i steps, with those that it has passed before it
+-- the first run of `left` more hexes that goes on from hex a after i steps, behind the hexes that it has passed. It goes on only from
+-- hexes that a run may enter, and looks at all six neighbours of each
 unfoldable pub goOn : Board → ℕ → ℕ → ℕ → ℕ → List ℕ → ℕ → Found
 goOn b f start i zero past a = routeOf past
 goOn b f start i (suc left) past a =

@@ -17,7 +17,9 @@ use Rattle.routes.specs.Run.{LegalRoute}
 -- "steps over unblocked sides, into vacant unprohibited land or coast outside Enemy zones": the hexes entered from hex a on, and the last
 pub data Steps (b : Board) (f : ℕ) : ℕ → List ℕ → ℕ → Type 0 where
   stop : {a : ℕ} → Steps b f a [] a
-  enter : {a x last : ℕ} {route : List ℕ} (d : ℕ) → next (b .map) a d ≡ At x → refuge b f x ≡ true → Steps b f x route last → Steps b f a (x ∷ route) last
+  enter :
+      {a x last : ℕ} {route : List ℕ} (d : ℕ) → next (b .map) a d ≡ At x → refuge b f x ≡ true → Steps b f x route last
+      → Steps b f a (x ∷ route) last
 
 -- "Legal: n steps .., ending at distance n."
 pub record Worded (b : Board) (f start n : ℕ) (route : List ℕ) : Type 0 where

@@ -2,7 +2,7 @@
 -- The measure is how many hexes are left.
 -- Assumes nothing.
 use Prim.Native.Nat.{_-_, _≤_}
-use mathlib.Core.Path.{sym, refl, _∙_}
+use mathlib.Core.Path.{sym, refl}
 use native.Mathlib.Omega.{arith}
 use borrow.Author.Needs.{needs}
 use borrow.Author.Tests.{not-true, not-false}
@@ -38,7 +38,8 @@ steps-to-requires c κs = search needs
 
 returns-2 : tie.Need-returns-2 Inv-loop μ-loop
 returns-2 c =
-    sym (stopped (c .before .before .before .before .loop .inv .1) (omega arith) refl (sym (c .before .steps-to .ensures) ∙ not-true _ (c .if2 .taken)))
+    let s = c .before .before .before .before in
+    sym (stopped (s .loop .inv .1) (omega arith) refl (c .before .steps-to .ensures) (not-true _ (c .if2 .taken)))
 
 add-i : tie.Need-add-i Inv-loop μ-loop
 add-i c = omega arith
@@ -48,7 +49,8 @@ loop-less c = omega arith
 
 loop-again : tie.Need-loop-again Inv-loop μ-loop
 loop-again c =
-    (omega arith, passed (c .before .before .before .before .loop .inv .1) (omega arith) refl (sym (c .before .steps-to .ensures) ∙ not-false _ (c .if2 .left)))
+    let s = c .before .before .before .before in
+    (omega arith, passed (s .loop .inv .1) (omega arith) refl (c .before .steps-to .ensures) (not-false _ (c .if2 .left)))
 
 returns-3 : tie.Need-returns-3 Inv-loop μ-loop
 returns-3 c = sym (all-passed (c .before .loop .inv .1) (omega arith))

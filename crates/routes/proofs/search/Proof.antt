@@ -106,7 +106,7 @@ loop2-less c = omega arith
 loop2-again : tie.Need-loop2-again Inv-loop2 μ-loop2 Inv-loop μ-loop Inv-search μ-search
 loop2-again c =
     let s = c .before .before in
-    none (s .before .before .loop2 .inv) (s .before .loop2-test .taken) (s .step3 .ensures) (c .enum-told3 .given .1)
+    none (s .before .before .loop2 .inv) (omega arith) (s .step3 .ensures) (c .enum-told3 .given .1)
 
 add-d2-2 : tie.Need-add-d2-2 Inv-loop2 μ-loop2 Inv-loop μ-loop Inv-search μ-search
 add-d2-2 c = omega arith
@@ -146,7 +146,7 @@ returns-4 c =
     let s = c .before .before .before in
     let s2 = s .before .before .before .before .before .before .before in
     let s1 = s2 .before .before .before .before .before .before .before in
-    reached (s .before .before .loop2 .inv) (s .before .loop2-test .taken) (s .step3 .ensures) (c .before .c .given .1)
+    reached (s .before .before .loop2 .inv) (omega arith) (s .step3 .ensures) (c .before .c .given .1)
     (omega (arith, s1 .before .before .before .before .pre .3))
 
 pub search-spec : {M : Type 1} → statement M
