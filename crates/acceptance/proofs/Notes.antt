@@ -91,7 +91,7 @@ module _ (b : Board) (u : ℕ) where
   unfolding leads
   leads-no e = simp (ne-eqb (b .units .role u) 1 e)
 
-owing-hexes-is : (b : Board) → owingHexes b ≡ tally (leads b) (b .units .count)
+pub owing-hexes-is : (b : Board) → owingHexes b ≡ tally (leads b) (b .units .count)
 unfolding owingHexes leads
 owing-hexes-is b = refl
 

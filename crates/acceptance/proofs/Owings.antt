@@ -28,43 +28,37 @@ use Rattle.position.proofs.Tallies.{
   tally-but-hit,
 }
 use Rattle.position.proofs.Crowds.{holders-is}
+use Rattle.acceptance.specs.Noted.{leads}
+use Rattle.acceptance.proofs.Notes.{owing-hexes-is}
 use Rattle.acceptance.proofs.Counts.{tally-nought, tally-injects}
 
 module _ (b : Board) where
-  -- unit u owes, and none before it in its hex does
-  unfoldable firstOwing : ℕ → Bool
-  firstOwing u = eqb (b .units .role u) 1 && not (any (owesAt b (b .units .hex u)) u)
-
-  owing-is : owingHexes b ≡ tally firstOwing (b .units .count)
-  unfolding owingHexes firstOwing
-  owing-is = refl
-
-  owes : (u h : ℕ) → b .units .role u ≡ 1 → b .units .hex u ≡ h → owesAt b h u ≡ true
+  pub owes : (u h : ℕ) → b .units .role u ≡ 1 → b .units .hex u ≡ h → owesAt b h u ≡ true
   unfolding owesAt
   owes u h e f = simp (eq-eqb (b .units .role u) 1 e, eq-eqb (b .units .hex u) h f)
 
-  owes-role : (u h : ℕ) → owesAt b h u ≡ true → b .units .role u ≡ 1
+  pub owes-role : (u h : ℕ) → owesAt b h u ≡ true → b .units .role u ≡ 1
   unfolding owesAt
   owes-role u h e = eqb-true (b .units .role u) 1 (both-yes (eqb (b .units .role u) 1) (eqb (b .units .hex u) h) e .0)
 
-  owes-hex : (u h : ℕ) → owesAt b h u ≡ true → b .units .hex u ≡ h
+  pub owes-hex : (u h : ℕ) → owesAt b h u ≡ true → b .units .hex u ≡ h
   unfolding owesAt
   owes-hex u h e = eqb-true (b .units .hex u) h (both-yes (eqb (b .units .role u) 1) (eqb (b .units .hex u) h) e .1)
 
-  first-role : (u : ℕ) → firstOwing u ≡ true → b .units .role u ≡ 1
-  unfolding firstOwing
+  first-role : (u : ℕ) → leads b u ≡ true → b .units .role u ≡ 1
+  unfolding leads
   first-role u e =
       eqb-true (b .units .role u) 1 (both-yes (eqb (b .units .role u) 1) (not (any (owesAt b (b .units .hex u)) u)) e .0)
 
-  first-not : (u w : ℕ) → w < u → b .units .role w ≡ 1 → b .units .hex w ≡ b .units .hex u → firstOwing u ≡ true → ⊥
-  unfolding firstOwing
+  first-not : (u w : ℕ) → w < u → b .units .role w ≡ 1 → b .units .hex w ≡ b .units .hex u → leads b u ≡ true → ⊥
+  unfolding leads
   first-not u w l r h e =
       let t = any (owesAt b (b .units .hex u)) u in
       let a = any-true (owesAt b (b .units .hex u)) u w l (owes w (b .units .hex u) r h) in
       not-both (not t) (both-yes (eqb (b .units .role u) 1) (not t) e .1) (ap not a)
 
   -- of the units that owe in one hex, one is the first
-  first-one : (u w : ℕ) → firstOwing u ≡ true → firstOwing w ≡ true → b .units .hex u ≡ b .units .hex w → u ≡ w
+  first-one : (u w : ℕ) → leads b u ≡ true → leads b w ≡ true → b .units .hex u ≡ b .units .hex w → u ≡ w
   first-one u w e f h = same-or u w (λ z. z) (λ d. at d (decLt u w))
     where
       at : (u ≡ w → ⊥) → Dec (u < w) → u ≡ w
@@ -78,19 +72,19 @@ module _ (b : Board) where
       → g (b .units .hex u) ≡ g (b .units .hex w) → b .units .hex u ≡ b .units .hex w)
       → owingHexes b ≤ k
   owing-most g k small one =
-      rw owing-is
-      (tally-injects (λ u. g (b .units .hex u)) (b .units .count) k firstOwing (λ u l e. small u l (first-role u e))
+      rw (owing-hexes-is b)
+      (tally-injects (λ u. g (b .units .hex u)) (b .units .count) k (leads b) (λ u l e. small u l (first-role u e))
       (λ u w l m e f q. first-one u w e f (one u w l m (first-role u e) (first-role w f) q)))
 
-  first-is : (u : ℕ) → b .units .role u ≡ 1 → any (owesAt b (b .units .hex u)) u ≡ false → firstOwing u ≡ true
-  unfolding firstOwing
+  first-is : (u : ℕ) → b .units .role u ≡ 1 → any (owesAt b (b .units .hex u)) u ≡ false → leads b u ≡ true
+  unfolding leads
   first-is u e a = simp (eq-eqb (b .units .role u) 1 e, a)
 
   -- the first unit that owes in the hex of one that does
   record First (u : ℕ) : Type 0 where
     at : ℕ
     below : at < b .units .count
-    first : firstOwing at ≡ true
+    first : leads b at ≡ true
     here : b .units .hex at ≡ b .units .hex u
 
   first-in : (n u : ℕ) → u < n → n ≤ b .units .count → b .units .role u ≡ 1 → First u
@@ -109,7 +103,7 @@ module _ (b : Board) where
   pub owing-some : (u : ℕ) → u < b .units .count → b .units .role u ≡ 1 → 1 ≤ owingHexes b
   owing-some u l e =
       let s = first-in (b .units .count) u l (omega arith) e in
-      rw owing-is (tally-pos firstOwing (b .units .count) (s .at) (s .below) (s .first))
+      rw (owing-hexes-is b) (tally-pos (leads b) (b .units .count) (s .at) (s .below) (s .first))
 
   -- a role that nobody has, and one that somebody has
   pub holders-nought : (r : ℕ) → ((w : ℕ) → w < b .units .count → b .units .role w ≡ r → ⊥) → holders b r ≡ 0
@@ -134,7 +128,7 @@ module _
     (owed : (w : ℕ) → w < b .units .count → c .units .role w ≡ 1
     → (b .units .role w ≡ 1) × (c .units .hex w ≡ b .units .hex w) × (b .units .hex w ≡ h → ⊥)) where
   -- the first that owe elsewhere are the same
-  first-still : (w : ℕ) → w < b .units .count → firstOwing c w ≡ true → firstOwing b w ≡ true
+  first-still : (w : ℕ) → w < b .units .count → leads c w ≡ true → leads b w ≡ true
   first-still w l e =
       let x = owed w l (first-role c w e) in
       let t = owesAt b (b .units .hex w) in
@@ -153,10 +147,10 @@ module _
   owing-less u l r e =
       let s = first-in b (b .units .count) u l (omega arith) r in
       let v = s .at in
-      let k = tally-but-hit (firstOwing b) v (b .units .count) (s .below) (s .first) in
+      let k = tally-but-hit (leads b) v (b .units .count) (s .below) (s .first) in
       let m =
-      tally-le (firstOwing c) (but (firstOwing b) v) (b .units .count)
+      tally-le (leads c) (but (leads b) v) (b .units .count)
       (λ w n q.
-      but-other (firstOwing b) v w (λ z. owed w n (first-role c w q) .2 (ap (b .units .hex) z ∙ s .here ∙ e)) ∙ first-still w n q)
+      but-other (leads b) v w (λ z. owed w n (first-role c w q) .2 (ap (b .units .hex) z ∙ s .here ∙ e)) ∙ first-still w n q)
       in
-      omega (arith, owing-is b, owing-is c, ap (tally (firstOwing c)) count)
+      omega (arith, owing-hexes-is b, owing-hexes-is c, ap (tally (leads c)) count)

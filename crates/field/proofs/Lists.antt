@@ -3,7 +3,7 @@
 use Prim.Native.Nat.{_+_, _<_, _≤_, suc, zero, ℕ}
 use mathlib.Core.Bool.{Bool, and-false, cond, false, or-false, or-true, true}
 use mathlib.Core.List.{List, [], _++_, _∷_, append-nil, map}
-use mathlib.Core.Path.{_∙_, _≡_, ap, refl}
+use mathlib.Core.Path.{_∙_, _≡_, ap, ap₂, refl}
 use native.Mathlib.Numerals.{add-one}
 use native.Mathlib.Omega.{arith}
 use borrow.Author.Count.{below-more}
@@ -173,6 +173,13 @@ module _ (t : ℕ → Bool) where
       same-or k (suc n)
       (λ e. rw e (omega arith))
       (λ d. omega (arith, sieve-grows k n (omega arith), length-append (sieve t n) (cond (t n) (n ∷ []) [])))
+
+-- tests that agree let the same numbers pass
+pub sieve-same : (t s : ℕ → Bool) (n : ℕ) → ((k : ℕ) → k < n → t k ≡ s k) → sieve t n ≡ sieve s n
+unfolding sieve
+sieve-same t s zero f = refl
+sieve-same t s (suc n) f =
+    ap₂ (λ (xs : List ℕ) (b : Bool). xs ++ cond b (n ∷ []) []) (sieve-same t s n (λ k l. f k (omega arith))) (f n (omega arith))
 
 -- the numbers that pass are below the limit, and pass
 pub record Passing (t : ℕ → Bool) (n x : ℕ) : Type 0 where

@@ -1,23 +1,24 @@
 -- Who stands where and zones of control: the loops that ask every number below n, each test by its cases, and what a zone comes from.
 -- Assumes nothing.
 use Prim.Native.Nat.{ℕ, _+_, _≤_, _<_}
-use mathlib.Core.Path.{_≡_, refl, ap, _∙_}
+use mathlib.Core.Path.{_≡_, refl, sym, ap, _∙_}
 use mathlib.Core.Bool.{Bool, true, false, not, _&&_, and-false}
 use native.Mathlib.Omega.{arith}
 use lib.Dec.{ltb, eqb}
-use borrow.Author.Tests.{ltb-true, lt-ltb, le-ltb, eq-eqb, ne-eqb, eqb-false, not-true}
+use borrow.Author.Tests.{ltb-true, lt-ltb, le-ltb, eq-eqb, ne-eqb, eqb-true, eqb-false, not-true, not-false}
 use Rattle.grid.specs.declared.Beside.{Beside}
 use Rattle.grid.specs.declared.Beside.the-variants.{At, Off}
 use Rattle.position.specs.Tally.{any}
 use Rattle.position.specs.Kind.{castsZone}
-use Rattle.position.specs.Board.{Board, forceOf}
+use Rattle.position.specs.Board.{Board, forceOf, enemy}
 use Rattle.position.specs.Ground.{beside, side}
-use Rattle.position.proofs.Tallies.{both-yes, not-both, any-zero, any-miss, any-some, any-true}
+use Rattle.position.proofs.Tallies.{both-yes, not-both, any-zero, any-miss, any-some, any-true, any-false}
 use Rattle.field.specs.Scene.{Scene, scene, forceIn}
 use Rattle.field.specs.Zone.{
   standsOn,
   ownOn,
   enemyOn,
+  holdsEnemy,
   casterOn,
   holdsCaster,
   casterAt,
@@ -192,3 +193,14 @@ module _ (s : Scene) (f h : ℕ) where
   from-zone z =
       let e = enemy-casts s f h (z .force) (z .against) ∙ from-casts s (z .force) h (z .from) in
       any-true (enemyCasts s f h) 4 (z .force) (z .among) e
+
+-- where no Enemy of unit u stands, all that stand there are of its force
+pub no-enemy :
+    (b : Board) (u h : ℕ) → holdsEnemy (scene b) (forceOf b u) h ≡ false
+    → (w : ℕ) → w < b .units .count → b .units .hex w ≡ h → forceOf b w ≡ forceOf b u
+unfolding holdsEnemy enemy
+no-enemy b u h e w l z =
+    let f = forceOf b u in
+    let n = any-false (enemyOn (scene b) f h) (b .units .count) w e l in
+    let q = not-false (eqb f (forceOf b w)) (ap (enemy b f) (force-in b w) ∙ sym (enemy-here (scene b) f h w z) ∙ n) in
+    sym (eqb-true f (forceOf b w) q)

@@ -1,28 +1,28 @@
 -- An accepted position stays accepted after a move.
 -- Assumes nothing.
 use Prim.Native.Nat.{ℕ, _<_}
-use mathlib.Core.Path.{_≡_, sym, ap, _∙_}
+use mathlib.Core.Path.{_≡_, sym, _∙_}
 use mathlib.Core.Bool.{true, false, not, _&&_, _||_}
-use mathlib.Core.List.{List, []}
+use mathlib.Core.List.{List}
 use native.Mathlib.Omega.{arith}
 use lib.ListN.{length}
 use lib.Dec.{leb, ltb, eqb}
 use borrow.Author.Tests.{leb-false, eqb-true, eqb-false, not-false}
 use Rattle.position.specs.Bits.{with, moved}
-use Rattle.position.specs.Board.{Board, board, nowhere, forceOf, enemy}
+use Rattle.position.specs.Board.{Board, board, nowhere, forceOf}
 use Rattle.position.specs.Ground.{joined, standable}
 use Rattle.position.specs.Crowd.{others}
 use Rattle.acceptance.specs.Accepted.{Lawful, Accepted}
 use Rattle.acceptance.specs.Broken.{broken}
 use Rattle.position.specs.Effect.{changes}
 use Rattle.position.proofs.Shapes.{hexes-most}
-use Rattle.position.proofs.Tallies.{same-or, any-false, both-yes, neither}
+use Rattle.position.proofs.Tallies.{same-or, both-yes, neither}
 use Rattle.ruling.specs.Verdict.{Verdict, outcome}
 use Rattle.field.specs.Scene.{scene}
 use Rattle.field.specs.Phasing.{notPhasing}
 use Rattle.field.specs.Listed.{offMap, onMapAll}
-use Rattle.field.specs.Zone.{enemyOn, holdsEnemy}
-use Rattle.field.proofs.Zones.{force-in, enemy-here}
+use Rattle.field.specs.Zone.{holdsEnemy}
+use Rattle.field.proofs.Zones.{no-enemy}
 use Rattle.march.specs.Move.{
   pathLength,
   mayMoveNow,
@@ -54,16 +54,6 @@ module _ (b : Board) where
   step-stands : (h x : ℕ) → noStep b h x ≡ false → standable b x ≡ true
   unfolding noStep
   step-stands h x e = both-yes (joined (b .map) h x) (standable b x) (not-false (joined (b .map) h x && standable b x) e) .1
-
-  no-enemy :
-      (u h : ℕ) → holdsEnemy (scene b) (forceOf b u) h ≡ false
-      → (w : ℕ) → w < b .units .count → b .units .hex w ≡ h → forceOf b w ≡ forceOf b u
-  unfolding holdsEnemy enemy
-  no-enemy u h e w l z =
-      let f = forceOf b u in
-      let n = any-false (enemyOn (scene b) f h) (b .units .count) w e l in
-      let q = not-false (eqb f (forceOf b w)) (ap (enemy b f) (force-in b w) ∙ sym (enemy-here (scene b) f h w z) ∙ n) in
-      sym (eqb-true f (forceOf b w) q)
 
   -- a board and a unit that the questions before let through
   quiet : not (mayMoveNow b) ≡ false → b .desk .stage ≡ 0

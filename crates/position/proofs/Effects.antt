@@ -69,9 +69,13 @@ pub hex-from : (p q : List ℕ) (w : ℕ) → count q ≡ count p → unitByte q
 unfolding hex
 hex-from p q w e a b = rw (e, a, b)
 
-shown-is : (p : List ℕ) (w : ℕ) → has tried (marks p w) ≡ true → shown p w ≡ strength p w
+pub shown-is : (p : List ℕ) (w : ℕ) → has tried (marks p w) ≡ true → shown p w ≡ strength p w
 unfolding shown
 shown-is p w e = ap (λ (t : Bool). cond t (strength p w) 0) e
+
+pub shown-not : (p : List ℕ) (w : ℕ) → has tried (marks p w) ≡ false → shown p w ≡ 0
+unfolding shown
+shown-not p w e = ap (λ (t : Bool). cond t (strength p w) 0) e
 
 pub shown-from : (p q : List ℕ) (w : ℕ) → has tried (marks q w) ≡ has tried (marks p w) → strength q w ≡ strength p w → shown q w ≡ shown p w
 unfolding shown

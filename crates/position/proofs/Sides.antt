@@ -10,10 +10,10 @@ use lib.Dec.{eqb}
 use borrow.Author.Tests.{lt-ltb, le-ltb, le-leb, lt-leb, eq-eqb, ne-eqb}
 use Rattle.grid.specs.declared.Beside.{Beside}
 use Rattle.grid.specs.declared.Beside.the-variants.{At, Off}
-use Rattle.grid.specs.Map.{neighbourOf}
-use Rattle.grid.proofs.Laws.{opposite, direction}
+use Rattle.grid.specs.Map.{On, neighbourOf}
+use Rattle.grid.proofs.Laws.{opposite, direction, on-map}
 use Rattle.position.specs.declared.View.{View}
-use Rattle.position.specs.Layout.{ViewOf}
+use Rattle.position.specs.Layout.{ViewOf, hexes}
 use Rattle.position.specs.Tally.{any}
 use Rattle.position.specs.Board.{Board, Map, ground}
 use Rattle.position.specs.Ground.{beside, stored, storedAt, side, blockedSide, next, isAt, joined, standable}
@@ -98,3 +98,25 @@ module _ (b : Board) (h : ℕ) where
   pub standable-land : h < b .map .hexes → b .map .surface h ≤ 1 → standable b h ≡ not (eqb (b .chart .cost (b .map .terrain h)) 0)
   unfolding standable
   standable-land l k = simp (lt-ltb h (b .map .hexes) l, le-leb (b .map .surface h) 1 k)
+
+-- there is no hex where there is one
+pub off-at : {A : Type 0} {r : Beside} {x : ℕ} → r ≡ Off → r ≡ At x → A
+off-at p q = let z : _≡_ {A = ℕ} 0 1 = cc in absurd (omega arith)
+
+-- a step over an unblocked side leads to the neighbour, a hex of the map, in one of six directions
+module _ (m : Map) (a d x : ℕ) (e : next m a d ≡ At x) where
+  pub unblocked : side m a d ≡ blockedSide → ⊥
+  unblocked p = off-at (next-blocked m a d p) e
+
+  pub next-over : beside m a d ≡ At x
+  next-over = sym (next-beside m a d unblocked) ∙ e
+
+  pub next-on : On (m .width) (m .height) x
+  next-on = on-map (m .width) (m .height) a d x next-over
+
+  pub next-dir : d < 6
+  next-dir = direction (m .width) (m .height) a d x next-over
+
+pub next-in : {p : List ℕ} {v : View} → ViewOf p v → (a d x : ℕ) → next (ground p) a d ≡ At x → x < v .hexes
+unfolding hexes
+next-in {p} w a d x e = omega (arith, w .hexes, next-on (ground p) a d x e .below)

@@ -27,8 +27,10 @@ ghost use Rattle.position.specs.Layout.{
   need,
   route,
 };
+ghost use Rattle.position.specs.Board.{shown};
 ghost use Rattle.position.specs.Laid.{Laid, Read};
 use crate::View;
+use crate::bits;
 use crate::layout;
 
 // The cost of a terrain; the extra cost of a river for 16 and of a major river for 17.
@@ -162,6 +164,17 @@ pub fn role(p: &[u8], v: View, u: usize) -> usize
     ensures { λ r. ⌜ Read (role (now (p .entry)) u) 256 r ⌝ }
 {
     layout::unit_byte(p, v, u, layout::ROLE)
+}
+
+// The strength of a unit that is tried, else 0.
+pub fn shown(p: &[u8], v: View, u: usize) -> usize
+    requires { ⌜ Laid (now p) v ⌝ }
+    ensures { λ r. ⌜ Read (shown (now (p .entry)) u) 256 r ⌝ }
+{
+    if bits::has(bits::TRIED, marks(p, v, u)) {
+        return strength(p, v, u);
+    }
+    0
 }
 
 pub fn turn(p: &[u8], v: View) -> usize

@@ -33,7 +33,8 @@ use Rattle.routes.specs.Search.{
   FirstRight,
   FoundRight,
 }
-use Rattle.routes.proofs.Steps.{off-at, next-dir, step-is, is-step}
+use Rattle.position.proofs.Sides.{off-at, next-dir}
+use Rattle.routes.proofs.Steps.{step-is, is-step}
 
 module _ (b : Board) (f start : ℕ) where
   -- a run of `left` hexes that goes on from hex a after i steps

@@ -11,21 +11,17 @@ use Rattle.grid.specs.declared.Beside.{Beside}
 use Rattle.grid.specs.declared.Beside.the-variants.{At, Off}
 use Rattle.grid.specs.Map.{On}
 use Rattle.grid.specs.Walk.{distanceOf}
-use Rattle.grid.proofs.Laws.{on-map, direction}
 use Rattle.position.specs.declared.View.{View}
 use Rattle.position.specs.Layout.{width, hexes}
 use Rattle.position.specs.Laid.{Laid}
 use Rattle.position.specs.Board.{Board, Map, ground}
-use Rattle.position.specs.Ground.{beside, next, isAt, joined}
+use Rattle.position.specs.Ground.{next, isAt, joined}
 use Rattle.position.proofs.Tallies.{both-yes, not-both, any-some, any-true}
-use Rattle.position.proofs.Sides.{next-blocked, next-beside, reaches, joined-is}
+use Rattle.position.proofs.Sides.{reaches, joined-is, off-at, next-dir, next-in}
 use Rattle.routes.specs.Bears.{refuge}
 use Rattle.routes.specs.Run.{Step}
 use Rattle.routes.specs.Legal.{enters, stepsTo}
 use Rattle.routes.specs.Search.{entered, stepOf}
-
-pub off-at : {A : Type 0} {r : Beside} {x : ℕ} → r ≡ Off → r ≡ At x → A
-off-at p q = let z : _≡_ {A = ℕ} 0 1 = cc in absurd (omega arith)
 
 -- a hex of the view is a hex of the map
 pub on-view : {p : List ℕ} {v : View} → Laid p v → (x : ℕ) → x < v .hexes → On (v .width) (v .height) x
@@ -43,21 +39,6 @@ on-view {p} {v} l x e =
 
 pub far-view : {p : List ℕ} {v : View} → Laid p v → (start x : ℕ) → distanceOf (v .width) start x ≡ distanceOf (width p) start x
 far-view l start x = ap (λ (w : ℕ). distanceOf w start x) (l .view .width)
-
--- a step over an unblocked side leads to the neighbour, a hex of the map, in one of six directions
-module _ (m : Map) (a d x : ℕ) (e : next m a d ≡ At x) where
-  pub next-over : beside m a d ≡ At x
-  next-over = sym (next-beside m a d (λ p. off-at (next-blocked m a d p) e)) ∙ e
-
-  pub next-on : On (m .width) (m .height) x
-  next-on = on-map (m .width) (m .height) a d x next-over
-
-  pub next-dir : d < 6
-  next-dir = direction (m .width) (m .height) a d x next-over
-
-pub next-in : {p : List ℕ} {v : View} → Laid p v → (a d x : ℕ) → next (ground p) a d ≡ At x → x < v .hexes
-unfolding hexes
-next-in {p} l a d x e = omega (arith, l .view .hexes, next-on (ground p) a d x e .below)
 
 -- hexes are joined exactly if some step leads from one to the other
 module _ (m : Map) (a x : ℕ) where
@@ -81,7 +62,7 @@ module _ (m : Map) (a x : ℕ) where
   next-joined d e = joined-is m a x ∙ any-true (reaches m a x) 6 d (next-dir m a d x e) (at-is e)
 
 pub joined-in : {p : List ℕ} {v : View} → Laid p v → (a x : ℕ) → joined (ground p) a x ≡ true → x < v .hexes
-joined-in {p} l a x e = let s = joined-next (ground p) a x e in next-in l a (s .0) x (s .1)
+joined-in {p} l a x e = let s = joined-next (ground p) a x e in next-in (l .view) a (s .0) x (s .1)
 
 -- the test of the hex entered
 module _ (b : Board) (f start i x : ℕ) where

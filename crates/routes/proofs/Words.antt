@@ -11,7 +11,7 @@ use Rattle.grid.proofs.Laws.{then, closed, measured, same-zero, first-part}
 use Rattle.position.specs.Board.{Board}
 use Rattle.routes.specs.Run.{Run, stay, go}
 use Rattle.routes.specs.Words.{Steps, stop, enter, RunsAsWorded}
-use Rattle.routes.proofs.Steps.{next-over, next-on}
+use Rattle.position.proofs.Sides.{next-over, next-on}
 
 module _ (b : Board) (f : ℕ) where
   abbrev Onto : ℕ → Type 0

@@ -21,7 +21,8 @@ use Rattle.walk.specs.Chain.Chain.{source, beside}
 use Rattle.walk.specs.Trail.{enteredBy, Seen, FreshOf, Ready, Step, Faith, Rest, Kept, Flooded, Seeded, Done, Settled}
 use Rattle.walk.specs.Trail.Step.{pass, down, back}
 use Rattle.walk.proofs.Marks.{le-or, mark-set, mark-in, weigh, weigh-less}
-use Rattle.walk.proofs.Steps.{off-at, at-at, TwoWay}
+use Rattle.position.proofs.Sides.{off-at}
+use Rattle.walk.proofs.Steps.{at-at, TwoWay}
 use Rattle.walk.proofs.Trails.{faith-upd, Way, way-start, way-pass, way-down, way-back, way-over, complete}
 
 -- what is left to do at a hex, by its mark: to enter it, to be done with six directions, and to leave it

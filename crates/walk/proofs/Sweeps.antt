@@ -16,7 +16,7 @@ use Rattle.position.proofs.Tallies.{both-yes, same-or, either, not-both, any-so
 use Rattle.walk.specs.Chain.{mark, Chain, OneIf, Reached}
 use Rattle.walk.specs.Chain.Chain.{source, beside}
 use Rattle.walk.specs.Sweep.{sourceAt, joins, touch, sweep, sweeps, chained, tab, reach}
-use Rattle.walk.proofs.Steps.{off-at}
+use Rattle.position.proofs.Sides.{off-at}
 use Rattle.walk.proofs.Marks.{le-or, mark-set, mark-in, tab-length, tab-at, tab-mark, tab-only, weigh, weigh-less, weigh-most}
 
 record Found (l : List ℕ) (r : Beside) : Type 0 where

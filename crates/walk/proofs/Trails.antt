@@ -12,7 +12,8 @@ use Rattle.walk.specs.Chain.{Chain}
 use Rattle.walk.specs.Chain.Chain.{source, beside}
 use Rattle.walk.specs.Trail.{enteredBy, Seen, FreshOf, Faith, Looked, Rest}
 use Rattle.walk.proofs.Marks.{le-or, Upd}
-use Rattle.walk.proofs.Steps.{off-at, at-at, TwoWay}
+use Rattle.position.proofs.Sides.{off-at}
+use Rattle.walk.proofs.Steps.{at-at, TwoWay}
 
 -- a hex is one of a list
 pub data Mem (a : ℕ) : List ℕ → Type 0 where

@@ -2,7 +2,8 @@
 -- Assumes nothing.
 use mathlib.Core.Path.{sym, _∙_}
 use borrow.Author.Needs.{needs}
-use Rattle.routes.proofs.Steps.{next-in, step-off, step-lands, step-barred}
+use Rattle.position.proofs.Sides.{next-in}
+use Rattle.routes.proofs.Steps.{step-off, step-lands, step-barred}
 use Rattle.routes.proofs.step.Statement.{statement}
 use Rattle.routes.proofs.step.Tie as tie
 
@@ -21,7 +22,7 @@ returns c = step-off _ _ _ _ _ _ (c .before .before .next .ensures) (c .enum-tol
 enters-requires : tie.Need-enters-requires
 enters-requires c κs =
     let s = c .before .before .before .before .before .pre in
-    (s .0, s .1, next-in (s .0) _ _ _ (sym (c .before .before .before .next .ensures) ∙ c .before .x .given .1), s .2)
+    (s .0, s .1, next-in (s .0 .view) _ _ _ (sym (c .before .before .before .next .ensures) ∙ c .before .x .given .1), s .2)
 
 returns-2 : tie.Need-returns-2
 returns-2 c =

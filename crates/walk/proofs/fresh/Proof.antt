@@ -4,7 +4,7 @@ use mathlib.Core.Path.{sym, _∙_}
 use native.Mathlib.Omega.{arith}
 use borrow.Author.Needs.{needs}
 use Rattle.walk.specs.Chain.{mark}
-use Rattle.walk.proofs.Steps.{next-in}
+use Rattle.position.proofs.Sides.{next-in}
 use Rattle.walk.proofs.Runs.{none-fresh, seen-fresh}
 use Rattle.walk.proofs.fresh.Statement.{statement}
 use Rattle.walk.proofs.fresh.Tie as tie
