@@ -1,0 +1,248 @@
+-- Laws of losses: each test by its cases, the tests of a unit in their order, the printed total, and who is left.
+-- Assumes nothing.
+use Prim.Native.Nat.{_*_, _+_, _<_, _≤_, ℕ}
+use mathlib.Core.Bool.{Bool, _&&_, and-false, and-true, false, not, true}
+use mathlib.Core.List.{List, [], _++_, _∷_, map}
+use mathlib.Core.Path.{_∙_, _≡_, ap, ap₂, refl, sym}
+use native.Mathlib.Omega.{arith}
+use borrow.Author.Tests.{eq-eqb, le-leb, lt-leb, ne-eqb}
+use lib.Dec.{eqb}
+use lib.ListN.{getD, length, take}
+use lib.Seq.{take-all}
+use Rattle.position.proofs.Changes.{board-makes, laid-make, makes-snoc, makes-then}
+use Rattle.position.proofs.Tallies.{same-or}
+use Rattle.position.specs.Board.{Board, board, forceOf}
+use Rattle.position.specs.Change.{Change, make, makes}
+use Rattle.position.specs.Change.Change.{assigned, destroyed}
+use Rattle.position.specs.Effect.{change, changes}
+use Rattle.position.specs.Laid.{Laid}
+use Rattle.position.specs.Shape.{Shaped}
+use Rattle.position.specs.Tally.{any}
+use Rattle.position.specs.declared.View.{View}
+use Rattle.acceptance.proofs.Carries.{fixed-change}
+use Rattle.acceptance.proofs.Fates.{destroyed-else, destroyed-here}
+use Rattle.ruling.proofs.Going.{Gone, gone-more}
+use Rattle.ruling.proofs.Meets.{pass, stop}
+use Rattle.ruling.specs.Judged.{Passes, Stops}
+use Rattle.ruling.specs.Verdict.{Verdict}
+use Rattle.field.proofs.Lists.{map-last, sieve-same, take-more}
+use Rattle.field.specs.Listed.{andThen, named, sieve}
+use Rattle.aftermath.specs.Losses.{
+  enough,
+  loss,
+  lossChanges,
+  otherType,
+  owes,
+  owesPhasing,
+  passedOver,
+  short,
+  shownTotal,
+  spared,
+  sparedSpecial,
+}
+use Rattle.aftermath.specs.Stage.{reassigned}
+
+-- a role, as it is asked
+pub owes-is : (b : Board) (u : ℕ) → owes b u ≡ eqb (b .units .role u) 1
+unfolding owes
+owes-is b u = refl
+
+-- each test by its cases
+module _ (b : Board) (units : List ℕ) where
+  module _ (u : ℕ) where
+    pub spared-not : owes b u ≡ false → spared b units u ≡ false
+    unfolding spared
+    spared-not e = simp e
+
+    pub spared-owes : owes b u ≡ true → spared b units u ≡ not (named units u)
+    unfolding spared
+    spared-owes e = simp e
+
+    pub other-unnamed : named units u ≡ false → otherType b units u ≡ false
+    unfolding otherType
+    other-unnamed e = simp e
+
+    pub other-named : named units u ≡ true → otherType b units u ≡ not (eqb (b .units .kind u) 4)
+    unfolding otherType
+    other-named e = simp e
+
+    pub special-not : spared b units u ≡ false → sparedSpecial b units u ≡ false
+    unfolding sparedSpecial
+    special-not e = simp e
+
+    pub special-spared : spared b units u ≡ true → sparedSpecial b units u ≡ eqb (b .units .kind u) 4
+    unfolding sparedSpecial
+    special-spared e = simp e
+
+  pub enough-need : b .desk .need ≤ shownTotal b units → enough b units ≡ true
+  unfolding enough
+  enough-need l = simp (le-leb (b .desk .need) (shownTotal b units) l)
+
+  pub enough-all : shownTotal b units < b .desk .need → enough b units ≡ not (any (spared b units) (b .units .count))
+  unfolding enough
+  enough-all l = simp (lt-leb (b .desk .need) (shownTotal b units) l)
+
+  pub passed-other-force : any (owesPhasing b) (b .units .count) ≡ false → passedOver b units ≡ false
+  unfolding passedOver
+  passed-other-force e = simp e
+
+  module _ (e : any (owesPhasing b) (b .units .count) ≡ true) where
+    pub passed-special-alone : any (otherType b units) (b .units .count) ≡ false → passedOver b units ≡ false
+    unfolding passedOver
+    passed-special-alone f = simp (e, f)
+
+    pub passed-special :
+        any (otherType b units) (b .units .count) ≡ true → passedOver b units ≡ any (sparedSpecial b units) (b .units .count)
+    unfolding passedOver
+    passed-special f = simp (e, f)
+
+  pub short-need : enough b units ≡ false → short b units ≡ true
+  unfolding short
+  short-need e = simp e
+
+  pub short-special : enough b units ≡ true → short b units ≡ passedOver b units
+  unfolding short
+  short-special e = simp e
+
+module _ (b : Board) (u : ℕ) where
+  pub phasing-not : owes b u ≡ false → owesPhasing b u ≡ false
+  unfolding owesPhasing
+  phasing-not e = simp e
+
+  pub phasing-owes : owes b u ≡ true → owesPhasing b u ≡ eqb (forceOf b u) (b .desk .force)
+  unfolding owesPhasing
+  phasing-owes e = simp e
+
+-- the tests of one unit, in their order
+module _ (p : List ℕ) (b : Board) (before : List ℕ) (u k : ℕ) where
+  pub stops-role : owes b u ≡ false → Stops p (loss b before u k) 4 k
+  unfolding loss
+  stops-role e l v = stop (ap not e)
+
+  module _ (e : owes b u ≡ true) where
+    pub stops-named : named before u ≡ true → Stops p (loss b before u k) 6 k
+    unfolding loss
+    stops-named f l v = pass (ap not e) (stop f)
+
+    pub passes-loss : named before u ≡ false → Passes p (loss b before u k) × Unit {0}
+    unfolding loss
+    passes-loss f = (λ l v a q m w. pass (ap not e) (pass f w), tt)
+
+-- tests that know the units named before, passed up to place i
+pub gone-behind :
+    {p : List ℕ} {test : List ℕ → ℕ → ℕ → Verdict → Verdict} {units : List ℕ} {i : ℕ}
+    → Gone p test andThen [] units i (take i units) → i < length units → Passes p (test (take i units) (getD units i 0) (i + 1))
+    → Gone p test andThen [] units (i + 1) (take (i + 1) units)
+unfolding andThen
+gone-behind {units = units} {i} o l t = rw (take-more units i l) (gone-more o l t)
+
+-- the printed total of one unit more
+total-last : (b : Board) (xs : List ℕ) (x : ℕ) → shownTotal b (xs ++ (x ∷ [])) ≡ shownTotal b xs + b .units .shown x
+unfolding shownTotal
+total-last b [] x = omega arith
+total-last b (y ∷ ys) x = omega (arith, total-last b ys x)
+
+pub record Totals (b : Board) (units : List ℕ) (i n : ℕ) : Type 0 where
+  pub most : i ≤ length units
+  pub is : n ≡ shownTotal b (take i units)
+  pub small : n ≤ 256 * i
+
+pub totals-none : (b : Board) (units : List ℕ) → Totals b units 0 0
+unfolding shownTotal
+totals-none b units = record { most = omega arith; is = refl; small = omega arith }
+
+pub totals-more :
+    {b : Board} {units : List ℕ} {i n s : ℕ} → Totals b units i n → i < length units → s ≡ b .units .shown (getD units i 0) → s < 256
+    → Totals b units (i + 1) (n + s)
+totals-more {b} {units} {i} {n} {s} o l e m =
+    record {
+      most = omega arith;
+      is =
+          ap₂ _+_ (o .is) e
+          ∙ sym (total-last b (take i units) (getD units i 0))
+          ∙ ap (shownTotal b) (sym (take-more units i l));
+      small = omega (arith, o .small);
+    }
+
+pub totals-all : {b : Board} {units : List ℕ} {i n : ℕ} → Totals b units i n → length units ≤ i → n ≡ shownTotal b units
+totals-all {b} {units} {i} o l = o .is ∙ ap (shownTotal b) (take-all i units l)
+
+-- the units of the list destroyed up to place i
+pub record Striking (p : List ℕ) (v : View) (units : List ℕ) (i : ℕ) (q : List ℕ) : Type 0 where
+  pub most : i ≤ length units
+  pub laid : Laid q v
+  pub made : q ≡ makes p (map destroyed (take i units))
+
+module _ {p : List ℕ} {v : View} {units : List ℕ} where
+  pub striking-none : Laid p v → Striking p v units 0 p
+  unfolding makes
+  striking-none l = record { most = omega arith; laid = l; made = refl }
+
+  pub striking-more :
+      {i : ℕ} {q r : List ℕ} → Striking p v units i q → i < length units → r ≡ make q (destroyed (getD units i 0))
+      → Striking p v units (i + 1) r
+  striking-more {i} o l e =
+      let u = getD units i 0 in
+      record {
+        most = omega arith;
+        laid = rw e (laid-make (o .laid) (destroyed u));
+        made =
+            e
+            ∙ ap (λ (k : List ℕ). make k (destroyed u)) (o .made)
+            ∙ sym (makes-snoc (map destroyed (take i units)) (destroyed u) p)
+            ∙ ap (makes p) (sym (map-last destroyed (take i units) u) ∙ ap (map destroyed) (sym (take-more units i l)));
+      }
+
+  pub striking-all : {i : ℕ} {q : List ℕ} → Striking p v units i q → length units ≤ i → q ≡ makes p (map destroyed units)
+  striking-all {i} o l = o .made ∙ ap (λ (k : List ℕ). makes p (map destroyed k)) (take-all i units l)
+
+-- a whole list, named
+pub named-whole : (units : List ℕ) (u n : ℕ) {r : Bool} → r ≡ named (take n units) u → length units ≤ n → r ≡ named units u
+named-whole units u n e l = e ∙ ap (λ (k : List ℕ). named k u) (take-all n units l)
+
+-- of the units that owed, those that the list spares owe still
+pub owes-after :
+    (units : List ℕ) (b : Board) (w : ℕ) → w < b .units .count
+    → eqb (changes b (map destroyed units) .units .role w) 1 ≡ (eqb (b .units .role w) 1 && not (named units w))
+unfolding changes named
+owes-after [] b w l = simp and-true
+owes-after (u ∷ us) b w l =
+    let c = change b (destroyed u) in
+    let k : w < c .units .count = omega (arith, fixed-change b (destroyed u) .count) in
+    owes-after us c w k
+    ∙ same-or w u
+    (λ e.
+    let m : u < b .units .count = omega arith in
+    let r = ap (c .units .role) e ∙ destroyed-here b u m .role in
+    ap (λ (x : ℕ). eqb x 1 && not (named us w)) r ∙ sym (simp (eq-eqb u w (sym e), and-false)))
+    (λ n.
+    ap (λ (x : ℕ). eqb x 1 && not (named us w)) (destroyed-else b u w n .role) ∙ sym (simp (ne-eqb u w (λ e. n (sym e)))))
+
+changes-count : (xs : List Change) (b : Board) → changes b xs .units .count ≡ b .units .count
+unfolding changes
+changes-count [] b = refl
+changes-count (x ∷ xs) b = changes-count xs (change b x) ∙ fixed-change b x .count
+
+module _ (b : Board) (units : List ℕ) where
+  -- they are given the role of survivors
+  pub survivors : reassigned (changes b (map destroyed units)) 1 2 ≡ map (λ u. assigned u 2) (sieve (spared b units) (b .units .count))
+  unfolding reassigned spared owes
+  survivors =
+      let c = changes b (map destroyed units) in
+      let t : ℕ → Bool = λ u. eqb (c .units .role u) 1 in
+      ap (map (λ u. assigned u 2))
+      (ap (sieve t) (changes-count (map destroyed units) b)
+      ∙ sieve-same t (spared b units) (b .units .count) (λ k l. owes-after units b k l))
+
+-- the units of the list are destroyed, and then the survivors get role 2
+pub lost-then :
+    {p q r : List ℕ} → Shaped p → (units : List ℕ) → q ≡ makes p (map destroyed units) → r ≡ makes q (reassigned (board q) 1 2)
+    → r ≡ makes p (lossChanges (board p) units)
+unfolding lossChanges
+lost-then {p} s units e f =
+    let xs = map destroyed units in
+    let ys = map (λ u. assigned u 2) (sieve (spared (board p) units) (board p .units .count)) in
+    f
+    ∙ ap (λ (l : List ℕ). makes l (reassigned (board l) 1 2)) e
+    ∙ ap (makes (makes p xs)) (ap (λ (b : Board). reassigned b 1 2) (board-makes s xs) ∙ survivors (board p) units)
+    ∙ sym (makes-then xs ys p)

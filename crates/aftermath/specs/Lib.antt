@@ -1,0 +1,4 @@
+pub mod Stage
+pub mod Losses
+pub mod Advance
+pub mod Rulings

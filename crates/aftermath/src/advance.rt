@@ -1,0 +1,188 @@
+// The advance and the close: their questions in their order, and then the changes.
+ghost use mathlib.Core.Path.{_≡_};
+ghost use mathlib.Core.List.{[]};
+ghost use Prim.Native.Nat.{_≤_, _<_};
+ghost use Rattle.position.specs.Tally.{any};
+ghost use Rattle.position.specs.Board.{board};
+ghost use Rattle.position.specs.Change.{makes};
+ghost use Rattle.position.specs.Laid.{Laid};
+ghost use Rattle.ruling.specs.Verdict.{Met};
+ghost use Rattle.ruling.specs.Judged.{TestedOf};
+ghost use Rattle.ruling.specs.Answers.{answerAs};
+ghost use Rattle.aftermath.specs.Stage.{thenOn};
+ghost use Rattle.aftermath.specs.Advance.{
+  heldAt,
+  clearTo,
+  serves,
+  noRoute,
+  unitChecks,
+  advanceChecks,
+  advanceChanges,
+  advanceVerdict,
+  closeVerdict,
+};
+use crate::stage;
+use field::zone;
+use position::Checked;
+use position::View;
+use position::crowd;
+use position::forces;
+use position::ground;
+use position::kind::Kind;
+use position::read;
+use position::write;
+use ruling::Answer;
+use ruling::Tested;
+
+// Whether an Enemy of unit `u` stands on number `i` of route `r`.
+fn held_at(p: &[u8], v: View, u: usize, r: usize, i: usize) -> bool
+    requires { ⌜ Laid (now p) v ⌝ }
+    ensures { λ b. ⌜ b ≡ heldAt (board (now (p .entry))) u r i ⌝ }
+{
+    zone::holds_enemy(p, v, forces::force_of(p, v, u), read::route(p, v, r, i))
+}
+
+// Whether an Enemy of unit `u` stands on one of the first `n` numbers of route `r`.
+fn held_along(p: &[u8], v: View, u: usize, r: usize, n: usize) -> bool
+    requires { ⌜ Laid (now p) v × (n ≤ 4) ⌝ }
+    ensures { λ b. ⌜ b ≡ any (heldAt (board (now (p .entry))) u r) n ⌝ }
+{
+    let mut i = 0;
+    while i < n {
+        if held_at(p, v, u, r, i) {
+            return true;
+        }
+        i += 1;
+    }
+    false
+}
+
+// Whether number `j` of route `r` is the hex, with no Enemy from its start to there.
+fn clear_to(p: &[u8], v: View, u: usize, hex: usize, r: usize, j: usize) -> bool
+    requires { ⌜ Laid (now p) v × (j < 4) ⌝ }
+    ensures { λ b. ⌜ b ≡ clearTo (board (now (p .entry))) u hex r j ⌝ }
+{
+    if read::route(p, v, r, j) != hex {
+        return false;
+    }
+    !held_along(p, v, u, r, j + 1)
+}
+
+// Whether route `r` leads unit `u` to the hex.
+fn leads_to(p: &[u8], v: View, u: usize, hex: usize, r: usize) -> bool
+    requires { ⌜ Laid (now p) v ⌝ }
+    ensures { λ b. ⌜ b ≡ any (clearTo (board (now (p .entry))) u hex r) 4 ⌝ }
+{
+    let mut j = 0;
+    while j < 4 {
+        if clear_to(p, v, u, hex, r, j) {
+            return true;
+        }
+        j += 1;
+    }
+    false
+}
+
+// Whether route `r` starts beside unit `u` and leads it to the hex.
+fn serves(p: &[u8], v: View, u: usize, hex: usize, r: usize) -> bool
+    requires { ⌜ Laid (now p) v ⌝ }
+    ensures { λ b. ⌜ b ≡ serves (board (now (p .entry))) u hex r ⌝ }
+{
+    if !ground::joined(p, v, read::hex(p, v, u), read::route(p, v, r, 0)) {
+        return false;
+    }
+    leads_to(p, v, u, hex, r)
+}
+
+// Whether no route serves unit `u` to the hex.
+fn no_route(p: &[u8], v: View, u: usize, hex: usize) -> bool
+    requires { ⌜ Laid (now p) v ⌝ }
+    ensures { λ b. ⌜ b ≡ noRoute (board (now (p .entry))) u hex ⌝ }
+{
+    let mut r = 0;
+    while r < 6 {
+        if serves(p, v, u, hex, r) {
+            return false;
+        }
+        r += 1;
+    }
+    true
+}
+
+// The questions of an advance past its numbers and its stage: 4, 5, 7, 11.
+fn judge_unit(p: &[u8], v: View, u: usize, hex: usize) -> Tested
+    requires { ⌜ Laid (now p) v ⌝ }
+    ensures { λ r. ⌜ TestedOf (now (p .entry)) (unitChecks (board (now (p .entry))) u hex) (Unit {0}) r ⌝ }
+{
+    if read::role(p, v, u) != stage::ADVANCES {
+        return Tested::Stopped(4, 0);
+    }
+    if !Kind(read::kind(p, v, u)).moves_by_land() {
+        return Tested::Stopped(5, 0);
+    }
+    if no_route(p, v, u, hex) {
+        return Tested::Stopped(7, 0);
+    }
+    if 3 <= crowd::others(p, v, u, hex) {
+        return Tested::Stopped(11, 0);
+    }
+    Tested::Passed
+}
+
+// All the questions of an advance.
+fn judge_advance(p: &[u8], v: View, u: usize, hex: usize) -> Tested
+    requires { ⌜ Laid (now p) v ⌝ }
+    ensures { λ r. ⌜ TestedOf (now (p .entry)) (advanceChecks (board (now (p .entry))) u hex) (Unit {0}) r ⌝ }
+{
+    let count = v.count;
+    if count <= u {
+        return Tested::Stopped(3, 0);
+    }
+    let hexes = v.hexes;
+    if hexes <= hex {
+        return Tested::Stopped(3, 0);
+    }
+    if read::stage(p, v) != stage::ADVANCING {
+        return Tested::Stopped(2, 0);
+    }
+    judge_unit(p, v, u, hex)
+}
+
+// Unit `u` stands on the hex with no role, and the stage passes on.
+fn step_up(p: &mut [u8], v: View, u: usize, hex: usize)
+    requires { ⌜ Laid (now p) v ⌝ }
+    ensures { λ _. ⌜ now (p .exit) ≡ makes (now (p .entry)) (thenOn (board (now (p .entry))) (advanceChanges (board (now (p .entry))) u hex)) ⌝ }
+{
+    write::place(p, v, u, hex);
+    write::assign(p, v, u, 0);
+    stage::pass_on(p, v);
+}
+
+// Unit `unit` advances to `hex`.
+pub fn advance(p: &mut [u8], unit: usize, hex: usize) -> Answer
+    ensures { λ r. ⌜ Met (now (p .entry)) [] (advanceVerdict (now (p .entry)) unit hex) (answerAs r) (now (p .exit)) [] ⌝ }
+{
+    let Checked::Whole(v) = acceptance::check(p) else {
+        return Answer::Refused(1, 0);
+    };
+    if let Tested::Stopped(n, k) = judge_advance(p, v, unit, hex) {
+        return Answer::Refused(n, k);
+    }
+    step_up(p, v, unit, hex);
+    Answer::Accepted
+}
+
+// The advances are over: nobody has a role any more, and the stage passes on.
+pub fn close(p: &mut [u8]) -> Answer
+    ensures { λ r. ⌜ Met (now (p .entry)) [] (closeVerdict (now (p .entry))) (answerAs r) (now (p .exit)) [] ⌝ }
+{
+    let Checked::Whole(v) = acceptance::check(p) else {
+        return Answer::Refused(1, 0);
+    };
+    if read::stage(p, v) != stage::ADVANCING {
+        return Answer::Refused(2, 0);
+    }
+    stage::reassign(p, v, stage::ADVANCES, 0);
+    stage::pass_on(p, v);
+    Answer::Accepted
+}
