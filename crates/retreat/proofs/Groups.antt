@@ -1,0 +1,147 @@
+-- Laws of the questions of a retreat: each test by its cases, and the first of the group.
+-- Assumes nothing.
+use Prim.Native.Nat.{_<_, _≤_, suc, zero, ℕ}
+use mathlib.Core.Bool.{Bool, cond, false, not, true}
+use mathlib.Core.List.{List, [], _∷_}
+use mathlib.Core.Path.{_∙_, _≡_, ap, ap₂, refl, sym}
+use native.Mathlib.Omega.{arith}
+use borrow.Author.Tests.{eq-eqb, le-leb, le-ltb, lt-leb, lt-ltb, ne-eqb}
+use lib.Dec.{eqb, leb, ltb}
+use lib.ListN.{List·getD-append, getD, length}
+use Rattle.position.proofs.Tallies.{neither, same-or, tally-pos}
+use Rattle.position.specs.Board.{Board, board}
+use Rattle.position.specs.Crowd.{owesAt}
+use Rattle.position.specs.Tally.{any}
+use Rattle.position.specs.Laid.{Laid}
+use Rattle.position.specs.Shape.{In}
+use Rattle.position.specs.declared.View.{View}
+use Rattle.acceptance.specs.Accepted.{Accepted}
+use Rattle.ruling.proofs.Meets.{pass, stop}
+use Rattle.ruling.specs.Judged.{Passes, Stops}
+use Rattle.ruling.specs.Verdict.{Met, Ruling, Verdict}
+use Rattle.ruling.specs.Verdict.Verdict.{refuseIf}
+use Rattle.field.proofs.Lists.{sieve-long}
+use Rattle.field.specs.Listed.{onMapAll, sieve}
+use Rattle.routes.specs.Legal.{legal}
+use Rattle.routes.specs.Search.{firstRoute, found}
+use Rattle.routes.specs.declared.Found.{Found}
+use Rattle.retreat.specs.Retreat.{Owing, doomed, group, groupChecks, groupForce, notLegal, walksFrom}
+
+-- each test by its cases
+module _ (b : Board) (h u : ℕ) where
+  pub owes-not : (b .units .role u ≡ 1 → ⊥) → owesAt b h u ≡ false
+  unfolding owesAt
+  owes-not n = simp (ne-eqb (b .units .role u) 1 n)
+
+  pub owes-where : b .units .role u ≡ 1 → owesAt b h u ≡ eqb (b .units .hex u) h
+  unfolding owesAt
+  owes-where e = simp (eq-eqb (b .units .role u) 1 e)
+
+  pub walks-not : owesAt b h u ≡ false → walksFrom b h u ≡ false
+  unfolding walksFrom
+  walks-not e = simp e
+
+  pub walks-kind : owesAt b h u ≡ true → walksFrom b h u ≡ not (eqb (b .units .kind u) 5)
+  unfolding walksFrom
+  walks-kind e = simp e
+
+module _ (b : Board) (h : ℕ) where
+  pub doomed-supply : any (walksFrom b h) (b .units .count) ≡ false → doomed b h ≡ true
+  unfolding doomed
+  doomed-supply e = simp e
+
+  pub doomed-route :
+      any (walksFrom b h) (b .units .count) ≡ true → doomed b h ≡ not (found (firstRoute b (groupForce b h) h (b .desk .owed)))
+  unfolding doomed
+  doomed-route e = simp e
+
+  module _ (route : List ℕ) where
+    pub any-route : doomed b h ≡ true → notLegal b h route ≡ false
+    unfolding notLegal
+    any-route e = simp e
+
+    pub this-route : doomed b h ≡ false → notLegal b h route ≡ not (legal b (groupForce b h) h (b .desk .owed) route)
+    unfolding notLegal
+    this-route e = simp e
+
+-- the first number that passes
+module _ (t : ℕ → Bool) where
+  pub sieve-none : (n : ℕ) → any t n ≡ false → sieve t n ≡ []
+  unfolding any sieve
+  sieve-none zero e = refl
+  sieve-none (suc n) e = let z = neither (t n) (any t n) e in simp (z .0, sieve-none n (z .1))
+
+  pub sieve-first : (n u : ℕ) → any t u ≡ false → u < n → t u ≡ true → getD (sieve t n) 0 0 ≡ u
+  unfolding sieve
+  sieve-first zero u e l y = absurd (omega arith)
+  sieve-first (suc n) u e l y =
+      same-or u n
+      (λ q.
+      let z : sieve t n ≡ [] = sieve-none n (ap (any t) (sym q) ∙ e) in
+      let k : t n ≡ true = ap t (sym q) ∙ y in
+      simp (z, k) (sym q))
+      (λ q.
+      let k = tally-pos t n u (omega arith) y in
+      List·getD-append (sieve t n) (cond (t n) (n ∷ []) []) 0 0 (omega (arith, sieve-long t n))
+      ∙ sieve-first n u e (omega arith) y)
+
+module _ (b : Board) (h : ℕ) where
+  pub first-owing :
+      (u : ℕ) → any (owesAt b h) u ≡ false → u < b .units .count → owesAt b h u ≡ true → u ≡ getD (group b h) 0 0
+  unfolding group
+  first-owing u e l y = sym (sieve-first (owesAt b h) (b .units .count) u e l y)
+
+  pub none-owing : any (owesAt b h) (b .units .count) ≡ false → 0 ≡ getD (group b h) 0 0
+  unfolding group
+  none-owing e = sym (ap (λ (us : List ℕ). getD us 0 0) (sieve-none (owesAt b h) (b .units .count) e))
+
+-- what is found, of the numbers as they were read
+pub found-as :
+    (b : Board) (h : ℕ) {f n : ℕ} {y : Found} {t : Bool} → f ≡ groupForce b h → n ≡ b .desk .owed → y ≡ firstRoute b f h n → found y ≡ t
+    → t ≡ found (firstRoute b (groupForce b h) h (b .desk .owed))
+found-as b h ef en ey et = sym et ∙ ap found ey ∙ ap₂ (λ (f n : ℕ). found (firstRoute b f h n)) ef en
+
+-- and whether a route is legal, of them
+pub legal-as :
+    (b : Board) (h : ℕ) (route : List ℕ) {f n : ℕ} {t : Bool} → f ≡ groupForce b h → n ≡ b .desk .owed → t ≡ legal b f h n route
+    → t ≡ legal b (groupForce b h) h (b .desk .owed) route
+legal-as b h route ef en et = et ∙ ap₂ (λ (f n : ℕ). legal b f h n route) ef en
+
+-- the questions of the group, in their order
+module _ (p : List ℕ) (b : Board) (h : ℕ) (route : List ℕ) where
+  pub stops-long : 3 < length route → Stops p (groupChecks b h route) 3 0
+  stops-long m l v = stop (lt-ltb 3 (length route) m)
+
+  module _ (m : length route ≤ 3) where
+    pub stops-hex : b .map .hexes ≤ h → Stops p (groupChecks b h route) 3 0
+    stops-hex k l v = pass (le-ltb 3 (length route) m) (stop (le-leb (b .map .hexes) h k))
+
+    module _ (k : h < b .map .hexes) where
+      numbers :
+          {l : List ℕ} {v : Verdict} {a : Ruling} {q x : List ℕ} → Met p l v a q x
+          → Met p l (refuseIf (ltb 3 (length route)) 3 0 (refuseIf (leb (b .map .hexes) h) 3 0 v)) a q x
+      numbers w = pass (le-ltb 3 (length route) m) (pass (lt-leb (b .map .hexes) h k) w)
+
+      pub stops-route : {n j : ℕ} → Stops p (onMapAll b route) n j → Stops p (groupChecks b h route) n j
+      stops-route s l v = numbers (s l _)
+
+      module _ (o : Passes p (onMapAll b route)) where
+        pub stops-stage : (b .desk .stage ≡ 1 → ⊥) → Stops p (groupChecks b h route) 2 0
+        stops-stage e l v = numbers (o l _ _ _ _ (stop (ap not (ne-eqb (b .desk .stage) 1 e))))
+
+        module _ (e : b .desk .stage ≡ 1) where
+          pub stops-role : any (owesAt b h) (b .units .count) ≡ false → Stops p (groupChecks b h route) 4 0
+          stops-role f l v = numbers (o l _ _ _ _ (pass (ap not (eq-eqb (b .desk .stage) 1 e)) (stop (ap not f))))
+
+          pub passes-group : any (owesAt b h) (b .units .count) ≡ true → Passes p (groupChecks b h route) × Owing b h
+          passes-group f = (
+            λ l v a q x w. numbers (o l _ a q x (pass (ap not (eq-eqb (b .desk .stage) 1 e)) (pass (ap not f) w))),
+            record { there = k; now = e },
+          )
+
+-- "Stage 1: n is 1..3", and a hex is a 16-bit number
+pub owed-of : {p : List ℕ} {h : ℕ} → Accepted p → Owing (board p) h → In 1 (board p .desk .owed) 3
+owed-of a o = a .lawful .stage .during .retreats (o .now) .owed
+
+pub small-hex : {p : List ℕ} {v : View} {h : ℕ} → Laid p v → Owing (board p) h → h < 65536
+small-hex l o = omega (arith, o .there, l .view .hexes, l .fits .hexes)

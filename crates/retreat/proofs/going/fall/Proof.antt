@@ -1,0 +1,43 @@
+-- `going::fall` meets its contract: the hex alone is written, the group is destroyed, and the stage passes on.
+-- Assumes nothing.
+use borrow.Author.Needs.{needs}
+use Rattle.position.proofs.Changes.{laid-make, laid-makes}
+use Rattle.position.specs.Board.{board}
+use Rattle.aftermath.proofs.Stages.{then-on}
+use Rattle.retreat.specs.Retreat.{doomChanges}
+use Rattle.retreat.proofs.Leaving.{fallen}
+use Rattle.retreat.proofs.going.fall.Statement.{statement}
+use Rattle.retreat.proofs.going.fall.Tie as tie
+
+routes-requires : tie.Need-routes-requires
+routes-requires c κs = search needs
+
+set-route-requires : tie.Need-set-route-requires
+set-route-requires c κs = search needs
+
+fall-all-requires : tie.Need-fall-all-requires
+fall-all-requires c κs = rw (c .before .before .before .set-route .ensures) (laid-make (c .before .before .before .before .before .before .before .before .pre .0) _)
+
+pass-on-requires : tie.Need-pass-on-requires
+pass-on-requires c κs = laid-makes _ (rw (c .before .before .before .before .before .before .before .set-route .ensures) (laid-make (c .before .before .before .before .before .before .before .before .before .before .before .before .pre .0) _)) (c .before .before .before .fall-all .ensures)
+
+same-length : tie.Need-same-length
+same-length c = search needs
+
+returns : tie.Need-returns
+returns c =
+    let s = (c .before .before .before .before .before .before .before .before .before .before .before .before .before .before .before) in
+    then-on (s .pre .0 .shaped) (doomChanges (board (s .args .p .now)) (s .args .h))
+    (fallen (s .pre .0 .shaped) (s .args .h) (c .before .before .before .before .before .before .before .before .before .before .before .before .routes .ensures .is) (c .before .before .before .before .before .before .before .before .before .before .set-route .ensures) (c .before .before .before .before .before .before .fall-all .ensures))
+    (c .before .before .pass-on .ensures)
+
+pub fall-spec : {M : Type 1} → statement M
+fall-spec =
+    tie.close
+    (tie.spec
+    routes-requires
+    set-route-requires
+    fall-all-requires
+    pass-on-requires
+    same-length
+    returns)

@@ -1,0 +1,3 @@
+pub mod Retreat
+pub mod Answers
+pub mod Words

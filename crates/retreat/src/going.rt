@@ -1,0 +1,119 @@
+// How a group leaves its hex: the route is written, each unit goes or is destroyed, and the stage passes on.
+ghost use mathlib.Core.Path.{_≡_};
+ghost use mathlib.Core.Bool.{cond};
+ghost use mathlib.Core.List.{[], _∷_, map};
+ghost use Prim.Native.Nat.{_<_, _≤_};
+ghost use lib.ListN.{getD};
+ghost use Rattle.position.specs.Board.{board, nowhere};
+ghost use Rattle.position.specs.Crowd.{owesAt};
+ghost use Rattle.position.specs.Change.{makes};
+ghost use Rattle.position.specs.Change.Change.{destroyed};
+ghost use Rattle.position.specs.Laid.{Laid, Read};
+ghost use Rattle.aftermath.specs.Stage.{thenOn};
+ghost use Rattle.retreat.specs.Retreat.{group, leaves, goesOff, endOf, retreatChanges, doomChanges};
+use crate::asking;
+use aftermath::stage;
+use position::View;
+use position::crowd;
+use position::kind::Kind;
+use position::read;
+use position::write;
+
+// Number `i` of the route, 65535 if it has no more.
+fn hex_at(route: &[u16], i: usize) -> usize
+    ensures { λ r. ⌜ Read (getD (now (route .entry)) i nowhere) 65536 r ⌝ }
+{
+    if route.len() <= i {
+        return routes::NONE;
+    }
+    route[i] as usize
+}
+
+// Unit `u` goes to hex `end` with no role; a supply unit is destroyed.
+fn leave(p: &mut [u8], v: View, end: usize, u: usize)
+    requires { ⌜ Laid (now p) v ⌝ }
+    ensures { λ _. ⌜ now (p .exit) ≡ makes (now (p .entry)) (leaves (board (now (p .entry))) end u) ⌝ }
+{
+    if read::kind(p, v, u) == Kind::SUPPLY {
+        write::destroy(p, v, u);
+        return;
+    }
+    write::place(p, v, u, end);
+    write::assign(p, v, u, 0);
+}
+
+// Unit `u` leaves if it owes in hex `h`.
+fn leave_one(p: &mut [u8], v: View, h: usize, end: usize, u: usize)
+    requires { ⌜ Laid (now p) v ⌝ }
+    ensures { λ _. ⌜ now (p .exit) ≡ makes (now (p .entry)) (cond (owesAt (board (now (p .entry))) h u) (leaves (board (now (p .entry))) end u) []) ⌝ }
+{
+    if !asking::owes_at(p, v, h, u) {
+        return;
+    }
+    leave(p, v, end, u);
+}
+
+// Every unit that owes in hex `h` leaves.
+fn leave_all(p: &mut [u8], v: View, h: usize, end: usize)
+    requires { ⌜ Laid (now p) v ⌝ }
+    ensures { λ _. ⌜ now (p .exit) ≡ makes (now (p .entry)) (goesOff (board (now (p .entry))) end (group (board (now (p .entry))) h)) ⌝ }
+{
+    let count = v.count;
+    for u in 0..count {
+        leave_one(p, v, h, end, u);
+    }
+}
+
+// Unit `u` is destroyed if it owes in hex `h`.
+fn fall_one(p: &mut [u8], v: View, h: usize, u: usize)
+    requires { ⌜ Laid (now p) v ⌝ }
+    ensures { λ _. ⌜ now (p .exit) ≡ makes (now (p .entry)) (cond (owesAt (board (now (p .entry))) h u) (destroyed u ∷ []) []) ⌝ }
+{
+    if !asking::owes_at(p, v, h, u) {
+        return;
+    }
+    write::destroy(p, v, u);
+}
+
+// Every unit that owes in hex `h` is destroyed.
+fn fall_all(p: &mut [u8], v: View, h: usize)
+    requires { ⌜ Laid (now p) v ⌝ }
+    ensures { λ _. ⌜ now (p .exit) ≡ makes (now (p .entry)) (map destroyed (group (board (now (p .entry))) h)) ⌝ }
+{
+    let count = v.count;
+    for u in 0..count {
+        fall_one(p, v, h, u);
+    }
+}
+
+// The group in hex `h` goes off along the route; the answer is where it ends.
+pub fn go_off(p: &mut [u8], v: View, h: usize, route: &[u16]) -> usize
+    requires { ⌜ Laid (now p) v × (h < 65536) × (1 ≤ board (now p) .desk .owed) ⌝ }
+    ensures { λ r. ⌜ (r ≡ endOf (board (now (p .entry))) (now (route .entry))) × (now (p .exit) ≡ makes (now (p .entry)) (thenOn (board (now (p .entry))) (retreatChanges (board (now (p .entry))) h (now (route .entry))))) ⌝ }
+{
+    let end = hex_at(route, read::owed(p, v) - 1);
+    let r = crowd::routes(p, v);
+    write::set_route(
+        p,
+        v,
+        r,
+        h,
+        hex_at(route, 0),
+        hex_at(route, 1),
+        hex_at(route, 2),
+    );
+    leave_all(p, v, h, end);
+    stage::pass_on(p, v);
+    end
+}
+
+// The group in hex `h` is destroyed, and its hex alone is the route.
+pub fn fall(p: &mut [u8], v: View, h: usize)
+    requires { ⌜ Laid (now p) v × (h < 65536) ⌝ }
+    ensures { λ _. ⌜ now (p .exit) ≡ makes (now (p .entry)) (thenOn (board (now (p .entry))) (doomChanges (board (now (p .entry))) h)) ⌝ }
+{
+    let r = crowd::routes(p, v);
+    write::set_route(p, v, r, h, routes::NONE, routes::NONE, routes::NONE);
+    fall_all(p, v, h);
+    stage::pass_on(p, v);
+}
