@@ -5,7 +5,8 @@
  *
  * The answer's low byte is the refusal's number, 0 if the call is accepted. Of a refusal bits 8 to 23 are the place in the list or
  * path, counted from 1, and 0 if there is none. Of an accepted attack bits 8 to 15 are the column, counted from 1, and bits 16 to 23
- * the result code. All other bits are 0. A refused call changes no byte that was lent.
+ * the result code. Of an accepted retreat bits 8 to 15 are 1 if the group retreated, and then bits 16 to 31 its end hex, or 2 if it
+ * was destroyed. All other bits are 0. A refused call changes no byte that was lent.
  *
  * Refusal 1: the position breaks a line of its rules; nothing further is looked at. Single numbers are 32 bits wide, so that no
  * number is cut to a legal one: out of range they are refusal 3. */
@@ -45,6 +46,28 @@ uint64_t ia_end_phase(uint8_t *pos, size_t pos_len, uint8_t *scratch, size_t scr
  * over an unblocked side. */
 uint64_t ia_attack(uint8_t *pos, size_t pos_len, uint32_t target, const uint16_t *units, size_t units_len, uint32_t die,
                    uint8_t *scratch, size_t scratch_len);
+
+/* In stage 1 the units that owe in a hex go together along a route of as many hexes as are owed: over unblocked sides, into vacant
+ * unprohibited land or coast outside Enemy zones, ending as far from the start as they are many. If there is no such route, or only
+ * supply units owe there, the group is destroyed whatever route was sent.
+ * Refusals in order: 1; 3 a route of more than 3; 3 no such hex; 3 at the first number that is no hex, with its place; 2 wrong stage;
+ * 4 nobody owes there; 14 the route is not legal though one exists. */
+uint64_t ia_retreat(uint8_t *pos, size_t pos_len, uint32_t hex, const uint16_t *route, size_t route_len);
+
+/* In stage 2 units of a list of 1 to 18 are the losses of an exchange: they are destroyed, and the survivors may advance.
+ * Refusals in order: 1; 3 the list's length; 3 at the first number that is no unit, with its place; 2 wrong stage; then for each unit
+ * with its place 4 it does not owe, 6 named before; last 15 the printed total falls short of need though not all are named, or
+ * special infantry of the phasing force is passed over. */
+uint64_t ia_losses(uint8_t *pos, size_t pos_len, const uint16_t *units, size_t units_len);
+
+/* In stage 3 a unit that may advance goes to a hex of a route that starts beside it, with no Enemy from its start to that hex.
+ * Refusals in order: 1; 3 no such unit; 3 no such hex; 2 wrong stage; 4 it may not advance; 5 a supply unit; 7 no route; 11 three
+ * others there. */
+uint64_t ia_advance(uint8_t *pos, size_t pos_len, uint32_t unit, uint32_t hex);
+
+/* Stage 3 ends: all roles are cleared, and the routes.
+ * Refusals in order: 1; 2 wrong stage. */
+uint64_t ia_close(uint8_t *pos, size_t pos_len);
 
 #ifdef __cplusplus
 }

@@ -11,6 +11,7 @@ use crate::rooms::Output;
 use battle::Fought;
 use march::Moved;
 use position::Checked;
+use retreat::Retreated;
 use ruling::Answer;
 
 // The right length of a buffer for the position `p`.
@@ -140,4 +141,56 @@ pub fn attack_call(
         &mut lent[..n],
     );
     fought(game::called(g, n), a, out)
+}
+
+// Where a retreat ends, that the group is destroyed, or refused.
+fn retreated(g: Game, a: Retreated, out: &mut Output) -> Game {
+    match a {
+        Retreated::To(end) => game::printed(g, print::retreated(out, g.full, end)),
+        Retreated::Destroyed => game::printed(g, print::text(out, g.full, b"destroyed\n")),
+        Retreated::Refused(n, place) => game::printed(g, print::refused(out, g.full, n, place)),
+    }
+}
+
+pub fn retreat_call(g: Game, l: Line, pos: &mut [u8], nums: &Numbers, out: &mut Output) -> Game {
+    let words = number::listed(l);
+    if words < 1 {
+        return game::what(g, out);
+    }
+    let size = rooms::within(g.size, pos);
+    let list: &[u16] = nums;
+    let a = rules::retreat(&mut pos[..size], number::wide(nums[0]), &list[1..words]);
+    retreated(game::called(g, 0), a, out)
+}
+
+pub fn losses_call(g: Game, l: Line, pos: &mut [u8], nums: &Numbers, out: &mut Output) -> Game {
+    let words = number::listed(l);
+    let size = rooms::within(g.size, pos);
+    let list: &[u16] = nums;
+    let a = rules::losses(&mut pos[..size], &list[0..words]);
+    answer(game::called(g, 0), a, out)
+}
+
+pub fn advance_call(g: Game, l: Line, pos: &mut [u8], nums: &Numbers, out: &mut Output) -> Game {
+    let words = l.count;
+    if words != 2 {
+        return game::what(g, out);
+    }
+    let size = rooms::within(g.size, pos);
+    let a = rules::advance(
+        &mut pos[..size],
+        number::wide(nums[0]),
+        number::wide(nums[1]),
+    );
+    answer(game::called(g, 0), a, out)
+}
+
+pub fn close_call(g: Game, l: Line, pos: &mut [u8], out: &mut Output) -> Game {
+    let words = l.count;
+    if words != 0 {
+        return game::what(g, out);
+    }
+    let size = rooms::within(g.size, pos);
+    let a = rules::close(&mut pos[..size]);
+    answer(game::called(g, 0), a, out)
 }

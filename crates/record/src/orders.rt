@@ -27,6 +27,14 @@ const END: u64 = 0x656e64;
 
 const ATTACK: u64 = 0x61747461636b;
 
+const RETREAT: u64 = 0x72657472656174;
+
+const LOSSES: u64 = 0x6c6f73736573;
+
+const ADVANCE: u64 = 0x616476616e6365;
+
+const CLOSE: u64 = 0x636c6f7365;
+
 const NOTHING: u64 = 0;
 
 // A line that could be read as words. Each call has its arm.
@@ -50,6 +58,10 @@ fn obey(
         MOVE => calls::move_call(g, l, pos, nums, out),
         END => calls::end_call(g, l, pos, lent, out),
         ATTACK => calls::attack_call(g, l, pos, lent, nums, out),
+        RETREAT => calls::retreat_call(g, l, pos, nums, out),
+        LOSSES => calls::losses_call(g, l, pos, nums, out),
+        ADVANCE => calls::advance_call(g, l, pos, nums, out),
+        CLOSE => calls::close_call(g, l, pos, out),
         _ => game::what(g, out),
     }
 }

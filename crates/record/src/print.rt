@@ -83,3 +83,9 @@ pub fn refused(out: &mut Output, full: usize, n: usize, place: usize) -> usize {
 pub fn fought(out: &mut Output, full: usize, column: usize, code: usize) -> usize {
     pair(out, full, b"fought ", column, code)
 }
+
+pub fn retreated(out: &mut Output, full: usize, end: usize) -> usize {
+    let f = text(out, full, b"retreated ");
+    let h = number(out, f, end as u64);
+    put(out, h, b'\n')
+}

@@ -4,11 +4,13 @@ ghost use mathlib.Core.List.{[]};
 ghost use Rattle.ruling.specs.Answers.{answerAs};
 ghost use Rattle.march.specs.Answers.{movedAs};
 ghost use Rattle.battle.specs.Answers.{foughtAs};
+ghost use Rattle.retreat.specs.Answers.{retreatedAs};
 ghost use Rattle.rules.specs.Order.{verdict};
-ghost use Rattle.rules.specs.Order.Order.{supply, move, endPhase, attack};
+ghost use Rattle.rules.specs.Order.Order.{supply, move, endPhase, attack, retreat, losses, advance, close};
 ghost use Rattle.referee.specs.Packed.{refusalOf, packed, Exported};
 use battle::Fought;
 use march::Moved;
+use retreat::Retreated;
 use ruling::Answer;
 
 // A refusal: its number in the low byte, its place in bits 8 to 23.
@@ -43,6 +45,17 @@ fn pack_fought(a: Fought) -> u64
     match a {
         Fought::Done(column, code) => (256 * (column % 256) + 65536 * (code % 65536)) as u64,
         Fought::Refused(n, k) => refusal(n, k),
+    }
+}
+
+// 1 and the end hex, or 2 for a group that is destroyed.
+fn pack_retreated(a: Retreated) -> u64
+    ensures { λ r. ⌜ r ≡ packed (retreatedAs a) ⌝ }
+{
+    match a {
+        Retreated::To(end) => (256 + 65536 * (end % 65536)) as u64,
+        Retreated::Destroyed => 512,
+        Retreated::Refused(n, k) => refusal(n, k),
     }
 }
 
@@ -81,4 +94,32 @@ pub extern "C" fn ia_attack(
         ⌜ Exported (now (pos .entry)) (now (scratch .entry)) (verdict (now (pos .entry)) (attack target (now (units .entry)) die) (now (scratch .entry))) r (now (pos .exit)) (now (scratch .exit)) ⌝ }
 {
     pack_fought(rules::attack(pos, target as usize, units, die as usize, scratch))
+}
+
+#[no_mangle]
+pub extern "C" fn ia_retreat(pos: &mut [u8], hex: u32, route: &[u16]) -> u64
+    ensures { λ r. ⌜ Exported (now (pos .entry)) [] (verdict (now (pos .entry)) (retreat hex (now (route .entry))) []) r (now (pos .exit)) [] ⌝ }
+{
+    pack_retreated(rules::retreat(pos, hex as usize, route))
+}
+
+#[no_mangle]
+pub extern "C" fn ia_losses(pos: &mut [u8], units: &[u16]) -> u64
+    ensures { λ r. ⌜ Exported (now (pos .entry)) [] (verdict (now (pos .entry)) (losses (now (units .entry))) []) r (now (pos .exit)) [] ⌝ }
+{
+    pack_answer(rules::losses(pos, units))
+}
+
+#[no_mangle]
+pub extern "C" fn ia_advance(pos: &mut [u8], unit: u32, hex: u32) -> u64
+    ensures { λ r. ⌜ Exported (now (pos .entry)) [] (verdict (now (pos .entry)) (advance unit hex) []) r (now (pos .exit)) [] ⌝ }
+{
+    pack_answer(rules::advance(pos, unit as usize, hex as usize))
+}
+
+#[no_mangle]
+pub extern "C" fn ia_close(pos: &mut [u8]) -> u64
+    ensures { λ r. ⌜ Exported (now (pos .entry)) [] (verdict (now (pos .entry)) close []) r (now (pos .exit)) [] ⌝ }
+{
+    pack_answer(rules::close(pos))
 }

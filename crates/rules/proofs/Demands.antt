@@ -22,8 +22,14 @@ use Rattle.march.proofs.KeepMove.{move-keeps}
 use Rattle.march.proofs.KeepEnd.{end-keeps}
 use Rattle.battle.specs.Battle.{attackVerdict}
 use Rattle.battle.proofs.KeepAttack.{attack-keeps}
+use Rattle.aftermath.specs.Losses.{lossesVerdict}
+use Rattle.aftermath.specs.Advance.{advanceVerdict, closeVerdict}
+use Rattle.aftermath.proofs.KeepLosses.{losses-keeps}
+use Rattle.aftermath.proofs.KeepAdvance.{advance-keeps, close-keeps}
+use Rattle.retreat.specs.Retreat.{retreatVerdict}
+use Rattle.retreat.proofs.KeepRetreat.{retreat-keeps}
 use Rattle.rules.specs.Order.{Order, ruleOf, verdict, step}
-use Rattle.rules.specs.Order.Order.{supply, move, endPhase, attack}
+use Rattle.rules.specs.Order.Order.{supply, move, endPhase, attack, retreat, losses, advance, close}
 use Rattle.rules.specs.Demands.{StaysAccepted, Secrecy, OneResult, RefusalsLeaveAll}
 
 -- the supply call leaves the position as it was
@@ -39,6 +45,10 @@ order-keeps p l (supply n) a = unfold supplyVerdict in supply-keeps p l n a .ok
 order-keeps p l (move u path) a = unfold moveVerdict in move-keeps p l u path a
 order-keeps p l endPhase a = unfold endVerdict in end-keeps p l a
 order-keeps p l (attack target units die) a = unfold attackVerdict in attack-keeps p l target units die a
+order-keeps p l (retreat hex route) a = unfold retreatVerdict in retreat-keeps p l hex route a
+order-keeps p l (losses units) a = unfold lossesVerdict in losses-keeps p l units a
+order-keeps p l (advance unit hex) a = unfold advanceVerdict in advance-keeps p l unit hex a
+order-keeps p l close a = unfold closeVerdict in close-keeps p l a
 
 pub stays-accepted : StaysAccepted
 stays-accepted p c a = order-keeps p (c .lent) (c .order) a

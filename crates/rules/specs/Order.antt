@@ -9,6 +9,9 @@ use Rattle.supply.specs.Supply.{supplyRule}
 use Rattle.march.specs.Move.{moveRule}
 use Rattle.march.specs.EndPhase.{endRule}
 use Rattle.battle.specs.Battle.{attackRule}
+use Rattle.aftermath.specs.Losses.{lossesRule}
+use Rattle.aftermath.specs.Advance.{advanceRule, closeRule}
+use Rattle.retreat.specs.Retreat.{retreatRule}
 
 -- an order has the numbers and lists of a call; what is lent with it is kept apart
 pub data Order : Type 0 where
@@ -17,12 +20,22 @@ pub data Order : Type 0 where
   endPhase : Order
   -- target, units, die
   attack : ℕ → List ℕ → ℕ → Order
+  -- hex and route
+  retreat : ℕ → List ℕ → Order
+  losses : List ℕ → Order
+  -- unit and hex
+  advance : ℕ → ℕ → Order
+  close : Order
 
 unfoldable pub ruleOf : Rules Order
 ruleOf b (supply n) long = supplyRule b n long
 ruleOf b (move u path) long = moveRule b u path
 ruleOf b endPhase long = endRule b long
 ruleOf b (attack target units die) long = attackRule b target units die long
+ruleOf b (retreat hex route) long = retreatRule b hex route
+ruleOf b (losses units) long = lossesRule b units
+ruleOf b (advance unit hex) long = advanceRule b unit hex
+ruleOf b close long = closeRule b
 
 -- the ruling on an order with the bytes lent: refusal 1 unless the position is accepted
 abbrev pub verdict : List ℕ → Order → List ℕ → Verdict

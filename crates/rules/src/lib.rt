@@ -4,10 +4,12 @@ ghost use Rattle.ruling.specs.Verdict.{Met};
 ghost use Rattle.ruling.specs.Answers.{answerAs};
 ghost use Rattle.march.specs.Answers.{movedAs};
 ghost use Rattle.battle.specs.Answers.{foughtAs};
+ghost use Rattle.retreat.specs.Answers.{retreatedAs};
 ghost use Rattle.rules.specs.Order.{verdict};
-ghost use Rattle.rules.specs.Order.Order.{supply, move, endPhase, attack};
+ghost use Rattle.rules.specs.Order.Order.{supply, move, endPhase, attack, retreat, losses, advance, close};
 use battle::Fought;
 use march::Moved;
+use retreat::Retreated;
 use ruling::Answer;
 
 // Which hexes are supplied for a nationality: 1 or 0 per hex, into a buffer of exactly width x height bytes.
@@ -39,4 +41,32 @@ pub fn attack(p: &mut [u8], target: usize, units: &[u16], die: usize, scratch: &
         ⌜ Met (now (p .entry)) (now (scratch .entry)) (verdict (now (p .entry)) (attack target (now (units .entry)) die) (now (scratch .entry))) (foughtAs r) (now (p .exit)) (now (scratch .exit)) ⌝ }
 {
     battle::attacking::attack(p, target, units, die, scratch)
+}
+
+// The units that owe in a hex go off along a route, or are destroyed.
+pub fn retreat(p: &mut [u8], hex: usize, route: &[u16]) -> Retreated
+    ensures { λ r. ⌜ Met (now (p .entry)) [] (verdict (now (p .entry)) (retreat hex (now (route .entry))) []) (retreatedAs r) (now (p .exit)) [] ⌝ }
+{
+    retreat::retreat(p, hex, route)
+}
+
+// The units of a list are the losses of an exchange.
+pub fn losses(p: &mut [u8], units: &[u16]) -> Answer
+    ensures { λ r. ⌜ Met (now (p .entry)) [] (verdict (now (p .entry)) (losses (now (units .entry))) []) (answerAs r) (now (p .exit)) [] ⌝ }
+{
+    aftermath::losses::losses(p, units)
+}
+
+// A unit advances to a hex of a route.
+pub fn advance(p: &mut [u8], unit: usize, hex: usize) -> Answer
+    ensures { λ r. ⌜ Met (now (p .entry)) [] (verdict (now (p .entry)) (advance unit hex) []) (answerAs r) (now (p .exit)) [] ⌝ }
+{
+    aftermath::advance::advance(p, unit, hex)
+}
+
+// The advances are over.
+pub fn close(p: &mut [u8]) -> Answer
+    ensures { λ r. ⌜ Met (now (p .entry)) [] (verdict (now (p .entry)) close []) (answerAs r) (now (p .exit)) [] ⌝ }
+{
+    aftermath::advance::close(p)
 }
