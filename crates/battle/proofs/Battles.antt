@@ -30,7 +30,8 @@ use Rattle.battle.specs.declared.Upshot.{Upshot}
 use Rattle.battle.specs.Line.{defenders, participants}
 use Rattle.battle.specs.Results.{lost, foughtBy, suffers, sufferedBy, onceEach, routesWritten, routedFrom, battleChanges}
 use Rattle.field.proofs.Lists.{sieve-long}
-use Rattle.field.proofs.Named.{each-by, each-then, each-map, named-each, named-then, sieve-each, sieve-names, once-most}
+use Rattle.ruling.proofs.Secrets.{each-by}
+use Rattle.field.proofs.Named.{each-then, each-map, named-each, named-then, sieve-each, sieve-names, once-most}
 use Rattle.battle.proofs.Onces.{once-each, once-once}
 use Rattle.battle.proofs.Striking.{Present, marked-all, routed-all, Footing, routes-all, Struck, struck}
 use Rattle.battle.proofs.Ring.{joined-one}

@@ -32,7 +32,7 @@ use Rattle.battle.specs.Line.{defenders, participants, attackLine, defen
 use Rattle.battle.specs.Odds.{multipleAt}
 use Rattle.battle.specs.Results.{upshot, battleChanges}
 use Rattle.battle.specs.Battle.{columnOf, codeOf, needFor, ruled, battle, attackRule, attackVerdict}
-use Rattle.field.proofs.Named.{each-by}
+use Rattle.ruling.proofs.Secrets.{each-by}
 use Rattle.battle.proofs.Upshots.{sensible, NeedOk, need-fits, code-fits}
 use Rattle.battle.proofs.Totals.{attack-total, defence-total}
 use Rattle.battle.proofs.Aftermath.{Held, Ready, crowd-there, crowd-some}

@@ -11,15 +11,12 @@ use borrow.Author.Tests.{eq-eqb, ne-eqb, eqb-false}
 use Rattle.position.specs.Tally.{tally}
 use Rattle.position.proofs.Tallies.{not-both, neither, same-or, either, tally-le, tally-most, tally-but-hit, but, but-other, but-self}
 use Rattle.ruling.specs.Secret.{Each}
+use Rattle.ruling.proofs.Secrets.{each-by}
 use Rattle.acceptance.proofs.Counts.{tally-nought, tally-one-off}
 use Rattle.field.specs.Listed.{named, sieve}
 use Rattle.field.proofs.Lists.{named-nil}
 
 -- what holds of each number of a list
-pub each-by : {P Q : ℕ → Type 0} → ((u : ℕ) → P u → Q u) → (us : List ℕ) → Each P us → Each Q us
-each-by f [] h = tt
-each-by f (u ∷ us) h = (f u (h .0), each-by f us (h .1))
-
 pub each-then : (P : ℕ → Type 0) (xs ys : List ℕ) → Each P xs → Each P ys → Each P (xs ++ ys)
 each-then P [] ys h g = g
 each-then P (x ∷ xs) ys h g = (h .0, each-then P xs ys (h .1) g)

@@ -19,9 +19,8 @@ use Rattle.position.specs.Effect.{change, changes}
 use Rattle.position.specs.Laid.{Laid}
 use Rattle.position.specs.Shape.{Shaped}
 use Rattle.position.specs.declared.View.{View}
-use Rattle.acceptance.proofs.Carries.{Fixed, fixed-change}
 use Rattle.acceptance.proofs.Fates.{Same, assigned-else, destroyed-else, same-trans}
-use Rattle.acceptance.proofs.Stills.{fixed-refl, fixed-trans}
+use Rattle.acceptance.proofs.Stills.{fixed-changes}
 use Rattle.field.proofs.Lists.{sieve-hit, sieve-miss}
 use Rattle.field.specs.Listed.{sieve}
 use Rattle.retreat.specs.Retreat.{doomChanges, endOf, goesOff, group, leaves, retreatChanges}
@@ -31,12 +30,6 @@ pub at-any : (xs : List ℕ) (i d e : ℕ) → i < length xs → getD xs i d ≡
 at-any [] i d e l = absurd (omega arith)
 at-any (x ∷ xs) zero d e l = refl
 at-any (x ∷ xs) (suc i) d e l = at-any xs i d e (omega arith)
-
--- no change touches the counters
-pub fixed-changes : (xs : List Change) (b : Board) → Fixed b (changes b xs)
-unfolding changes
-fixed-changes [] b = fixed-refl b
-fixed-changes (x ∷ xs) b = fixed-trans (fixed-change b x) (fixed-changes xs (change b x))
 
 -- the changes g of each unit, one unit after another
 unfoldable pub gather : (ℕ → List Change) → List ℕ → List Change

@@ -20,7 +20,7 @@ use Rattle.ruling.specs.Verdict.Judge.{reveal, rule}
 use Rattle.ruling.specs.Verdict.Verdict.{refuseIf, judge}
 use Rattle.ruling.specs.Secret.{Each, OneStrength, SameOutcome, Sent, Rules, verdictOn, afterCall, Keeping, ShownAlike, RunsAlike, SecretRuns}
 
-each-by : {P Q : ℕ → Type 0} → ((u : ℕ) → P u → Q u) → (us : List ℕ) → Each P us → Each Q us
+pub each-by : {P Q : ℕ → Type 0} → ((u : ℕ) → P u → Q u) → (us : List ℕ) → Each P us → Each Q us
 each-by f [] h = tt
 each-by f (u ∷ us) h = (f u (h .0), each-by f us (h .1))
 
