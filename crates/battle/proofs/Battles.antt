@@ -36,7 +36,7 @@ use Rattle.battle.proofs.Onces.{once-each, once-once}
 use Rattle.battle.proofs.Striking.{Present, marked-all, routed-all, Footing, routes-all, Struck, struck}
 use Rattle.battle.proofs.Ring.{joined-one}
 use Rattle.battle.proofs.Upshots.{Sensible, NeedOk}
-use Rattle.battle.proofs.Aftermath.{Attacker, Ready, attacker-of, attacker-off, Shown, Sides, Desked, lawful-after}
+use Rattle.battle.proofs.LawfulAfter.{Attacker, Ready, attacker-of, attacker-off, Shown, Sides, Desked, lawful-after}
 
 -- the units in the target hex
 module _ (b : Board) (target : ℕ) where

@@ -35,7 +35,7 @@ use Rattle.battle.specs.Battle.{columnOf, codeOf, needFor, ruled, battle
 use Rattle.ruling.proofs.Secrets.{each-by}
 use Rattle.battle.proofs.Upshots.{sensible, NeedOk, need-fits, code-fits}
 use Rattle.battle.proofs.Totals.{attack-total, defence-total}
-use Rattle.battle.proofs.Aftermath.{Held, Ready, crowd-there, crowd-some}
+use Rattle.battle.proofs.LawfulAfter.{Held, Ready, crowd-there, crowd-some}
 use Rattle.battle.proofs.Battles.{defenders-each, defenders-long, stands-is, attackers-below, lawful-battle}
 
 -- what each question leaves known

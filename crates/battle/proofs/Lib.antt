@@ -9,6 +9,6 @@ pub mod Ring
 pub mod Upshots
 pub mod Totals
 pub mod Striking
-pub mod Aftermath
+pub mod LawfulAfter
 pub mod Battles
 pub mod KeepAttack
