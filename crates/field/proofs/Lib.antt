@@ -2,4 +2,6 @@ pub mod Zones
 pub mod Scenes
 pub mod Bearings
 pub mod Lists
+pub mod Making
 pub mod Named
+pub mod Sieves

@@ -2,14 +2,13 @@
 -- Assumes nothing.
 use Prim.Native.Nat.{ℕ, _+_, _≤_, _<_}
 use mathlib.Core.Path.{_≡_, refl, sym, ap, _∙_}
-use mathlib.Core.Bool.{Bool, true, false, not, _&&_, and-false}
+use mathlib.Core.Bool.{Bool, true, false, not}
 use native.Mathlib.Omega.{arith}
 use lib.Dec.{ltb, eqb}
-use borrow.Author.Tests.{ltb-true, lt-ltb, le-ltb, eq-eqb, ne-eqb, eqb-true, eqb-false, not-true, not-false}
+use borrow.Author.Tests.{ltb-true, lt-ltb, eq-eqb, ne-eqb, eqb-true, eqb-false, not-true, not-false}
 use Rattle.grid.specs.declared.Beside.{Beside}
 use Rattle.grid.specs.declared.Beside.the-variants.{At, Off}
 use Rattle.position.specs.Tally.{any}
-use Rattle.position.specs.Kind.{castsZone}
 use Rattle.position.specs.Board.{Board, forceOf, enemy}
 use Rattle.position.specs.Ground.{beside, side}
 use Rattle.position.proofs.Tallies.{both-yes, not-both, any-zero, any-miss, any-some, any-true, any-false}
@@ -19,7 +18,6 @@ use Rattle.field.specs.Zone.{
   ownOn,
   enemyOn,
   holdsEnemy,
-  casterOn,
   holdsCaster,
   casterAt,
   castsOver,
@@ -59,10 +57,6 @@ module _ (s : Scene) (h u : ℕ) where
 
 module _ (s : Scene) (f h u : ℕ) where
   -- a unit that stands there, and one that does not
-  pub own-here : s .hex u ≡ h → ownOn s f h u ≡ eqb (forceIn s u) f
-  unfolding ownOn
-  own-here e = simp (stands-here s h u e)
-
   pub own-off : (s .hex u ≡ h → ⊥) → ownOn s f h u ≡ false
   unfolding ownOn
   own-off e = simp (stands-off s h u e)
@@ -75,47 +69,20 @@ module _ (s : Scene) (f h u : ℕ) where
   unfolding enemyOn
   enemy-off e = simp (stands-off s h u e)
 
-  -- an own unit there casts by its type, another not at all
-  pub caster-own : ownOn s f h u ≡ true → casterOn s f h u ≡ castsZone (s .kind u)
-  unfolding casterOn
-  caster-own e = simp e
-
-  pub caster-not : ownOn s f h u ≡ false → casterOn s f h u ≡ false
-  unfolding casterOn
-  caster-not e = simp e
-
 module _ (s : Scene) (f h : ℕ) where
-  -- no zone in all-sea; elsewhere one from any direction
-  pub casts-not-sea : s .map .surface h ≡ 2 → casts s f h ≡ false
-  unfolding casts
-  casts-not-sea e = simp (eq-eqb (s .map .surface h) 2 e)
-
+  -- outside all-sea a zone comes from any direction,
   pub casts-around : (s .map .surface h ≡ 2 → ⊥) → casts s f h ≡ any (castsOver s f h) 6
   unfolding casts
   casts-around e = simp (ne-eqb (s .map .surface h) 2 e)
 
-  module _ (d : ℕ) where
-    -- no zone over a major river or a blocked side, nor from off the map; else one from the neighbour
-    pub over-stopped : 2 ≤ side (s .map) h d → castsOver s f h d ≡ false
-    unfolding castsOver
-    over-stopped l = simp (le-ltb (side (s .map) h d) 2 l)
+  -- over a side that lets it through from the neighbour
+  pub over-from : (d n : ℕ) → side (s .map) h d < 2 → beside (s .map) h d ≡ At n → castsOver s f h d ≡ holdsCaster s f n
+  unfolding castsOver casterAt
+  over-from d n l e = simp (lt-ltb (side (s .map) h d) 2 l, e)
 
-    pub over-edge : beside (s .map) h d ≡ Off → castsOver s f h d ≡ false
-    unfolding castsOver casterAt
-    over-edge e = simp (e, and-false)
-
-    pub over-from : (n : ℕ) → side (s .map) h d < 2 → beside (s .map) h d ≡ At n → castsOver s f h d ≡ holdsCaster s f n
-    unfolding castsOver casterAt
-    over-from n l e = simp (lt-ltb (side (s .map) h d) 2 l, e)
-
-  module _ (g : ℕ) where
-    pub enemy-casts : s .enemy f g ≡ true → enemyCasts s f h g ≡ casts s g h
-    unfolding enemyCasts
-    enemy-casts e = simp e
-
-    pub enemy-casts-not : s .enemy f g ≡ false → enemyCasts s f h g ≡ false
-    unfolding enemyCasts
-    enemy-casts-not e = simp e
+  pub enemy-casts : (g : ℕ) → s .enemy f g ≡ true → enemyCasts s f h g ≡ casts s g h
+  unfolding enemyCasts
+  enemy-casts g e = simp e
 
 -- force g casts a zone over hex h, which is not all-sea, from a hex beside it
 pub record CastFrom (s : Scene) (g h : ℕ) : Type 0 where

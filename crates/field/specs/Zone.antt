@@ -6,7 +6,7 @@ use lib.Dec.{ltb, eqb}
 use Rattle.grid.specs.declared.Beside.{Beside}
 use Rattle.grid.specs.declared.Beside.the-variants.{At, Off}
 use Rattle.position.specs.Tally.{any}
-use Rattle.position.specs.Kind.{castsZone}
+use Rattle.position.specs.Kind.{castsZone, supplyKind}
 use Rattle.position.specs.Ground.{beside, side}
 use Rattle.field.specs.Scene.{Scene, forceIn}
 
@@ -25,6 +25,10 @@ ownOn s f h u = standsOn s h u && eqb (forceIn s u) f
 -- hex h holds a unit of force f, of any type
 unfoldable pub holds : Scene → ℕ → ℕ → Bool
 holds s f h = any (ownOn s f h) (s .count)
+
+-- unit u is a supply unit of force f, and stands on hex h
+unfoldable pub supplyUnitOn : Scene → ℕ → ℕ → ℕ → Bool
+supplyUnitOn s f h u = ownOn s f h u && eqb (s .kind u) supplyKind
 
 -- unit u is Enemy to force f, and stands on hex h
 unfoldable pub enemyOn : Scene → ℕ → ℕ → ℕ → Bool

@@ -1,7 +1,9 @@
 pub mod Arith
 pub mod Tests
 pub mod Step
+pub mod Spots
 pub mod Far
 pub mod Walks
 pub mod Laws
+pub mod Close
 pub mod Rulings

@@ -1,3 +1,4 @@
 pub mod Map
 pub mod Walk
+pub mod Spot
 pub mod Rulings

@@ -1,4 +1,6 @@
 // Hexes of a map, their neighbours and distances.
+pub mod near;
+
 ghost use mathlib.Core.Path.{_≡_};
 ghost use Prim.Native.Nat.{_<_, _≤_};
 ghost use Rattle.grid.specs.Map.{On, oneTo, onMap, hexAt, besideOf, neighbourOf};
@@ -7,6 +9,19 @@ ghost use Rattle.grid.specs.Walk.{gapOf, distanceOf};
 // What lies beside a hex: another hex, or the map's edge.
 pub enum Beside {
     At(usize),
+    Off,
+}
+
+// A hex with its column and its row, both counted from 0.
+pub struct Spot {
+    pub hex: usize,
+    pub column: usize,
+    pub row: usize,
+}
+
+// What lies beside a hex, with its column and row.
+pub enum Nearby {
+    At(Spot),
     Off,
 }
 

@@ -1,6 +1,6 @@
 -- Laws of the ground: which side lies between two hexes, and from both of them the same; where a step leads; where a unit may stand.
 -- Assumes nothing.
-use Prim.Native.Nat.{ℕ, zero, suc, _+_, _-_, _/_, _%_, _≤_, _<_}
+use Prim.Native.Nat.{ℕ, zero, suc, _+_, _-_, _*_, _/_, _%_, _≤_, _<_}
 use mathlib.Core.Path.{_≡_, refl, sym, ap, ap₂, _∙_}
 use mathlib.Core.List.{List}
 use mathlib.Core.Bool.{Bool, false, not, and-false}
@@ -14,8 +14,10 @@ use Rattle.grid.specs.Map.{On, neighbourOf}
 use Rattle.grid.proofs.Laws.{opposite, direction, on-map}
 use Rattle.position.specs.declared.View.{View}
 use Rattle.position.specs.Layout.{ViewOf, hexes}
+use Rattle.position.specs.Laid.{Laid}
 use Rattle.position.specs.Tally.{any}
 use Rattle.position.specs.Board.{Board, Map, ground}
+use Rattle.position.proofs.Shapes.{sizes}
 use Rattle.position.specs.Ground.{beside, stored, storedAt, side, blockedSide, next, isAt, joined, standable}
 
 -- the neighbour, by the view's width and height
@@ -120,3 +122,19 @@ module _ (m : Map) (a d x : ℕ) (e : next m a d ≡ At x) where
 pub next-in : {p : List ℕ} {v : View} → ViewOf p v → (a d x : ℕ) → next (ground p) a d ≡ At x → x < v .hexes
 unfolding hexes
 next-in {p} w a d x e = omega (arith, w .hexes, next-on (ground p) a d x e .below)
+
+-- the hexes of the view are those of a map of its width and height
+pub area-view : {p : List ℕ} {v : View} → ViewOf p v → v .hexes ≡ v .width * v .height
+unfolding hexes
+area-view o = o .hexes ∙ sym (ap₂ _*_ (o .width) (o .height))
+
+pub on-view : {p : List ℕ} {v : View} → Laid p v → (x : ℕ) → x < v .hexes → On (v .width) (v .height) x
+on-view l x e =
+    let s = sizes l in
+    record {
+      wide = s .width .low;
+      wide64 = s .width .high;
+      high = s .height .low;
+      high64 = s .height .high;
+      below = omega (arith, area-view (l .view));
+    }

@@ -4,6 +4,13 @@ use Prim.Native.Nat.{ℕ, zero, suc}
 use mathlib.Core.Bool.{Bool, true, false, cond}
 use lib.Dec.{leb, eqb}
 
+-- the two types that rules name by themselves
+abbrev pub special : ℕ
+special = 4
+
+abbrev pub supplyKind : ℕ
+supplyKind = 5
+
 -- what a type's row of the table says; the last for what is no type
 abbrev pub byKind : {A : Type 0} → ℕ → A → A → A → A → A → A → A → A
 byKind zero ar me inf mi sp su none = ar

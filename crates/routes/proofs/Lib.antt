@@ -1,4 +1,5 @@
 pub mod Steps
+pub mod Windows
 pub mod Legal
 pub mod Words
 pub mod Ahead

@@ -4,15 +4,13 @@ use Prim.Native.Nat.{ℕ, _+_, _<_}
 use mathlib.Core.Path.{_≡_, refl, sym, ap, _∙_}
 use mathlib.Core.List.{List}
 use mathlib.Core.Bool.{Bool, true, false, cond}
-use native.Mathlib.Omega.{arith}
 use lib.Dec.{eqb}
-use borrow.Author.Tests.{eqb-true, eq-eqb, ne-eqb}
+use borrow.Author.Tests.{eqb-true, eq-eqb}
 use Rattle.grid.specs.declared.Beside.{Beside}
 use Rattle.grid.specs.declared.Beside.the-variants.{At, Off}
-use Rattle.grid.specs.Map.{On}
 use Rattle.grid.specs.Walk.{distanceOf}
 use Rattle.position.specs.declared.View.{View}
-use Rattle.position.specs.Layout.{width, hexes}
+use Rattle.position.specs.Layout.{width}
 use Rattle.position.specs.Laid.{Laid}
 use Rattle.position.specs.Board.{Board, Map, ground}
 use Rattle.position.specs.Ground.{next, isAt, joined}
@@ -23,20 +21,7 @@ use Rattle.routes.specs.Run.{Step}
 use Rattle.routes.specs.Legal.{enters, stepsTo}
 use Rattle.routes.specs.Search.{entered, stepOf}
 
--- a hex of the view is a hex of the map
-pub on-view : {p : List ℕ} {v : View} → Laid p v → (x : ℕ) → x < v .hexes → On (v .width) (v .height) x
-unfolding hexes
-on-view {p} {v} l x e =
-    let w = l .view .width in
-    let h = l .view .height in
-    record {
-      wide = omega (arith, l .shaped .width .low);
-      wide64 = omega (arith, l .shaped .width .high);
-      high = omega (arith, l .shaped .height .low);
-      high64 = omega (arith, l .shaped .height .high);
-      below = rw (w, h) (omega (arith, l .view .hexes));
-    }
-
+-- the distance by the view's width
 pub far-view : {p : List ℕ} {v : View} → Laid p v → (start x : ℕ) → distanceOf (v .width) start x ≡ distanceOf (width p) start x
 far-view l start x = ap (λ (w : ℕ). distanceOf w start x) (l .view .width)
 
@@ -66,13 +51,16 @@ joined-in {p} l a x e = let s = joined-next (ground p) a x e in next-in (l .view
 
 -- the test of the hex entered
 module _ (b : Board) (f start i x : ℕ) where
-  pub enters-near : (distanceOf (b .map .width) start x ≡ i + 1 → ⊥) → enters b f start i x ≡ false
+  pub enters-not : eqb (distanceOf (b .map .width) start x) (i + 1) ≡ false → enters b f start i x ≡ false
   unfolding enters
-  enters-near h = simp (ne-eqb (distanceOf (b .map .width) start x) (i + 1) h)
+  enters-not e = simp e
 
-  pub enters-away : distanceOf (b .map .width) start x ≡ i + 1 → enters b f start i x ≡ refuge b f x
+  pub enters-there : eqb (distanceOf (b .map .width) start x) (i + 1) ≡ true → enters b f start i x ≡ refuge b f x
   unfolding enters
-  enters-away h = simp (eq-eqb (distanceOf (b .map .width) start x) (i + 1) h)
+  enters-there e = simp e
+
+  enters-away : distanceOf (b .map .width) start x ≡ i + 1 → enters b f start i x ≡ refuge b f x
+  enters-away e = enters-there (eq-eqb (distanceOf (b .map .width) start x) (i + 1) e)
 
   enters-is : enters b f start i x ≡ true → (distanceOf (b .map .width) start x ≡ i + 1) × (refuge b f x ≡ true)
   unfolding enters

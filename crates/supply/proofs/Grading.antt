@@ -1,19 +1,26 @@
 -- What was painted, asked: a hex is open, a source, and graded by its marks as by the units themselves.
 -- Assumes nothing.
 use Prim.Native.Nat.{ℕ, _<_, _≤_}
-use mathlib.Core.Path.{_≡_, refl, sym, _∙_}
+use mathlib.Core.Path.{_≡_, refl, sym, subst, _∙_}
 use mathlib.Core.Bool.{Bool, true, false, _&&_, and-false}
 use mathlib.Core.List.{List}
 use native.Mathlib.Omega.{arith}
 use lib.Dec.{eqb}
+use lib.ListN.{length}
 use borrow.Author.Tests.{lt-ltb, le-leb, lt-leb, eq-eqb, ne-eqb}
+use Rattle.grid.specs.Map.{On}
+use Rattle.position.specs.Layout.{byte}
 use Rattle.position.specs.Bits.{has, port, urban, supply}
 use Rattle.position.specs.Kind.{force}
 use Rattle.field.specs.Scene.{Scene}
 use Rattle.supply.specs.Open.{openTo, homeSource, coastal, landing, landedSource, source, grade}
 use Rattle.walk.specs.Chain.{mark}
-use Rattle.supply.specs.Paint.{Shows, Grades, openBy, landedBy, sourceBy, gradeBy}
-use Rattle.supply.proofs.Paints.{Pass, pass-all}
+use Rattle.paint.specs.declared.frame.Frame.{Frame}
+use Rattle.paint.specs.Paint.{Shows, Marked}
+use Rattle.paint.proofs.Bytes.{Pass, pass-all}
+use Rattle.paint.proofs.Frames.{whole-inside, whole-place}
+use Rattle.paint.proofs.Units.{marked-zone, marked-enemy, marked-own, marked-depot}
+use Rattle.supply.specs.Graded.{MapShows, Grades, openBy, landedBy, sourceBy, gradeBy}
 
 -- what each answer of the tests decides, in the order in which they are asked
 module _ (s : Scene) (h m : ℕ) where
@@ -106,14 +113,30 @@ module _ (s : Scene) (h : ℕ) where
     unfolding landing
     landing-supply q u = simp (e, q, u)
 
-module _ (s : Scene) (n : ℕ) (l : List ℕ) (shows : Shows s (force n) l) (h : ℕ) (le : h < s .map .hexes) where
+-- the frame of the whole map shows each hex at its own number
+pub map-shows :
+    {s : Scene} {f : ℕ} (at : Frame) {l : List ℕ} → at .left ≡ 0 → at .top ≡ 0 → at .wide ≡ s .map .width → at .high ≡ s .map .height
+    → ((h : ℕ) → h < s .map .hexes → On (s .map .width) (s .map .height) h) → length l ≡ s .map .hexes → Shows s f at l → MapShows s f l
+unfolding mark
+map-shows {s} {f} at {l} left top wide high on long k =
+    record {
+      long = long;
+      each = λ h e.
+          let o = k .each h (whole-inside at left top wide high h (on h e)) in
+          subst (λ (i : ℕ). Marked s f h (byte l i)) (whole-place at left top wide high h) o;
+    }
+
+module _ (s : Scene) (n : ℕ) (l : List ℕ) (shows : MapShows s (force n) l) (h : ℕ) (le : h < s .map .hexes) where
+  here : Marked s (force n) h (mark l h)
+  here = shows .each h le
+
   open-is : openBy s h (mark l h) ≡ openTo s n h
   unfolding openBy openTo
-  open-is = simp (shows .enemy h le, shows .zone h le, shows .own h le)
+  open-is = simp (marked-enemy here, marked-zone here, marked-own here)
 
   landed-is : landedBy s h (mark l h) ≡ landedSource s (force n) h
   unfolding landedBy landedSource
-  landed-is = simp (shows .own h le, shows .depot h le)
+  landed-is = simp (marked-own here, marked-depot here)
 
   source-is : sourceBy s n h (mark l h) ≡ source s n h
   unfolding sourceBy source
@@ -124,7 +147,8 @@ module _ (s : Scene) (n : ℕ) (l : List ℕ) (shows : Shows s (force n) l) (h :
   grade-is = simp (lt-ltb h (s .map .hexes) le, open-is, source-is)
 
 -- a pass that writes each hex's grade over its marks
-pub all-graded : {s : Scene} {n i : ℕ} {l m : List ℕ} → Shows s (force n) l → Pass (gradeBy s n) i l m → s .map .hexes ≤ i → Grades s n m
+pub all-graded : {s : Scene} {n i : ℕ} {l m : List ℕ} → MapShows s (force n) l → Pass (gradeBy s n) i l m → s .map .hexes ≤ i → Grades s n m
+unfolding mark
 all-graded {s} {n} {i} {l} {m} shows p le =
     record {
       long = p .long ∙ shows .long;

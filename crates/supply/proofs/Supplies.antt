@@ -1,12 +1,11 @@
 -- The test for supply is right: it is true exactly if a chain leads to a source; and what the walk leaves is its answers.
 -- Assumes nothing.
 use Prim.Native.Nat.{ℕ, _≤_, _<_}
-use mathlib.Core.Path.{_≡_, refl, sym, ap, _∙_}
+use mathlib.Core.Path.{_≡_, refl, ap, _∙_}
 use mathlib.Core.Bool.{Bool, true, false, not, cond, _&&_}
 use mathlib.Core.List.{List, []}
 use mathlib.Core.Logic.{_↔_}
 use native.Mathlib.Omega.{arith}
-use lib.ListN.{length}
 use lib.Dec.{ltb, eqb}
 use borrow.Author.Tests.{ltb-true, eq-eqb, ne-eqb}
 use Rattle.position.specs.declared.View.{View}
@@ -17,15 +16,15 @@ use Rattle.ruling.specs.Verdict.{judged, outcome, Met}
 use Rattle.ruling.specs.Verdict.Judge.{rule}
 use Rattle.ruling.specs.Verdict.Verdict.{judge}
 use Rattle.ruling.specs.Verdict.Ruling.{accepted}
-use Rattle.walk.specs.Chain.{Chain, Reached, Graded}
+use Rattle.walk.specs.Chain.{mark, Reached, Graded}
 use Rattle.walk.specs.Sweep.{chained, tab, reach}
 use Rattle.walk.proofs.Marks.{le-or, tab-length, tab-only}
 use Rattle.walk.proofs.Steps.{next-six}
 use Rattle.walk.proofs.Sweeps.{board-iff, reached-tab}
 use Rattle.field.specs.Scene.{Scene}
+use Rattle.paint.proofs.Bytes.{byte-past}
 use Rattle.supply.specs.Open.{openTo, source, grade}
-use Rattle.supply.specs.Paint.{Grades}
-use Rattle.supply.proofs.Paints.{mark-past}
+use Rattle.supply.specs.Graded.{Grades}
 use Rattle.supply.specs.Supply.{Supplied, grades, supplied, supplyMap}
 
 -- off the map every hex is closed
@@ -67,11 +66,12 @@ unfolding grade
 grade-most s n h = two-most (ltb h (s .map .hexes) && openTo s n h) (source s n h)
 
 pub graded : {s : Scene} {n : ℕ} {l : List ℕ} {v : View} → s .map .hexes ≡ v .hexes → Grades s n l → Graded l v
+unfolding mark
 graded {s} {n} {l} {v} e g =
     record {
       size = g .long ∙ e;
       grades =
-          λ k. le-or (s .map .hexes) k (λ q. omega (arith, mark-past l k (omega (arith, g .long)))) (λ q. rw (g .each k q) (grade-most s n k));
+          λ k. le-or (s .map .hexes) k (λ q. omega (arith, byte-past l k (omega (arith, g .long)))) (λ q. rw (g .each k q) (grade-most s n k));
     }
 
 -- the buffer's length, as refusal 3 asks it

@@ -10,8 +10,8 @@ use Rattle.acceptance.specs.Examples.{computing, roster, rosterLess}
 use Rattle.walk.specs.Examples.{sweeping}
 use Rattle.walk.specs.Sweep.{tab}
 use Rattle.field.specs.Scene.{forceIn, scene}
-use Rattle.field.specs.Zone.{standsOn, ownOn, holds, enemyOn, holdsEnemy, casterOn, holdsCaster, casterAt, castsOver, casts, enemyCasts, enemyZone}
-use Rattle.supply.specs.Open.{openTo, homeSource, coastal, supplyUnitOn, landing, landedSource, source, grade}
+use Rattle.field.specs.Zone.{standsOn, ownOn, holds, supplyUnitOn, enemyOn, holdsEnemy, casterOn, holdsCaster, casterAt, castsOver, casts, enemyCasts, enemyZone}
+use Rattle.supply.specs.Open.{openTo, homeSource, coastal, landing, landedSource, source, grade}
 use Rattle.supply.specs.Supply.{grades, supplied}
 
 -- 'unfolding supplying' opens what supply computes by

@@ -1,4 +1,4 @@
 pub mod Open
-pub mod Paint
+pub mod Graded
 pub mod Supply
 pub mod Examples

@@ -7,7 +7,7 @@ use Rattle.position.specs.Tally.{any}
 use Rattle.position.specs.Bits.{has, port, urban, supply}
 use Rattle.position.specs.Kind.{force}
 use Rattle.field.specs.Scene.{Scene}
-use Rattle.field.specs.Zone.{ownOn, holds, holdsEnemy, enemyZone}
+use Rattle.field.specs.Zone.{holds, supplyUnitOn, holdsEnemy, enemyZone}
 
 -- "For a nationality a hex is open if it is not sea or lake, holds no Enemy, and is outside Enemy zones or holds a unit of its force."
 unfoldable pub openTo : Scene → ℕ → ℕ → Bool
@@ -20,10 +20,6 @@ homeSource s c h = has supply (s .map .flags h) && eqb (s .map .country h) c
 
 unfoldable pub coastal : Scene → ℕ → Bool
 coastal s h = eqb (s .map .surface h) 1
-
--- unit u is a supply unit of force f, and stands on hex h
-unfoldable pub supplyUnitOn : Scene → ℕ → ℕ → ℕ → Bool
-supplyUnitOn s f h u = ownOn s f h u && eqb (s .kind u) 5
 
 -- "a port, or coastal and urban, or coastal and supply"
 unfoldable pub landing : Scene → ℕ → Bool

@@ -5,10 +5,10 @@ ghost use Rattle.position.specs.Board.{board};
 ghost use Rattle.position.specs.Laid.{Laid, Read};
 ghost use Rattle.field.specs.Scene.{scene};
 ghost use Rattle.supply.specs.Open.{homeSource, coastal, landing};
-ghost use Rattle.supply.specs.Paint.{Shows, Grades, openBy, landedBy, sourceBy, gradeBy};
-use crate::paint;
+ghost use Rattle.supply.specs.Graded.{MapShows, Grades, openBy, landedBy, sourceBy, gradeBy};
 use position::View;
 use position::bits;
+use position::layout;
 use position::read;
 
 // Whether hex `h`, which is painted `m`, is open.
@@ -110,12 +110,12 @@ fn grade_by(p: &[u8], v: View, n: usize, h: usize, m: usize) -> usize
 
 // Every hex's grade in place of its paint.
 pub fn grade(p: &[u8], v: View, buf: &mut [u8], n: usize)
-    requires { ⌜ Laid (now p) v × Shows (scene (board (now p))) (force n) (now buf) ⌝ }
+    requires { ⌜ Laid (now p) v × MapShows (scene (board (now p))) (force n) (now buf) ⌝ }
     ensures { λ _. ⌜ Grades (scene (board (now (p .entry)))) n (now (buf .exit)) ⌝ }
 {
     let hexes = v.hexes;
     for h in 0..hexes {
-        let m = buf[h] as usize;
+        let m = layout::wide(buf[h]);
         buf[h] = grade_by(p, v, n, h, m) as u8;
     }
 }

@@ -1,6 +1,5 @@
 // Supply: which hexes are open for a nationality, which are its sources, and from which a chain leads to one; the supply call.
 mod grade;
-pub mod paint;
 
 ghost use mathlib.Core.Path.{_≡_};
 ghost use Prim.Native.Nat.{_<_};
@@ -11,6 +10,7 @@ ghost use Rattle.ruling.specs.Verdict.{Met};
 ghost use Rattle.ruling.specs.Answers.{answerAs};
 ghost use Rattle.field.specs.Scene.{scene};
 ghost use Rattle.supply.specs.Supply.{supplyMap, supplyVerdict};
+use paint::frame;
 use position::Checked;
 use position::View;
 use position::kind;
@@ -21,7 +21,7 @@ pub fn fill(p: &[u8], v: View, n: usize, out: &mut [u8])
     requires { ⌜ Laid (now p) v × (length (now out) ≡ v .hexes) ⌝ }
     ensures { λ _. ⌜ now (out .exit) ≡ supplyMap (scene (board (now (p .entry)))) n ⌝ }
 {
-    paint::paint(p, v, out, kind::force(n));
+    paint::paint(p, v, frame::whole(v), kind::force(n), out);
     grade::grade(p, v, out, n);
     walk::walk(p, v, out);
 }

@@ -1,5 +1,7 @@
 pub mod Steps
 pub mod Marks
 pub mod Sweeps
+pub mod Looks
+pub mod Goings
 pub mod Trails
 pub mod Runs

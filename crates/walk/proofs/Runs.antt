@@ -12,38 +12,28 @@ use lib.Dec.{ltb}
 use borrow.Author.Count.{below-more}
 use borrow.Author.Tests.{lt-ltb, le-ltb}
 use Rattle.grid.specs.declared.Beside.{Beside}
-use Rattle.grid.specs.declared.Beside.the-variants.{At, Off}
-use Rattle.position.specs.Board.{Map}
-use Rattle.position.specs.Ground as Ground
+use Rattle.grid.specs.declared.Beside.the-variants.{At}
 use Rattle.position.proofs.Tallies.{same-or}
 use Rattle.walk.specs.Chain.{mark, Chain, OneIf, Reached}
 use Rattle.walk.specs.Chain.Chain.{source, beside}
-use Rattle.walk.specs.Trail.{enteredBy, Seen, FreshOf, Ready, Step, Faith, Rest, Kept, Flooded, Seeded, Done, Settled}
-use Rattle.walk.specs.Trail.Step.{pass, down, back}
+use Rattle.walk.specs.Trail.{enteredBy, Ready, Step, Last, Faith, Rest, Kept, Flooded, Seeded, Done, Settled}
+use Rattle.walk.specs.Trail.Step.{down, back}
 use Rattle.walk.proofs.Marks.{le-or, mark-set, mark-in, weigh, weigh-less}
 use Rattle.position.proofs.Sides.{off-at}
-use Rattle.walk.proofs.Steps.{at-at, TwoWay}
-use Rattle.walk.proofs.Trails.{faith-upd, Way, way-start, way-pass, way-down, way-back, way-over, complete}
+use Rattle.walk.proofs.Steps.{TwoWay}
+use Rattle.walk.proofs.Trails.{all-shut, faith-upd, Way, way-start, way-down, way-back, way-over, complete}
 
--- what is left to do at a hex, by its mark: to enter it, to be done with six directions, and to leave it
+-- what is left to do at a hex, by its mark: to enter it, and to leave it
 unfoldable pub work : ℕ → ℕ
-work m = cond (ltb m 8) 8 (7 - m % 8)
+work m = cond (ltb m 8) 2 (1 - m % 8)
 
-work-new : (m : ℕ) → m < 8 → work m ≡ 8
+work-new : (m : ℕ) → m < 8 → work m ≡ 2
 unfolding work
 work-new m p = simp (lt-ltb m 8 p)
 
-work-entered : (m : ℕ) → 8 ≤ m → work m ≡ 7 - m % 8
+work-entered : (m : ℕ) → 8 ≤ m → work m ≡ 1 - m % 8
 unfolding work
 work-entered m p = simp (le-ltb m 8 p)
-
--- where a step leads nowhere, and where it leads to a hex that is seen, there is no hex to enter
-module _ (m : Map) (f : ℕ → ℕ) (a d : ℕ) {r : Beside} (is : r ≡ Ground.next m a d) where
-  pub none-fresh : r ≡ Off → FreshOf (Ground.next m) f a d Off
-  none-fresh e n q = off-at e (is ∙ q)
-
-  pub seen-fresh : (b : ℕ) → r ≡ At b → Seen (f b) → FreshOf (Ground.next m) f a d Off
-  seen-fresh b e s n q = subst (λ (k : ℕ). Seen (f k)) (at-at e (is ∙ q)) s
 
 -- what is kept where nothing is done, where two runs of steps follow on each other, and where a hex is entered or a mark of one changed
 module _ {next : ℕ → ℕ → Beside} where
@@ -74,82 +64,77 @@ module _ {next : ℕ → ℕ → Beside} where
       }
 
 -- a step, over the list of the marks
-module _ {next home : ℕ → ℕ → Beside} (g : TwoWay next home) (l : List ℕ) (a : ℕ) (y : Way next home (mark l) a) where
+module _ {next home : ℕ → ℕ → Beside} (g : TwoWay next home) (l : List ℕ) (a c : ℕ) (y : Way next home (mark l) a c) where
   way-in : a < length l
   way-in = let e : 8 ≤ mark l a = y .entered in mark-in l a (omega arith)
 
   pub way-ready : Ready l a
-  way-ready = record { inside = way-in; entered = y .entered; less = y .less }
+  way-ready = record { inside = way-in; entered = y .entered; still = y .still }
 
-  last : 6 ≤ mark l a % 8 → FreshOf next (mark l) a (mark l a % 8) Off
-  last p n e = off-at (g .six a (mark l a % 8) p) e
+  left-kept : {out : List ℕ} → out ≡ set l a (mark l a + 7) → Kept next l out
+  left-kept e = let o : 8 ≤ mark l a = y .entered in kept-set l a (mark l a + 7) e way-in (omega arith) (λ f₀ t. t .sound a o)
 
-  bump-kept : {out : List ℕ} → out ≡ set l a (mark l a + 1) → Kept next l out
-  bump-kept e = let o : 8 ≤ mark l a = y .entered in kept-set l a (mark l a + 1) e way-in (omega arith) (λ f₀ t. t .sound a o)
-
-  pub step-kept : {out : List ℕ} {r : Beside} → Step next home l a out r → Kept next l out
-  step-kept (pass p s e q) = bump-kept e
-  step-kept (down n p w e q) =
-      let d = mark l a % 8 in
-      kept-set l n (enteredBy d) e (mark-in l n (w .some)) (omega arith)
+  pub step-kept : {out : List ℕ} {b e : ℕ} → Step next home l a c out b e → Kept next l out
+  step-kept {b = b} (down d p w z e) =
+      let o = w .new in
+      kept-set l b (enteredBy d) e (mark-in l b (omega arith)) (omega arith)
       (λ f₀ t.
-      let k : mark l n ≡ f₀ n = t .kept n (w .new) in
-      let o = w .some in
-      beside ((d + 3) % 6) (omega arith) (g .turn a d n (w .there)) (t .sound a (y .entered)))
-  step-kept (back p e q) = bump-kept e
+      let k : mark l b ≡ f₀ b = t .kept b (omega arith) in
+      beside ((d + 3) % 6) (omega arith) (g .turn a d b (w .there)) (t .sound a (y .entered)))
+  step-kept (back p h z e) = left-kept e
 
-  pub step-way : {out : List ℕ} {r : Beside} (b : ℕ) → Step next home l a out r → r ≡ At b → Way next home (mark out) b
-  step-way {out} b (pass p s e q) c =
-      subst (Way next home (mark out)) (at-at q c) (way-pass next home y (mark-set l a (mark l a + 1) e way-in) s p)
-  step-way {out} b (down n p w e q) c =
-      let d = mark l a % 8 in
-      subst (Way next home (mark out)) (at-at q c)
-      (way-down next home d y (mark-set l n (enteredBy d) e (mark-in l n (w .some))) p (w .new) (g .over n ((d + 3) % 6) a (g .turn a d n (w .there))))
-  step-way {out} b (back p e q) c = way-back next home y (mark-set l a (mark l a + 1) e way-in) (last p) p b (sym q ∙ c)
+  pub step-way : {out : List ℕ} {b e : ℕ} → Step next home l a c out b e → Way next home (mark out) b e
+  step-way {out} {b} (down d p w z e) =
+      let o = w .new in
+      subst (Way next home (mark out) b) (sym z)
+      (way-down next home d y (mark-set l b (enteredBy d) e (mark-in l b (omega arith))) p (w .there) (under-six b d (w .there)) (w .new)
+      (g .over b ((d + 3) % 6) a (g .turn a d b (w .there))))
+    where
+      under-six : (b d : ℕ) → next a d ≡ At b → d < 6
+      under-six b d e = le-or 6 d (λ q. off-at (g .six a d q) e) (λ q. q)
+  step-way {out} {b} (back p h z e) =
+      subst (Way next home (mark out) b) (sym z)
+      (way-back next home y (mark-set l a (mark l a + 7) e way-in) (all-shut g (y .below) p) b h)
 
-  pub step-over : {out : List ℕ} {r : Beside} → Step next home l a out r → r ≡ Off → Rest next (mark out)
-  step-over (pass p s e q) c = off-at c q
-  step-over (down n p w e q) c = off-at c q
-  step-over (back p e q) c = way-over next home y (mark-set l a (mark l a + 1) e way-in) (last p) p (sym q ∙ c)
+  pub last-kept : {out : List ℕ} → Last next home l a c out → Kept next l out
+  last-kept s = left-kept (s .left)
 
-  bump-falls : {out : List ℕ} → out ≡ set l a (mark l a + 1) → weigh work out < weigh work l
-  bump-falls e =
+  pub last-rest : {out : List ℕ} → Last next home l a c out → Rest next (mark out)
+  last-rest s = way-over next home y (mark-set l a (mark l a + 7) (s .left) way-in) (all-shut g (y .below) (s .none)) (s .nowhere)
+
+  pub step-falls : {out : List ℕ} {b e : ℕ} → Step next home l a c out b e → weigh work out < weigh work l
+  step-falls {b = b} (down d p w z e) =
+      let o = w .new in
+      weigh-less work l b (enteredBy d) e (mark-in l b (omega arith))
+      (omega (arith, work-new (mark l b) (omega arith), work-entered (enteredBy d) (omega arith)))
+  step-falls (back p h z e) =
       let o : 8 ≤ mark l a = y .entered in
-      let s : mark l a % 8 < 7 = y .less in
-      weigh-less work l a (mark l a + 1) e way-in
-      (omega (arith, work-entered (mark l a) o, work-entered (mark l a + 1) (omega arith)))
-
-  pub step-falls : {out : List ℕ} {r : Beside} → Step next home l a out r → weigh work out < weigh work l
-  step-falls (pass p s e q) = bump-falls e
-  step-falls (down n p w e q) =
-      let d = mark l a % 8 in
-      weigh-less work l n (enteredBy d) e (mark-in l n (w .some))
-      (omega (arith, work-new (mark l n) (w .new), work-entered (enteredBy d) (omega arith)))
-  step-falls (back p e q) = bump-falls e
+      let s : mark l a % 8 ≡ 0 = y .still in
+      weigh-less work l a (mark l a + 7) e way-in
+      (omega (arith, work-entered (mark l a) o, work-entered (mark l a + 7) (omega arith)))
 
 -- a walk from one source
 module _ {next home : ℕ → ℕ → Beside} (g : TwoWay next home) (l : List ℕ) (i : ℕ) (two : mark l i ≡ 2) where
   pub start-in : i < length l
   start-in = mark-in l i (omega arith)
 
-  pub start-way : Rest next (mark l) → Way next home (mark (set l i 56)) i
+  pub start-way : Rest next (mark l) → Way next home (mark (set l i 56)) i 0
   start-way y = way-start g y (mark-set l i 56 refl start-in)
 
   pub flooded :
-      {buf out : List ℕ} {a : ℕ} {r : Beside}
+      {buf out : List ℕ} {a c : ℕ}
       → Kept next (set l i 56) buf
-      → Way next home (mark buf) a
-      → Step next home buf a out r
-      → r ≡ Off
+      → Way next home (mark buf) a c
+      → Last next home buf a c out
       → Flooded next l i out
-  flooded {buf} {out} {a} k y s o =
+  flooded {buf} {out} {a} {c} k y s =
       let u = mark-set l i 56 refl start-in in
-      let k′ = kept-trans k (step-kept g buf a y s) in
+      let k′ = kept-trans k (last-kept g buf a c y s) in
       let start : Kept next l (set l i 56) =
       kept-set l i 56 refl start-in (omega arith) (λ f₀ t. let z : mark l i ≡ f₀ i = t .kept i (omega arith) in source (omega arith)) in
       record {
         kept = kept-trans start k′;
-        rest = step-over g buf a y s o;
+        rest = last-rest g buf a c y s;
         start = le-or 8 (mark out i) (λ p. p) (λ p. let z = u .at in absurd (omega (arith, k′ .grown i p)));
       }
 
@@ -237,7 +222,7 @@ module _ {next : ℕ → ℕ → Beside} (l : List ℕ) (grades : (k : ℕ) → 
   pub graded-rest : Rest next (mark l)
   graded-rest =
       record {
-        looked = λ k d v p q e. absurd (omega (arith, grades k));
+        looked = λ k d p q. absurd (omega (arith, grades k));
         over = λ k p. absurd (omega (arith, grades k));
       }
 
@@ -253,4 +238,4 @@ module _ {next : ℕ → ℕ → Beside} (l : List ℕ) (grades : (k : ℕ) → 
 
       each : (k : ℕ) → Done (mark buf k) (mark out k) → OneIf (Chain next (mark l) k) (mark out k)
       each k (inl d) = inl (d .1, faith .sound k (d .0))
-      each k (inr d) = inr (d .1, λ y. let x = d .0 in absurd (omega (arith, complete g faith (s .rest) (s .none) y)))
+      each k (inr d) = inr (d .1, λ y. let x = d .0 in absurd (omega (arith, complete g grades faith (s .rest) (s .none) y)))

@@ -5,6 +5,7 @@ use mathlib.Core.Path.{_≡_, refl, _∙_}
 use native.Mathlib.Omega.{arith}
 use Rattle.grid.specs.declared.Beside.{Beside}
 use Rattle.grid.specs.declared.Beside.the-variants.{At, Off}
+use Rattle.grid.specs.Map.{neighbourOf}
 use Rattle.grid.proofs.Laws.{opposite, direction}
 use Rattle.position.specs.Board.{Map}
 use Rattle.position.specs.Ground.{beside, next}
@@ -24,6 +25,10 @@ pub record TwoWay (next home : ℕ → ℕ → Beside) : Type 0 where
   pub over : (a d b : ℕ) → next a d ≡ At b → home a d ≡ At b
   pub edge : (a : ℕ) → home a 6 ≡ Off
 
+-- what is no direction leads nowhere
+pub beyond : (w h a d : ℕ) → 6 ≤ d → neighbourOf w h a d ≡ Off
+beyond w h a d p = no-hex _ (λ b e. absurd (omega (arith, direction w h a d b e)))
+
 -- the ground's steps are such
 module _ (m : Map) where
   pub next-six : (a d : ℕ) → 6 ≤ d → next m a d ≡ Off
@@ -40,5 +45,5 @@ module _ (m : Map) where
         six = next-six;
         turn = next-back;
         over = next-over m;
-        edge = λ a. no-hex _ (λ b e. absurd (omega (arith, direction (m .width) (m .height) a 6 b e)));
+        edge = λ a. beyond (m .width) (m .height) a 6 (omega arith);
       }

@@ -10,7 +10,7 @@ use Rattle.grid.specs.declared.Beside.the-variants.{At, Off}
 use Rattle.position.proofs.Tallies.{same-or}
 use Rattle.walk.specs.Chain.{Chain}
 use Rattle.walk.specs.Chain.Chain.{source, beside}
-use Rattle.walk.specs.Trail.{enteredBy, Seen, FreshOf, Faith, Looked, Rest}
+use Rattle.walk.specs.Trail.{enteredBy, afterHome, Seen, Shut, First, Faith, Looked, Rest}
 use Rattle.walk.proofs.Marks.{le-or, Upd}
 use Rattle.position.proofs.Sides.{off-at}
 use Rattle.walk.proofs.Steps.{at-at, TwoWay}
@@ -23,13 +23,32 @@ pub data Mem (a : ℕ) : List ℕ → Type 0 where
 none : {A : Type 0} {a : ℕ} → Mem a [] → A
 none m = elim m [ ]
 
+-- the walk is done with the directions of hex a that are below c: no step in one of them enters a hex
+abbrev pub Below : (ℕ → ℕ → Beside) → (ℕ → ℕ) → ℕ → ℕ → Type 0
+Below next f a c = (d : ℕ) → d < c → Shut next f a d
+
+-- and with all of them
+pub all-shut :
+    {next home : ℕ → ℕ → Beside} {f : ℕ → ℕ} {a c : ℕ}
+    → TwoWay next home
+    → Below next f a c
+    → First next f a c 0 6
+    → (d : ℕ) → Shut next f a d
+all-shut {a = a} {c = c} g y o d =
+    le-or (d + 1) c
+    (λ p. y d (omega arith))
+    (λ p. le-or 6 d (λ q n e. off-at (g .six a d q) e) (λ q. o .past d (omega arith) (omega arith) q))
+
 -- one mark is written, which is then that of an entered hex
 module _ (next : ℕ → ℕ → Beside) {f f′ : ℕ → ℕ} {i v : ℕ} (u : Upd f i v f′) (big : 8 ≤ v) where
   seen-upd : (k : ℕ) → Seen (f k) → Seen (f′ k)
   seen-upd k s p =
       same-or k i
-      (λ e. let z = ap f′ e ∙ u .at in omega arith)
-      (λ n. let z = u .off k n in omega (arith, s (omega arith)))
+      (λ e. let z = ap f′ e ∙ u .at in absurd (omega arith))
+      (λ n. s (sym (u .off k n) ∙ p))
+
+  shut-upd : (a d : ℕ) → Shut next f a d → Shut next f′ a d
+  shut-upd a d s n e = seen-upd n (s n e)
 
   pub faith-upd : {f₀ : ℕ → ℕ} → Faith next f₀ f → Chain next f₀ i → Faith next f₀ f′
   faith-upd {f₀} t s =
@@ -42,134 +61,145 @@ module _ (next : ℕ → ℕ → Beside) {f f′ : ℕ → ℕ} {i v : ℕ} (u :
             (λ n. let z = u .off k n in t .sound k (omega arith));
       }
 
-  looked-upd : Looked next f → ((d x : ℕ) → d < v % 8 → next i d ≡ At x → Seen (f x)) → Looked next f′
-  looked-upd l new k d x q r e =
-      seen-upd x
+  looked-upd : Looked next f → (v % 8 ≡ 7 → (d : ℕ) → Shut next f i d) → Looked next f′
+  looked-upd l new k d q r =
+      shut-upd k d
       (same-or k i
-      (λ c. let z = ap f′ c ∙ u .at in new d x (omega arith) (ap (λ (n : ℕ). next n d) (sym c) ∙ e))
-      (λ n. let z = u .off k n in l k d x (omega arith) (omega arith) e))
+      (λ c. let z = ap f′ c ∙ u .at in subst (λ (n : ℕ). Shut next f n d) (sym c) (new (omega arith) d))
+      (λ n. let z = u .off k n in l k d (omega arith) (omega arith)))
 
 module _ (next home : ℕ → ℕ → Beside) where
-  -- s is the way home from hex a, from hex to hex: no hex is on it twice, and each is one that the walk will come back to
+  -- s is the way home from hex a, from hex to hex: no hex is on it twice, and each is one that the walk will come back to, done with the
+  -- directions up to the one in which it went on
   pub data Trail (f : ℕ → ℕ) : ℕ → List ℕ → Type 0 where
     first : {a : ℕ} → home a (f a / 8 - 1) ≡ Off → Trail f a []
-    from : {a b : ℕ} {s : List ℕ} → home a (f a / 8 - 1) ≡ At b → (Mem a (b ∷ s) → ⊥) → 8 ≤ f b → f b % 8 < 6 → Trail f b s → Trail f a (b ∷ s)
+    from :
+        {a b : ℕ} {s : List ℕ}
+        → home a (f a / 8 - 1) ≡ At b
+        → (Mem a (b ∷ s) → ⊥)
+        → 8 ≤ f b
+        → f b % 8 ≡ 0
+        → Below next f b (afterHome (f a / 8 - 1))
+        → Trail f b s
+        → Trail f a (b ∷ s)
 
-  -- a walk is under way, and stands at hex a: the hexes that it has entered and not left are a and those on the way home from a
-  pub record Way (f : ℕ → ℕ) (a : ℕ) : Type 0 where
+  -- a walk is under way, and stands at hex a, where it is done with the directions below c: the hexes that it has entered and not left are
+  -- a and those on the way home from a
+  pub record Way (f : ℕ → ℕ) (a c : ℕ) : Type 0 where
     pub looked : Looked next f
     pub entered : 8 ≤ f a
-    pub less : f a % 8 < 7
+    pub still : f a % 8 ≡ 0
+    pub below : Below next f a c
     pub homeward : List ℕ
     pub trail : Trail f a homeward
     pub under : (k : ℕ) → 8 ≤ f k → f k % 8 < 7 → Mem k (a ∷ homeward)
 
-  trail-kept : {f f′ : ℕ → ℕ} {a : ℕ} {s : List ℕ} → Trail f a s → f′ a / 8 ≡ f a / 8 → ((k : ℕ) → Mem k s → f′ k ≡ f k) → Trail f′ a s
-  trail-kept (first {a = a} e) q m = first (ap (λ (n : ℕ). home a (n - 1)) q ∙ e)
-  trail-kept (from {a = a} {b = b} e n p o r) q m =
+  trail-kept :
+      {f f′ : ℕ → ℕ} {a : ℕ} {s : List ℕ}
+      → Trail f a s
+      → f′ a / 8 ≡ f a / 8
+      → ((k : ℕ) → Mem k s → f′ k ≡ f k)
+      → ((k d : ℕ) → Shut next f k d → Shut next f′ k d)
+      → Trail f′ a s
+  trail-kept (first {a = a} e) q m t = first (ap (λ (n : ℕ). home a (n - 1)) q ∙ e)
+  trail-kept {f′ = f′} (from {a = a} {b = b} e n p o w r) q m t =
       let z = m b (here refl) in
-      from (ap (λ (n : ℕ). home a (n - 1)) q ∙ e) n (omega arith) (omega arith) (trail-kept r (ap (λ (n : ℕ). n / 8) z) (λ k t. m k (there t)))
-
-  trail-not : {f : ℕ → ℕ} {a : ℕ} {s : List ℕ} → Trail f a s → Mem a s → ⊥
-  trail-not (from e n p o r) m = n m
+      from (ap (λ (n : ℕ). home a (n - 1)) q ∙ e) n (omega arith) (omega arith)
+      (subst (λ (n : ℕ). Below next f′ b (afterHome (n - 1))) (sym q) (λ d l. t b d (w d l)))
+      (trail-kept r (ap (λ (n : ℕ). n / 8) z) (λ k x. m k (there x)) t)
 
   trail-in : {f : ℕ → ℕ} {a : ℕ} {s : List ℕ} → Trail f a s → (k : ℕ) → Mem k s → 8 ≤ f k
-  trail-in {f} (from e n p o r) k (here q) = subst (λ (x : ℕ). 8 ≤ f x) (sym q) p
-  trail-in (from e n p o r) k (there m) = trail-in r k m
+  trail-in {f} (from e n p o w r) k (here q) = subst (λ (x : ℕ). 8 ≤ f x) (sym q) p
+  trail-in (from e n p o w r) k (there m) = trail-in r k m
 
-  -- the walk is done with one direction more, or leaves the hex
-  module _ {f f′ : ℕ → ℕ} {a : ℕ} (y : Way f a) (u : Upd f a (f a + 1) f′) (s : FreshOf next f a (f a % 8) Off) where
+  -- the walk leaves hex a
+  module _ {f f′ : ℕ → ℕ} {a c : ℕ} (y : Way f a c) (u : Upd f a (f a + 7) f′) (shut : (d : ℕ) → Shut next f a d) where
     entered : 8 ≤ f a
     entered = y .entered
 
-    one-more : f′ a ≡ f a + 1
-    one-more = u .at
+    still : f a % 8 ≡ 0
+    still = y .still
 
-    less : f a % 8 < 7
-    less = y .less
+    big : 8 ≤ f a + 7
+    big = let e = entered in omega arith
 
-    more-looked : Looked next f′
-    more-looked =
-        let e = entered in
-        let l = less in
-        looked-upd next u (omega arith) (y .looked)
-        (λ d x r q. same-or d (f a % 8)
-        (λ c. s x (ap (next a) (sym c) ∙ q))
-        (λ n. y .looked a d x e (omega arith) q))
-
-    pub way-pass : f a % 8 < 6 → Way f′ a
-    way-pass p =
-        let e = entered in
-        let o = one-more in
-        record {
-          looked = more-looked;
-          entered = omega arith;
-          less = omega arith;
-          homeward = y .homeward;
-          trail = trail-kept (y .trail) (omega arith) (λ k m. u .off k (λ c. trail-not (y .trail) (subst (λ (n : ℕ). Mem n (y .homeward)) c m)));
-          under = λ k q r. same-or k a here (λ n. let z = u .off k n in y .under k (omega arith) (omega arith));
-        }
+    now-looked : Looked next f′
+    now-looked = looked-upd next u big (y .looked) (λ p. shut)
 
     -- what was under way and is not a is on the way home from a
-    module _ (last : 6 ≤ f a % 8) where
-      left : (k : ℕ) → 8 ≤ f′ k → f′ k % 8 < 7 → Mem k (y .homeward)
-      left k q r =
-          let e = entered in
-          let o = one-more in
-          same-or k a
-          (λ c. let z = ap f′ c in absurd (omega arith))
-          (λ n. let z = u .off k n in other n (y .under k (omega arith) (omega arith)))
-        where
-          other : {s : List ℕ} → (k ≡ a → ⊥) → Mem k (a ∷ s) → Mem k s
-          other n (here e) = absurd (n e)
-          other n (there m) = m
+    left : (k : ℕ) → 8 ≤ f′ k → f′ k % 8 < 7 → Mem k (y .homeward)
+    left k q r =
+        let s = still in
+        same-or k a
+        (λ e. let z = ap f′ e ∙ u .at in absurd (omega arith))
+        (λ n. let z = u .off k n in other n (y .under k (omega arith) (omega arith)))
+      where
+        other : {s : List ℕ} → (k ≡ a → ⊥) → Mem k (a ∷ s) → Mem k s
+        other n (here e) = absurd (n e)
+        other n (there m) = m
 
-      -- the walk goes home to hex b
-      pub way-back : (b : ℕ) → home a (f a / 8 - 1) ≡ At b → Way f′ b
-      way-back b e = go (y .trail) left
-        where
-          go : {s : List ℕ} → Trail f a s → ((k : ℕ) → 8 ≤ f′ k → f′ k % 8 < 7 → Mem k s) → Way f′ b
-          go (first q) un = off-at q e
-          go (from {b = b′} {s = s} q n m l r) un =
-              let keep : (k : ℕ) → Mem k (b′ ∷ s) → f′ k ≡ f k = λ k m. u .off k (λ e. n (subst (λ (x : ℕ). Mem x (b′ ∷ s)) e m)) in
-              let z = keep b′ (here refl) in
-              subst (Way f′) (at-at q e)
-              (record {
-                looked = more-looked;
-                entered = omega arith;
-                less = omega arith;
-                homeward = s;
-                trail = trail-kept r (ap (λ (n : ℕ). n / 8) z) (λ k m. keep k (there m));
-                under = un;
-              })
+    -- it goes home to hex b
+    pub way-back : (b : ℕ) → home a (f a / 8 - 1) ≡ At b → Way f′ b (afterHome (f a / 8 - 1))
+    way-back b e = go (y .trail) left
+      where
+        go : {s : List ℕ} → Trail f a s → ((k : ℕ) → 8 ≤ f′ k → f′ k % 8 < 7 → Mem k s) → Way f′ b (afterHome (f a / 8 - 1))
+        go (first q) un = off-at q e
+        go (from {b = b′} {s = s} q n m l w r) un =
+            let keep : (k : ℕ) → Mem k (b′ ∷ s) → f′ k ≡ f k = λ k m. u .off k (λ e. n (subst (λ (x : ℕ). Mem x (b′ ∷ s)) e m)) in
+            let z = keep b′ (here refl) in
+            subst (λ (x : ℕ). Way f′ x (afterHome (f a / 8 - 1))) (at-at q e)
+            (record {
+              looked = now-looked;
+              entered = omega arith;
+              still = omega arith;
+              below = λ d p. shut-upd next u big b′ d (w d p);
+              homeward = s;
+              trail = trail-kept r (ap (λ (n : ℕ). n / 8) z) (λ k m. keep k (there m)) (shut-upd next u big);
+              under = un;
+            })
 
-      -- the walk is over
-      pub way-over : home a (f a / 8 - 1) ≡ Off → Rest next f′
-      way-over e = go (y .trail) left
-        where
-          go : {s : List ℕ} → Trail f a s → ((k : ℕ) → 8 ≤ f′ k → f′ k % 8 < 7 → Mem k s) → Rest next f′
-          go (first q) un = record { looked = more-looked; over = λ k g. le-or 7 (f′ k % 8) (λ p. omega arith) (λ p. none (un k g p)) }
-          go (from q n m l r) un = off-at e q
+    -- it is over
+    pub way-over : home a (f a / 8 - 1) ≡ Off → Rest next f′
+    way-over e = go (y .trail) left
+      where
+        go : {s : List ℕ} → Trail f a s → ((k : ℕ) → 8 ≤ f′ k → f′ k % 8 < 7 → Mem k s) → Rest next f′
+        go (first q) un = record { looked = now-looked; over = λ k g. le-or 7 (f′ k % 8) (λ p. omega arith) (λ p. none (un k g p)) }
+        go (from q n m l w r) un = off-at e q
 
-  -- the walk enters hex v from hex a
-  pub way-down : {f f′ : ℕ → ℕ} {a v : ℕ} (d : ℕ) → Way f a → Upd f v (enteredBy d) f′ → f a % 8 < 6 → f v < 8 → home v ((d + 3) % 6) ≡ At a → Way f′ v
-  way-down {f} {f′} {a} {v} d y u p q e =
+  -- the walk enters hex v from hex a, in the first direction d in which there is one to enter
+  pub way-down :
+      {f f′ : ℕ → ℕ} {a c v : ℕ} (d : ℕ)
+      → Way f a c
+      → Upd f v (enteredBy d) f′
+      → First next f a c 0 d
+      → next a d ≡ At v
+      → d < 6
+      → f v ≡ 1
+      → home v ((d + 3) % 6) ≡ At a
+      → Way f′ v 0
+  way-down {f} {f′} {a} {c} {v} d y u p x six q e =
       let i : f′ v ≡ enteredBy d = u .at in
       let o : 8 ≤ f a = y .entered in
+      let still : f a % 8 ≡ 0 = y .still in
+      let big : 8 ≤ enteredBy d = omega arith in
       let n : v ≡ a → ⊥ = λ c. let x = ap f c in absurd (omega arith) in
       let m : f′ a ≡ f a = u .off a (λ c. n (sym c)) in
       let t : (k : ℕ) → Mem k (y .homeward) → k ≡ v → ⊥ = λ k m c. let x = ap f c in absurd (omega (arith, trail-in (y .trail) k m)) in
       let w : f′ v / 8 - 1 ≡ (d + 3) % 6 = omega arith in
+      let done : Below next f′ a (afterHome (f′ v / 8 - 1)) =
+      λ j l. le-or (j + 1) d (λ r. shut-upd next u big a j (before j (omega arith))) (λ r. here-seen j (omega arith) i) in
       record {
-        looked = looked-upd next u (omega arith) (y .looked) (λ d x r e. absurd (omega arith));
+        looked = looked-upd next u big (y .looked) (λ r. absurd (omega arith));
         entered = omega arith;
-        less = omega arith;
+        still = omega arith;
+        below = λ j r. absurd (omega arith);
         homeward = a ∷ y .homeward;
         trail = from (ap (home v) w ∙ e)
             (not-back n (λ m. t v m refl))
             (omega arith)
             (omega arith)
-            (trail-kept (y .trail) (ap (λ (n : ℕ). n / 8) m) (λ k m. u .off k (t k m)));
+            done
+            (trail-kept (y .trail) (ap (λ (n : ℕ). n / 8) m) (λ k m. u .off k (t k m)) (shut-upd next u big));
         under = λ k q r. same-or k v here (λ n. let z = u .off k n in there (y .under k (omega arith) (omega arith)));
       }
     where
@@ -177,25 +207,42 @@ module _ (next home : ℕ → ℕ → Beside) where
       not-back n m (here e) = n e
       not-back n m (there t) = m t
 
+      -- the directions before d are done with, and in d lies v, which is entered now
+      before : (j : ℕ) → j < d → Shut next f a j
+      before j l = le-or (j + 1) c (λ r. y .below j (omega arith)) (λ r. p .past j (omega arith) (omega arith) l)
+
+      here-seen : (j : ℕ) → j ≡ d → f′ v ≡ enteredBy d → Shut next f′ a j
+      here-seen j r i k z s = let g = ap f′ (at-at x (ap (next a) (sym r) ∙ z)) in absurd (omega arith)
+
 module _ {next home : ℕ → ℕ → Beside} (g : TwoWay next home) where
   -- a walk starts at hex a
-  pub way-start : {f f′ : ℕ → ℕ} {a : ℕ} → Rest next f → Upd f a 56 f′ → Way next home f′ a
+  pub way-start : {f f′ : ℕ → ℕ} {a : ℕ} → Rest next f → Upd f a 56 f′ → Way next home f′ a 0
   way-start {f} {f′} {a} y u =
       let i : f′ a ≡ 56 = u .at in
       record {
-        looked = looked-upd next u (omega arith) (y .looked) (λ d x r e. absurd (omega arith));
+        looked = looked-upd next u (omega arith) (y .looked) (λ r. absurd (omega arith));
         entered = omega arith;
-        less = omega arith;
+        still = omega arith;
+        below = λ d r. absurd (omega arith);
         homeward = [];
         trail = first (ap (λ (n : ℕ). home a (n / 8 - 1)) i ∙ g .edge a);
         under = λ k q r. same-or k a here (λ n. let x = u .off k n in absurd (omega (arith, y .over k (omega arith))));
       }
 
   -- where no walk is under way and no source is left, every supplied hex was entered
-  pub complete : {f₀ f : ℕ → ℕ} → Faith next f₀ f → Rest next f → ((k : ℕ) → f k ≡ 2 → ⊥) → {a : ℕ} → Chain next f₀ a → 8 ≤ f a
-  complete {f = f} t y none (source {a = a} e) = le-or 8 (f a) (λ p. p) (λ p. absurd (none a (t .kept a p ∙ e)))
-  complete {f = f} t y none (beside {a = a} {b = b} d p e s) =
-      let ih : 8 ≤ f b = complete t y none s in
-      let q = y .over b ih in
-      let seen = y .looked b ((d + 3) % 6) a ih (omega arith) (g .turn a d b e) in
-      le-or 8 (f a) (λ r. r) (λ r. let z = t .kept a r in seen (omega arith))
+  pub complete :
+      {f₀ f : ℕ → ℕ}
+      → ((k : ℕ) → f₀ k ≤ 2)
+      → Faith next f₀ f
+      → Rest next f
+      → ((k : ℕ) → f k ≡ 2 → ⊥)
+      → {a : ℕ} → Chain next f₀ a → 8 ≤ f a
+  complete {f = f} most t y none (source {a = a} e) = le-or 8 (f a) (λ p. p) (λ p. absurd (none a (t .kept a p ∙ e)))
+  complete {f = f} most t y none (beside {a = a} {b = b} d p e s) =
+      let ih : 8 ≤ f b = complete most t y none s in
+      let seen = y .looked b ((d + 3) % 6) ih (y .over b ih) a (g .turn a d b e) in
+      le-or 8 (f a) (λ r. r)
+      (λ r.
+      let z = t .kept a r in
+      let m = most a in
+      le-or (f a) 1 (λ q. absurd (seen (omega arith))) (λ q. absurd (none a (omega arith))))

@@ -1,54 +1,113 @@
 -- The state of a walk that is under way, as the contracts of the functions in it have it. f is the marks now, f₀ the grades at its entry.
 -- A mark of 8 or more is that of a hex that was entered: m / 8 - 1 is the direction home, to the hex that it was entered from (6, in which
--- nothing lies, at a source), and m % 8 counts the directions that were looked in: 6 when all were, 7 when the walk has left the hex.
+-- nothing lies, at a source), and m % 8 is 0, or 7 once the walk has left the hex. Any other mark is the hex's grade.
 -- Assumes nothing.
 use Prim.Native.Nat.{ℕ, _+_, _-_, _*_, _/_, _%_, _≤_, _<_}
 use mathlib.Core.Path.{_≡_}
+use mathlib.Core.Bool.{Bool, true, false}
 use mathlib.Core.List.{List}
 use mathlib.Core.Logic.{_⊎_}
 use lib.ListN.{length, set}
 use Rattle.grid.specs.declared.Beside.{Beside}
 use Rattle.grid.specs.declared.Beside.the-variants.{At, Off}
+use Rattle.grid.specs.declared.Nearby.{Nearby}
+use Rattle.grid.specs.declared.Nearby.the-variants as N
+use Rattle.grid.specs.Map.{neighbourOf}
+use Rattle.grid.specs.Spot.{SpotOf}
+use Rattle.walk.specs.declared.Onward.{Onward}
+use Rattle.walk.specs.declared.Onward.the-variants.{To, Over}
 use Rattle.walk.specs.Chain.{mark, Chain}
 
 -- the mark of a hex that was entered in direction d
 abbrev pub enteredBy : ℕ → ℕ
 enteredBy d = 8 * ((d + 3) % 6 + 1)
 
--- a mark that asks for nothing more: of a closed hex, or of one that was entered
+-- the direction after the opposite one of d: where the walk goes on when it came home in direction d
+abbrev pub afterHome : ℕ → ℕ
+afterHome d = (d + 3) % 6 + 1
+
+-- a mark that asks for nothing more: any but that of an open hex that was not entered. A source is entered by the walk that starts there.
 abbrev pub Seen : ℕ → Type 0
-Seen m = 0 < m → 8 ≤ m
+Seen m = m ≡ 1 → ⊥
 
 -- the step from hex a in direction d leads to hex n, which is open and was not entered
 pub record Fresh (next : ℕ → ℕ → Beside) (f : ℕ → ℕ) (a d n : ℕ) : Type 0 where
   pub there : next a d ≡ At n
-  pub some : 0 < f n
-  pub new : f n < 8
+  pub new : f n ≡ 1
 
-abbrev pub FreshOf : (ℕ → ℕ → Beside) → (ℕ → ℕ) → ℕ → ℕ → Beside → Type 0
-FreshOf next f a d (At n) = Fresh next f a d n
-FreshOf next f a d Off = (n : ℕ) → next a d ≡ At n → Seen (f n)
+-- it leads to such a hex, and to none
+pub record Opens (next : ℕ → ℕ → Beside) (f : ℕ → ℕ) (a d : ℕ) : Type 0 where
+  pub hex : ℕ
+  pub fresh : Fresh next f a d hex
+
+abbrev pub Shut : (ℕ → ℕ → Beside) → (ℕ → ℕ) → ℕ → ℕ → Type 0
+Shut next f a d = (n : ℕ) → next a d ≡ At n → Seen (f n)
+
+abbrev pub FreshOf : (ℕ → ℕ → Beside) → (ℕ → ℕ) → ℕ → ℕ → Bool → Type 0
+FreshOf next f a d true = Opens next f a d
+FreshOf next f a d false = Shut next f a d
+
+-- d is the first direction, neither below c nor below k, in which a step from hex a enters a hex; 6 if there is none
+pub record First (next : ℕ → ℕ → Beside) (f : ℕ → ℕ) (a c k d : ℕ) : Type 0 where
+  pub most : d ≤ 6
+  pub past : (e : ℕ) → c ≤ e → k ≤ e → e < d → Shut next f a e
+  pub found : d < 6 → Opens next f a d
 
 -- what a step asks for: a hex that was entered and not left
 pub record Ready (l : List ℕ) (a : ℕ) : Type 0 where
   pub inside : a < length l
   pub entered : 8 ≤ mark l a
-  pub less : mark l a % 8 < 7
+  pub still : mark l a % 8 ≡ 0
 
--- what one step from hex a does to the marks l, and where it goes, or Off where the walk is over
-pub data Step (next home : ℕ → ℕ → Beside) (l : List ℕ) (a : ℕ) (out : List ℕ) (r : Beside) : Type 0 where
-  pass : mark l a % 8 < 6 → FreshOf next (mark l) a (mark l a % 8) Off → out ≡ set l a (mark l a + 1) → r ≡ At a → Step next home l a out r
-  down : (n : ℕ) → mark l a % 8 < 6 → Fresh next (mark l) a (mark l a % 8) n → out ≡ set l n (enteredBy (mark l a % 8)) → r ≡ At n → Step next home l a out r
-  back : 6 ≤ mark l a % 8 → out ≡ set l a (mark l a + 1) → r ≡ home a (mark l a / 8 - 1) → Step next home l a out r
+-- on at a neighbour, from direction c on
+abbrev pub onward : Nearby → ℕ → Onward
+onward (N.At t) c = To t c
+onward N.Off c = Over
+
+-- home from hex a, in direction d
+abbrev pub HomeOf : ℕ → ℕ → ℕ → ℕ → Onward → Type 0
+HomeOf w h a d (To t c) = (neighbourOf w h a d ≡ At (t .hex)) × SpotOf w h t × (c ≡ afterHome d)
+HomeOf w h a d Over = neighbourOf w h a d ≡ Off
+
+-- into the hex beside hex a in direction d
+abbrev pub EnterOf : ℕ → ℕ → List ℕ → ℕ → ℕ → List ℕ → Onward → Type 0
+EnterOf w h l a d out (To t c) = (neighbourOf w h a d ≡ At (t .hex)) × SpotOf w h t × (c ≡ 0) × (out ≡ set l (t .hex) (enteredBy d))
+EnterOf w h l a d out Over = neighbourOf w h a d ≡ Off
+
+-- what one step from hex a, which was done with the directions below c, does to the marks l: it goes to hex b, to look in direction e there
+pub data Step (next home : ℕ → ℕ → Beside) (l : List ℕ) (a c : ℕ) (out : List ℕ) (b e : ℕ) : Type 0 where
+  down :
+      (d : ℕ)
+      → First next (mark l) a c 0 d
+      → Fresh next (mark l) a d b
+      → e ≡ 0
+      → out ≡ set l b (enteredBy d)
+      → Step next home l a c out b e
+  back :
+      First next (mark l) a c 0 6
+      → home a (mark l a / 8 - 1) ≡ At b
+      → e ≡ afterHome (mark l a / 8 - 1)
+      → out ≡ set l a (mark l a + 7)
+      → Step next home l a c out b e
+
+-- and the last one
+pub record Last (next home : ℕ → ℕ → Beside) (l : List ℕ) (a c : ℕ) (out : List ℕ) : Type 0 where
+  pub none : First next (mark l) a c 0 6
+  pub nowhere : home a (mark l a / 8 - 1) ≡ Off
+  pub left : out ≡ set l a (mark l a + 7)
+
+abbrev pub StepOf : ℕ → ℕ → (ℕ → ℕ → Beside) → (ℕ → ℕ → Beside) → List ℕ → ℕ → ℕ → List ℕ → Onward → Type 0
+StepOf w h next home l a c out (To t e) = Step next home l a c out (t .hex) e × SpotOf w h t
+StepOf w h next home l a c out Over = Last next home l a c out
 
 -- every hex that was entered is supplied, and every other mark is the grade that it was
 pub record Faith (next : ℕ → ℕ → Beside) (f₀ f : ℕ → ℕ) : Type 0 where
   pub kept : (k : ℕ) → f k < 8 → f k ≡ f₀ k
   pub sound : (k : ℕ) → 8 ≤ f k → Chain next f₀ k
 
--- of each hex that was entered, the hexes in the directions that were looked in are seen
+-- of each hex that was left, no step enters a hex any more
 abbrev pub Looked : (ℕ → ℕ → Beside) → (ℕ → ℕ) → Type 0
-Looked next f = (k d n : ℕ) → 8 ≤ f k → d < f k % 8 → next k d ≡ At n → Seen (f n)
+Looked next f = (k d : ℕ) → 8 ≤ f k → f k % 8 ≡ 7 → Shut next f k d
 
 -- no walk is under way: each hex that was entered was left
 pub record Rest (next : ℕ → ℕ → Beside) (f : ℕ → ℕ) : Type 0 where

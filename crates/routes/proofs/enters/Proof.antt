@@ -1,30 +1,24 @@
--- `routes::enters` meets its contract: the distance by the view's width is the distance on the board.
+-- `routes::enters` meets its contract, test by test.
 -- Assumes nothing.
 use mathlib.Core.Path.{sym, _∙_}
-use native.Mathlib.Omega.{arith}
+use Rattle.routes.proofs.Steps.{enters-not, enters-there}
 use borrow.Author.Needs.{needs}
-use Rattle.routes.proofs.Steps.{on-view, far-view, enters-near, enters-away}
 use Rattle.routes.proofs.enters.Statement.{statement}
 use Rattle.routes.proofs.enters.Tie as tie
 
-distance-requires : tie.Need-distance-requires
-distance-requires c κs = (on-view (c .before .pre .0) _ (c .before .pre .1), on-view (c .before .pre .0) _ (c .before .pre .2))
-
-add-if1 : tie.Need-add-if1
-add-if1 c = search needs
-
-returns : tie.Need-returns
-returns c =
-    let s = c .before .before .before in
-    sym (enters-near _ _ _ _ _ (λ e. omega (arith, far-view (s .pre .0) (s .args .start) (s .args .x))))
+as-far-requires : tie.Need-as-far-requires
+as-far-requires c κs = search needs
 
 refuge-requires : tie.Need-refuge-requires
-refuge-requires c κs = search needs
+refuge-requires c κs =
+    let outset = c .before .before .before in
+    (outset .pre .0, outset .pre .2)
+
+returns : tie.Need-returns
+returns c = c .refuge .ensures ∙ sym (enters-there _ _ _ _ _ (sym (c .before .before .as-far .ensures) ∙ c .before .if1 .taken))
 
 returns-2 : tie.Need-returns-2
-returns-2 c =
-    let s = c .before .before .before .before in
-    c .refuge .ensures ∙ sym (enters-away _ _ _ _ _ (omega (arith, far-view (s .pre .0) (s .args .start) (s .args .x))))
+returns-2 c = sym (enters-not _ _ _ _ _ (sym (c .before .as-far .ensures) ∙ c .if1 .left))
 
 pub enters-spec : {M : Type 1} → statement M
-enters-spec = tie.close (tie.spec distance-requires add-if1 returns refuge-requires returns-2)
+enters-spec = tie.close (tie.spec as-far-requires refuge-requires returns returns-2)

@@ -1,25 +1,34 @@
--- `routes::refuge` meets its contract, test by test.
+-- `routes::refuge` meets its contract: where a unit may stand, the marks of the hex say so.
 -- Assumes nothing.
 use mathlib.Core.Path.{sym, _∙_}
+use Rattle.position.specs.Board.{board}
+use Rattle.routes.proofs.Windows.{refuge-barred, refuge-free}
 use borrow.Author.Needs.{needs}
-use borrow.Author.Tests.{not-true, not-false}
-use Rattle.routes.specs.Bears.{refuge}
 use Rattle.routes.proofs.refuge.Statement.{statement}
 use Rattle.routes.proofs.refuge.Tie as tie
 
-vacant-requires : tie.Need-vacant-requires
-vacant-requires c κs = search needs
+standable-requires : tie.Need-standable-requires
+standable-requires c κs = search needs
+
+look-requires : tie.Need-look-requires
+look-requires c κs =
+    let outset = c .before .before .before in
+    (outset .pre .0, outset .pre .1)
+
+free-requires : tie.Need-free-requires
+free-requires c κs = search needs
 
 returns : tie.Need-returns
-unfolding refuge
-returns c = simp (sym (c .before .vacant .ensures) ∙ not-true _ (c .if1 .taken))
-
-bears-requires : tie.Need-bears-requires
-bears-requires c κs = search needs
+returns c =
+    let a = c .before .before .before .before .before .args in
+    let b = board (a .p .now) in
+    c .free .ensures ∙ refuge-free b (a .f) (a .h) (c .before .look .ensures) (sym (c .before .before .before .standable .ensures) ∙ c .before .before .if1 .taken)
 
 returns-2 : tie.Need-returns-2
-unfolding refuge
-returns-2 c = simp (sym (c .before .before .vacant .ensures) ∙ not-false _ (c .before .if1 .left)) (c .bears .ensures)
+returns-2 c =
+    let a = c .before .before .before .args in
+    let b = board (a .p .now) in
+    sym (refuge-barred b (a .f) (a .h) (sym (c .before .standable .ensures) ∙ c .if1 .left))
 
 pub refuge-spec : {M : Type 1} → statement M
-refuge-spec = tie.close (tie.spec vacant-requires returns bears-requires returns-2)
+refuge-spec = tie.close (tie.spec standable-requires look-requires free-requires returns returns-2)

@@ -1,32 +1,63 @@
 -- `supply::fill` meets its contract: what is painted is graded, and the walk over the grades leaves the supply map.
 -- Assumes nothing.
-use mathlib.Core.Path.{sym}
-use borrow.Author.Needs.{needs}
+use Prim.Native.Nat.{ℕ, _*_}
+use mathlib.Core.Path.{sym, ap₂, _∙_}
+use native.Mathlib.Omega.{arith}
 use Rattle.position.specs.Board.{board}
 use Rattle.field.specs.Scene.{scene}
+use Rattle.position.proofs.Sides.{area-view}
+use Rattle.paint.proofs.Frames.{sizes, on-layout, whole-ok}
+use Rattle.supply.proofs.Grading.{map-shows}
 use Rattle.supply.proofs.Supplies.{graded-list, graded, walked-map}
+use borrow.Author.Needs.{needs}
 use Rattle.supply.proofs.fill.Statement.{statement}
 use Rattle.supply.proofs.fill.Tie as tie
+
+whole-requires : tie.Need-whole-requires
+whole-requires c κs = search needs
 
 force-requires : tie.Need-force-requires
 force-requires c κs = search needs
 
 paint-requires : tie.Need-paint-requires
-paint-requires c κs = search needs
+paint-requires c κs =
+    let outset = c .before .before .before .before .before in
+    let a = outset .args in
+    let l = outset .pre .0 in
+    let k = c .before .before .whole .ensures in
+    let z = sizes l in
+    (l, record { frame = whole-ok (c .before .before .whole .result) (k .0) (k .1) (k .2) (k .3) (z .wide) (z .high); long = omega (arith, area-view (l .view), outset .pre .1, ap₂ (λ (x y : ℕ). x * y) (k .2) (k .3)) })
 
 grade-requires : tie.Need-grade-requires
-grade-requires c κs = (c .before .before .before .before .before .before .before .before .pre .0, rw (c .before .before .before .before .force .ensures) at (c .before .before .before .paint .ensures))
+grade-requires c κs =
+    let outset = c .before .before .before .before .before .before .before .before .before in
+    let a = outset .args in
+    let l = outset .pre .0 in
+    let k = c .before .before .before .before .before .before .whole .ensures in
+    let q = rw (c .before .before .before .before .before .force .ensures) at (c .before .before .before .paint .ensures) in
+    (l, map-shows (c .before .before .before .before .before .before .whole .result) (k .0) (k .1) (k .2 ∙ l .view .width) (k .3 ∙ l .view .height) (on-layout l) (omega (arith, outset .pre .1, l .view .hexes)) q)
 
 walk-requires : tie.Need-walk-requires
-walk-requires c κs = (c .before .before .before .before .before .before .before .before .before .before .before .before .pre .0, graded (sym (c .before .before .before .before .before .before .before .before .before .before .before .before .pre .0 .view .hexes)) (c .before .before .before .grade .ensures))
+walk-requires c κs =
+    let l = c .before .before .before .before .before .before .before .before .before .before .before .before .before .pre .0 in
+    (l, graded (sym (l .view .hexes)) (c .before .before .before .grade .ensures))
 
 same-length : tie.Need-same-length
 same-length c = search needs
 
 returns : tie.Need-returns
-returns c = walked-map (scene (board (c .before .before .before .before .before .before .before .before .before .before .before .before .before .before .before .args .p .now))) (c .before .before .before .before .before .before .before .before .before .before .before .before .before .before .before .args .n) (graded-list (c .before .before .before .before .before .before .grade .ensures)) (c .before .before .walk .ensures)
+returns c =
+    let a = c .before .before .before .before .before .before .before .before .before .before .before .before .before .before .before .before .args in
+    walked-map (scene (board (a .p .now))) (a .n) (graded-list (c .before .before .before .before .before .before .grade .ensures)) (c .before .before .walk .ensures)
 
 pub fill-spec : {M : Type 1} → statement M
 fill-spec =
     tie.close
-    (tie.spec force-requires paint-requires grade-requires walk-requires same-length returns)
+    (tie.spec
+    whole-requires
+    force-requires
+    paint-requires
+    grade-requires
+    walk-requires
+    same-length
+    returns)

@@ -1,13 +1,17 @@
--- `flood` meets its contract. The invariant: what steps keep is kept, and a walk is under way at hex `at`. The measure is the work that the
+-- `flood` meets its contract. The invariant: what steps keep is kept, and a walk is under way at spot `s`. The measure is the work that the
 -- marks leave to do.
 -- Assumes nothing.
-use mathlib.Core.Path.{_∙_}
-use lib.ListN.{length-set}
+use Prim.Native.Nat.{ℕ}
+use mathlib.Core.Path.{sym, _∙_, subst}
+use native.Mathlib.Omega.{arith}
+use lib.ListN.{set, length-set}
 use borrow.Author.Needs.{needs}
-use Rattle.position.specs.Board.{ground}
+use Rattle.grid.specs.Spot.{SpotOf}
+use Rattle.position.proofs.Sides.{on-view}
 use Rattle.position.specs.Ground.{beside, next}
+use Rattle.position.specs.Board.{ground}
 use Rattle.walk.specs.Chain.{mark}
-use Rattle.walk.specs.Trail.{Kept}
+use Rattle.walk.specs.Trail.{Kept, Step, Last}
 use Rattle.walk.proofs.Marks.{weigh}
 use Rattle.walk.proofs.Steps.{two-way}
 use Rattle.walk.proofs.Trails.{Way}
@@ -16,56 +20,75 @@ use Rattle.walk.proofs.flood.Statement.{statement}
 use Rattle.walk.proofs.flood.Tie as tie
 
 abbrev Inv-loop : tie.InvT-loop
-Inv-loop p v buf₀ start at₀ buf at = Kept (next (ground p)) buf₀ buf × Way (next (ground p)) (beside (ground p)) (mark buf) at
+Inv-loop p v buf₀ start s₀ from₀ buf s from =
+    Kept (next (ground p)) buf₀ buf × Way (next (ground p)) (beside (ground p)) (mark buf) (s .hex) from × SpotOf (v .width) (v .height) s
 
 abbrev μ-loop : tie.MeasureT-loop
-μ-loop p v buf₀ start at₀ buf at = weigh work buf
+μ-loop p v buf₀ start s₀ from₀ buf s from = weigh work buf
 
 slice-write-buf : tie.Need-slice-write-buf Inv-loop μ-loop
-slice-write-buf c = let s = c .before .before in start-in (two-way (ground (s .args .p .now))) (s .args .buf .now) (s .args .start) (s .pre .1 .1 .1)
+slice-write-buf c =
+    let s = c .before .before in
+    let g = two-way (ground (s .args .p .now)) in
+    start-in g (s .args .buf .now) (s .args .start) (s .pre .1 .1 .1)
+
+spot-requires : tie.Need-spot-requires Inv-loop μ-loop
+spot-requires c κs =
+    let s = c .before .before in
+    let g = two-way (ground (s .args .p .now)) in
+    on-view (s .pre .0) (s .args .start) (omega (arith, s .pre .1 .0, start-in g (s .args .buf .now) (s .args .start) (s .pre .1 .1 .1)))
 
 loop-holds : tie.Need-loop-holds Inv-loop μ-loop
 loop-holds c =
-    let s = c .before .before in
-    (kept-refl _, start-way (two-way (ground (s .args .p .now))) (s .args .buf .now) (s .args .start) (s .pre .1 .1 .1) (s .pre .1 .1 .0))
+    let s = c .before .before .before in
+    let m = ground (s .args .p .now) in
+    let g = two-way m in (
+      kept-refl _,
+      subst (λ (n : ℕ). Way (next m) (beside m) (mark (set (s .args .buf .now) (s .args .start) 56)) n 0) (sym (c .spot .ensures .1))
+          (start-way g (s .args .buf .now) (s .args .start) (s .pre .1 .1 .1) (s .pre .1 .1 .0)),
+      c .spot .ensures .0,
+    )
 
 step-requires : tie.Need-step-requires Inv-loop μ-loop
 step-requires c κs =
-    let s = c .before .before .before .before in
+    let s = c .before .before .before .before .before in
+    let g = two-way (ground (s .args .p .now)) in
     let a = c .before .loop in
     let size = a .inv .0 .same ∙ (length-set (s .args .buf .now) (s .args .start) 56 ∙ s .pre .1 .0) in
-    (s .pre .0, (size, way-ready (two-way (ground (s .args .p .now))) (a .buf) (a .at) (a .inv .1)))
+    ((s .pre .0, a .inv .2), (size, way-ready g (a .buf) (a .s .hex) (a .from) (a .inv .1)))
 
-enum-known-n : tie.Need-enum-known-n Inv-loop μ-loop
-enum-known-n c = search needs
+enum-known-t : tie.Need-enum-known-t Inv-loop μ-loop
+enum-known-t c = search needs
 
 enum-told : tie.Need-enum-told Inv-loop μ-loop
 enum-told c = search needs
 
 returns : tie.Need-returns Inv-loop μ-loop
 returns c =
-    let s = c .before .before .before .before .before .before .before .before .before in
-    let a = c .before .before .before .before .before .before .loop in
+    let s = c .before .before .before .before .before .before .before .before .before .before in
     let g = two-way (ground (s .args .p .now)) in
-    let t = c .before .before .before .before .step .ensures in
-    flooded g (s .args .buf .now) (s .args .start) (s .pre .1 .1 .1) (a .inv .0) (a .inv .1) t (c .enum-told .given .1)
+    let a = c .before .before .before .before .before .before .loop in
+    let t : Last _ _ _ _ _ _ = rw (c .enum-told .given .1) at (c .before .before .before .before .step .ensures) in
+    flooded g (s .args .buf .now) (s .args .start) (s .pre .1 .1 .1) (a .inv .0) (a .inv .1) t
 
 same-length : tie.Need-same-length Inv-loop μ-loop
 same-length c = returns c .kept .same
 
 loop-less : tie.Need-loop-less Inv-loop μ-loop
 loop-less c =
+    let s = c .before .before .before .before .before .before .before .before .before .before .before in
+    let g = two-way (ground (s .args .p .now)) in
     let a = c .before .before .before .before .before .before .before .loop in
-    let s = c .before .before .before .before .before .before .before .before .before .before in
-    step-falls (two-way (ground (s .args .p .now))) (a .buf) (a .at) (a .inv .1) (c .before .before .before .before .before .step .ensures)
+    let t : Step _ _ _ _ _ _ _ _ × SpotOf _ _ _ = rw (c .before .t .given .1) at (c .before .before .before .before .before .step .ensures) in
+    step-falls g (a .buf) (a .s .hex) (a .from) (a .inv .1) (t .0)
 
 loop-again : tie.Need-loop-again Inv-loop μ-loop
 loop-again c =
-    let a = c .before .before .before .before .before .before .before .loop in
-    let s = c .before .before .before .before .before .before .before .before .before .before in
+    let s = c .before .before .before .before .before .before .before .before .before .before .before in
     let g = two-way (ground (s .args .p .now)) in
-    let t = c .before .before .before .before .before .step .ensures in
-    (kept-trans (a .inv .0) (step-kept g (a .buf) (a .at) (a .inv .1) t), step-way g (a .buf) (a .at) (a .inv .1) _ t (c .before .n .given .1))
+    let a = c .before .before .before .before .before .before .before .loop in
+    let t : Step _ _ _ _ _ _ _ _ × SpotOf _ _ _ = rw (c .before .t .given .1) at (c .before .before .before .before .before .step .ensures) in
+    (kept-trans (a .inv .0) (step-kept g (a .buf) (a .s .hex) (a .from) (a .inv .1) (t .0)), step-way g (a .buf) (a .s .hex) (a .from) (a .inv .1) (t .0), t .1)
 
 pub flood-spec : {M : Type 1} → statement M
 flood-spec =
@@ -74,9 +97,10 @@ flood-spec =
     Inv-loop
     μ-loop
     slice-write-buf
+    spot-requires
     loop-holds
     step-requires
-    enum-known-n
+    enum-known-t
     enum-told
     same-length
     returns

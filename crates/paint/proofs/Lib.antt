@@ -1,0 +1,6 @@
+pub mod Bytes
+pub mod Frames
+pub mod Inks
+pub mod Adding
+pub mod Casting
+pub mod Units

@@ -1,0 +1,122 @@
+-- What a buffer shows of a part of the map: who stands where, and where the Enemy zones lie.
+-- Assumes nothing.
+use Prim.Native.Nat.{ℕ, _+_}
+use mathlib.Core.Path.{_≡_}
+use mathlib.Core.Bool.{Bool, not, cond, _&&_, _||_}
+use mathlib.Core.List.{List}
+use lib.Dec.{ltb, eqb}
+use lib.ListN.{length}
+use Rattle.position.specs.Tally.{any}
+use Rattle.position.specs.Bits.{has}
+use Rattle.position.specs.Layout.{byte}
+use Rattle.position.specs.Board.{Map}
+use Rattle.position.specs.Kind.{castsZone}
+use Rattle.position.specs.Ground.{beside, side, isAt}
+use Rattle.field.specs.Scene.{Scene, forceIn}
+use Rattle.field.specs.Zone.{standsOn, vacant, ownOn, holds, supplyUnitOn, enemyOn, holdsEnemy, enemyZone}
+use Rattle.paint.specs.declared.frame.Frame.{Frame}
+use Rattle.paint.specs.Frame.{Inside, placeOf}
+
+-- what a hex may be marked with: in an Enemy zone, held by an Enemy, by a unit of the force, by a supply unit of it, by any unit
+pub data Mark : Type 0 where
+  inZone : Mark
+  byEnemy : Mark
+  byOwn : Mark
+  byDepot : Mark
+  byAny : Mark
+
+abbrev pub zoneMark : ℕ
+zoneMark = 1
+
+abbrev pub enemyMark : ℕ
+enemyMark = 2
+
+abbrev pub ownMark : ℕ
+ownMark = 4
+
+abbrev pub depotMark : ℕ
+depotMark = 8
+
+abbrev pub heldMark : ℕ
+heldMark = 16
+
+abbrev pub bit : Mark → ℕ
+bit inZone = zoneMark
+bit byEnemy = enemyMark
+bit byOwn = ownMark
+bit byDepot = depotMark
+bit byAny = heldMark
+
+-- what each mark says of hex h for force f
+unfoldable pub shown : Scene → ℕ → Mark → ℕ → Bool
+shown s f inZone h = enemyZone s f h
+shown s f byEnemy h = holdsEnemy s f h
+shown s f byOwn h = holds s f h
+shown s f byDepot h = any (supplyUnitOn s f h) (s .count)
+shown s f byAny h = not (vacant s h)
+
+-- the byte m has the marks of hex h
+pub record Marked (s : Scene) (f h m : ℕ) : Type 0 where
+  pub each : (k : Mark) → has (bit k) m ≡ shown s f k h
+
+-- the buffer l shows the frame to force f
+pub record Shows (s : Scene) (f : ℕ) (at : Frame) (l : List ℕ) : Type 0 where
+  pub each : (h : ℕ) → Inside (s .map .width) at h → Marked s f h (byte l (placeOf (s .map .width) at h))
+
+-- unit u casts a zone against force f
+unfoldable pub castsAgainst : Scene → ℕ → ℕ → Bool
+castsAgainst s f u = ltb (forceIn s u) 4 && (s .enemy f (forceIn s u) && castsZone (s .kind u))
+
+-- "A zone covers the adjacent hexes, but not across blocked or major river sides nor into all-sea": that of a caster on hex n covers
+-- hex h in direction d
+unfoldable pub covers : Map → ℕ → ℕ → ℕ → Bool
+covers m n h d = isAt (beside m n d) h && (ltb (side m n d) 2 && not (eqb (m .surface h) 2))
+
+unfoldable pub zoneBy : Scene → ℕ → ℕ → ℕ → Bool
+zoneBy s f h u = castsAgainst s f u && any (covers (s .map) (s .hex u) h) 6
+
+-- what unit u marks hex h with
+unfoldable pub shownBy : Scene → ℕ → Mark → ℕ → ℕ → Bool
+shownBy s f inZone h u = zoneBy s f h u
+shownBy s f byEnemy h u = enemyOn s f h u
+shownBy s f byOwn h u = ownOn s f h u
+shownBy s f byDepot h u = supplyUnitOn s f h u
+shownBy s f byAny h u = standsOn s h u
+
+-- m with the mark b
+unfoldable pub inked : ℕ → ℕ → ℕ
+inked b m = cond (has b m) m (m + b)
+
+-- b is a mark
+pub record Stamp (b : ℕ) : Type 0 where
+  pub mark : Mark
+  pub is : bit mark ≡ b
+
+-- hexes are marked where t says so, and no other mark changes
+pub record Adds (w : ℕ) (at : Frame) (t : Mark → ℕ → Bool) (l m : List ℕ) : Type 0 where
+  pub long : length m ≡ length l
+  pub each : (k : Mark) (h : ℕ) → Inside w at h → has (bit k) (byte m (placeOf w at h)) ≡ (t k h || has (bit k) (byte l (placeOf w at h)))
+
+-- where t says so: mark b on hex n;
+unfoldable pub only : ℕ → ℕ → Mark → ℕ → Bool
+only b n k h = eqb (bit k) b && eqb n h
+
+-- a zone that reaches from hex n over direction d, and over those before it;
+unfoldable pub reach : Map → ℕ → ℕ → Mark → ℕ → Bool
+reach m n d k h = eqb (bit k) zoneMark && covers m n h d
+
+unfoldable pub reaches : Map → ℕ → ℕ → Mark → ℕ → Bool
+reaches m n d k h = eqb (bit k) zoneMark && any (covers m n h) d
+
+-- what unit u says by the mark j, by all but its zone, and by all; what the units before it say
+unfoldable pub part : Scene → ℕ → Mark → ℕ → Mark → ℕ → Bool
+part s f j u k h = eqb (bit k) (bit j) && shownBy s f j h u
+
+unfoldable pub stands : Scene → ℕ → ℕ → Mark → ℕ → Bool
+stands s f u k h = not (eqb (bit k) zoneMark) && shownBy s f k h u
+
+unfoldable pub says : Scene → ℕ → ℕ → Mark → ℕ → Bool
+says s f u k h = shownBy s f k h u
+
+unfoldable pub saysBelow : Scene → ℕ → ℕ → Mark → ℕ → Bool
+saysBelow s f u k h = any (shownBy s f k h) u

@@ -1,0 +1,130 @@
+// Who stands where and whose zones lie where, painted into a lent buffer for a part of the map: one pass over the units.
+mod cast;
+pub mod frame;
+mod stand;
+
+ghost use mathlib.Core.Path.{_≡_};
+ghost use Prim.Native.Nat.{_<_};
+ghost use lib.ListN.{length, replicate};
+ghost use Rattle.position.specs.Board.{board};
+ghost use Rattle.position.specs.Laid.{Laid};
+ghost use Rattle.field.specs.Scene.{scene};
+ghost use Rattle.field.specs.Zone.{enemyZone};
+ghost use Rattle.paint.specs.Frame.{Room, Before, Past};
+ghost use Rattle.paint.specs.Paint.{Adds, Shows, Marked, says, saysBelow};
+use frame::Frame;
+use grid::near;
+use position::View;
+use position::bits;
+use position::layout;
+use position::read;
+
+// The marks of a painted hex: in an Enemy zone, held by an Enemy, by a unit of the force, by a supply unit of it, by any unit.
+pub const ZONE: usize = 1;
+
+pub const ENEMY: usize = 2;
+
+pub const OWN: usize = 4;
+
+pub const DEPOT: usize = 8;
+
+pub const HELD: usize = 16;
+
+// Every byte 0.
+pub fn clear(buf: &mut [u8])
+    ensures { λ _. ⌜ now (buf .exit) ≡ replicate (length (now (buf .entry))) 0 ⌝ }
+{
+    for i in 0..buf.len() {
+        buf[i] = 0;
+    }
+}
+
+// What unit `u` shows to force `f` in the frame: nothing, if it stands more than a row or a column outside.
+fn paint_unit(
+    p: &[u8],
+    v: View,
+    at: Frame,
+    f: usize,
+    from: usize,
+    to: usize,
+    u: usize,
+    buf: &mut [u8],
+)
+    requires { ⌜ Laid (now p) v × Room v at (now buf) × Before (v .width) (v .height) at from × Past (v .width) (v .height) at to ⌝ }
+    ensures { λ _. ⌜ Adds (v .width) at (says (scene (board (now (p .entry)))) f u) (now (buf .entry)) (now (buf .exit)) ⌝ }
+{
+    let h = read::hex(p, v, u);
+    if h < from {
+        return;
+    }
+    if to <= h {
+        return;
+    }
+    let s = near::spot(v.width, v.height, h);
+    if s.column + 1 < at.left {
+        return;
+    }
+    if at.left + at.wide < s.column {
+        return;
+    }
+    stand::stand(p, v, at, f, u, s, buf);
+    cast::cast(p, v, at, f, u, s, buf);
+}
+
+// What the units show to force `f` in the frame: one pass over them.
+fn paint_units(p: &[u8], v: View, at: Frame, f: usize, from: usize, to: usize, buf: &mut [u8])
+    requires { ⌜ Laid (now p) v × Room v at (now buf) × Before (v .width) (v .height) at from × Past (v .width) (v .height) at to ⌝ }
+    ensures { λ _. ⌜ Adds (v .width) at (saysBelow (scene (board (now (p .entry)))) f (v .count)) (now (buf .entry)) (now (buf .exit)) ⌝ }
+{
+    let count = v.count;
+    for u in 0..count {
+        paint_unit(p, v, at, f, from, to, u, buf);
+    }
+}
+
+// Everything that force `f` asks of the frame's hexes, whatever the buffer held before.
+pub fn paint(p: &[u8], v: View, at: Frame, f: usize, buf: &mut [u8])
+    requires { ⌜ Laid (now p) v × Room v at (now buf) ⌝ }
+    ensures { λ _. ⌜ Shows (scene (board (now (p .entry)))) f at (now (buf .exit)) ⌝ }
+{
+    clear(buf);
+    paint_units(
+        p,
+        v,
+        at,
+        f,
+        frame::first(p, v, at),
+        frame::past(p, v, at),
+        buf,
+    );
+}
+
+// The marks of one hex, in a buffer of its own.
+fn look_in(p: &[u8], v: View, f: usize, h: usize, buf: &mut [u8]) -> usize
+    requires { ⌜ Laid (now p) v × (h < v .hexes) × (length (now buf) ≡ 1) ⌝ }
+    ensures { λ r. ⌜ Marked (scene (board (now (p .entry)))) f h r ⌝ }
+{
+    paint(p, v, frame::one(near::spot(v.width, v.height, h)), f, buf);
+    layout::wide(buf[0])
+}
+
+// The marks of hex `h` for force `f`.
+pub fn look(p: &[u8], v: View, f: usize, h: usize) -> usize
+    requires { ⌜ Laid (now p) v × (h < v .hexes) ⌝ }
+    ensures { λ r. ⌜ Marked (scene (board (now (p .entry)))) f h r ⌝ }
+{
+    let mut buf = [0u8; 1];
+    look_in(p, v, f, h, &mut buf)
+}
+
+// Whether hex `h` lies in an Enemy zone of force `f`.
+pub fn zone_at(p: &[u8], v: View, f: usize, h: usize) -> bool
+    requires { ⌜ Laid (now p) v ⌝ }
+    ensures { λ r. ⌜ r ≡ enemyZone (scene (board (now (p .entry)))) f h ⌝ }
+{
+    let hexes = v.hexes;
+    if hexes <= h {
+        return false;
+    }
+    bits::has(ZONE, look(p, v, f, h))
+}
