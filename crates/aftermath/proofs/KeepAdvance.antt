@@ -98,9 +98,9 @@ small : (p : List ℕ) → Accepted p → board p .map .hexes ≤ nowhere
 small p a = omega (arith, hexes-most (a .shaped))
 
 -- all roles taken
-closed : (b : Board) → b .map .hexes ≤ nowhere → Lessened b b → Lessened b (changes b (closeChanges b))
+pub closed : {b : Board} → Lawful b → b .map .hexes ≤ nowhere → Lessened b (changes b (closeChanges b))
 unfolding closeChanges
-closed b most o = all-freed most (sieve (mayAdvance b) (b .units .count)) o
+closed {b} l most = all-freed most (sieve (mayAdvance b) (b .units .count)) (lessened-none l)
 
 module _ {p : List ℕ} (a : Accepted p) where
   module _ (u hex : ℕ) where
@@ -161,7 +161,7 @@ module _ {p : List ℕ} (a : Accepted p) where
   lawful-close e =
       let b = board p in
       let most = small p a in
-      let q = closed b most (lessened-none (a .lawful)) in
+      let q = closed (a .lawful) most in
       lawful-then-on (a .lawful) most (λ z. omega arith) (closeChanges b) (q .since)
       (λ n. absurd (n (lessened-owing q (a .lawful .stage .during .advances e .owing))))
 

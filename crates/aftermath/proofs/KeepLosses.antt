@@ -180,15 +180,25 @@ module _ {b : Board} (l : Lawful b) (most : b .map .hexes ≤ nowhere) (e : b .d
       holders-none b 2 w (l .stage .during .losses e .advancing) (omega (arith, less .since .fixed .count))
       (sym (less .had w (λ n. omega arith)) ∙ z)
 
-  lawful-losses : Lawful (changes b (thenOn b (lossChanges b units)))
+  all-promoted :
+      Promoted struck (changes struck (reassigned struck 1 2)) (λ u. eqb (struck .units .role u) 1) (struck .units .count)
   unfolding reassigned
+  all-promoted = promoted struck (λ u. eqb (struck .units .role u) 1) (struck .units .count)
+
+  few : struck .map .hexes ≤ nowhere
+  few = rw (less .since .fixed .map) most
+
+  -- the survivors owe no more
+  pub since-losses : Since b (changes b (lossChanges b units))
+  since-losses =
+      subst (λ (c : Board). Since b c) (sym after) (since-promoted all-promoted (less .since .units) few none-advances (less .since))
+
+  pub losses-owing : holders (changes b (lossChanges b units)) 1 ≡ 0
+  losses-owing = ap (λ (c : Board). holders c 1) after ∙ owing-none all-promoted (less .since .units) few none-advances
+
+  lawful-losses : Lawful (changes b (thenOn b (lossChanges b units)))
   lawful-losses =
-      let o = promoted struck (λ u. eqb (struck .units .role u) 1) (struck .units .count) in
-      let few : struck .map .hexes ≤ nowhere = rw (less .since .fixed .map) most in
-      let u = less .since .units in
-      lawful-then-on l most (λ z. omega arith) (lossChanges b units)
-      (subst (λ (c : Board). Since b c) (sym after) (since-promoted o u few none-advances (less .since)))
-      (λ n. absurd (n (ap (λ (c : Board). holders c 1) after ∙ owing-none o u few none-advances)))
+      lawful-then-on l most (λ z. omega arith) (lossChanges b units) since-losses (λ n. absurd (n losses-owing))
 
 module _ {p : List ℕ} (a : Accepted p) (units : List ℕ) where
   kept-losses : {l : List ℕ} → Kept p l (lossesVerdict p units)

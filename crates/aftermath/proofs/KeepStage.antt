@@ -68,7 +68,20 @@ lessened-owing {b} {c} o e =
     (λ w l z.
     holders-none b 1 w e (omega (arith, o .since .fixed .count)) (sym (o .had w (λ n. omega arith)) ∙ z))
 
--- the stage that follows: quiet, or advances, where nobody owes any more
+-- the stage that follows: quiet, or advances, where nobody owes any more, and else as it is
+pub passed-by :
+    (P : Board → Type 0) (c : Board) → (holders c 1 ≡ 0 → holders c 2 ≡ 0 → P (change (change c (staged 0 0 0)) unrouted))
+    → (holders c 1 ≡ 0 → (holders c 2 ≡ 0 → ⊥) → P (change c (staged 3 0 0))) → ((holders c 1 ≡ 0 → ⊥) → P c)
+    → P (changes c (passesOn c))
+unfolding passesOn changes
+passed-by P c quiet advances later =
+    same-or (holders c 1) 0
+    (λ none.
+    same-or (holders c 2) 0
+    (λ e. simp (eq-eqb (holders c 1) 0 none, eq-eqb (holders c 2) 0 e) (quiet none e))
+    (λ n. simp (eq-eqb (holders c 1) 0 none, ne-eqb (holders c 2) 0 n) (advances none n)))
+    (λ some. simp (ne-eqb (holders c 1) 0 some) (later some))
+
 module _ {b c : Board} (l : Lawful b) (most : b .map .hexes ≤ nowhere) (combat : b .desk .stage ≡ 0 → ⊥) (s : Since b c) where
   passed-quiet : holders c 1 ≡ 0 → holders c 2 ≡ 0 → Lawful (change (change c (staged 0 0 0)) unrouted)
   unfolding change holders
@@ -82,16 +95,8 @@ module _ {b c : Board} (l : Lawful b) (most : b .map .hexes ≤ nowhere) (combat
       lawful-since l (since-staged most s 3 0 0) (omega arith) (λ _. l .clock .combat combat)
       (stage-advances refl refl refl (record { advancing = omega arith; owing = none }))
 
-  -- and as it is, where somebody does
   pub lawful-passed : ((holders c 1 ≡ 0 → ⊥) → Lawful c) → Lawful (changes c (passesOn c))
-  unfolding passesOn changes
-  lawful-passed later =
-      same-or (holders c 1) 0
-      (λ none.
-      same-or (holders c 2) 0
-      (λ e. simp (eq-eqb (holders c 1) 0 none, eq-eqb (holders c 2) 0 e) (passed-quiet none e))
-      (λ n. simp (eq-eqb (holders c 1) 0 none, ne-eqb (holders c 2) 0 n) (passed-advances none n)))
-      (λ some. simp (ne-eqb (holders c 1) 0 some) (later some))
+  lawful-passed later = passed-by Lawful c passed-quiet passed-advances later
 
 -- a call's own changes, and then the stage that follows
 pub lawful-then-on :

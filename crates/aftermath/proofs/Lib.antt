@@ -5,3 +5,5 @@ pub mod KeepStage
 pub mod KeepLosses
 pub mod KeepAdvance
 pub mod Rulings
+pub mod AllLost
+pub mod Closed

@@ -1,36 +1,39 @@
 -- Laws of losses: each test by its cases, the tests of a unit in their order, the printed total, and who is left.
 -- Assumes nothing.
-use Prim.Native.Nat.{_*_, _+_, _<_, _≤_, ℕ}
+use Prim.Native.Nat.{_+_, _-_, _<_, _≤_, ℕ}
 use mathlib.Core.Bool.{Bool, _&&_, and-false, and-true, false, not, true}
 use mathlib.Core.List.{List, [], _++_, _∷_, map}
-use mathlib.Core.Path.{_∙_, _≡_, ap, ap₂, refl, sym}
+use mathlib.Core.Path.{_∙_, _≡_, ap, refl, sym}
 use native.Mathlib.Omega.{arith}
 use borrow.Author.Tests.{eq-eqb, le-leb, lt-leb, ne-eqb}
 use lib.Dec.{eqb}
-use lib.ListN.{getD, length, take}
+use lib.ListN.{drop, getD, length, take}
 use lib.Seq.{take-all}
-use Rattle.position.proofs.Changes.{board-makes, laid-make, makes-snoc, makes-then}
+use Rattle.position.proofs.Changes.{board-makes, makes-then}
 use Rattle.position.proofs.Tallies.{same-or}
 use Rattle.position.specs.Board.{Board, board, forceOf}
-use Rattle.position.specs.Change.{Change, make, makes}
+use Rattle.position.specs.Change.{Change, makes}
 use Rattle.position.specs.Change.Change.{assigned, destroyed}
 use Rattle.position.specs.Effect.{change, changes}
-use Rattle.position.specs.Laid.{Laid}
 use Rattle.position.specs.Shape.{Shaped}
 use Rattle.position.specs.Tally.{any}
-use Rattle.position.specs.declared.View.{View}
 use Rattle.acceptance.proofs.Carries.{fixed-change}
 use Rattle.acceptance.proofs.Fates.{destroyed-else, destroyed-here}
 use Rattle.ruling.proofs.Going.{Gone, gone-more}
 use Rattle.ruling.proofs.Meets.{pass, stop}
 use Rattle.ruling.specs.Judged.{Passes, Stops}
 use Rattle.ruling.specs.Verdict.{Verdict}
-use Rattle.field.proofs.Lists.{map-last, sieve-same, take-more}
+use Rattle.field.proofs.Lists.{sieve-same, take-more}
 use Rattle.field.specs.Listed.{andThen, named, sieve}
+use Rattle.line.proofs.Filling.{filled-list}
+use Rattle.line.specs.Line.{Filled, fighterOf, printedTotal, totalBy}
+use Rattle.line.specs.declared.Fighter.{Fighter}
 use Rattle.aftermath.specs.Losses.{
   enough,
   loss,
+  lossAt,
   lossChanges,
+  lossFighter,
   otherType,
   owes,
   owesPhasing,
@@ -136,65 +139,27 @@ pub gone-behind :
 unfolding andThen
 gone-behind {units = units} {i} o l t = rw (take-more units i l) (gone-more o l t)
 
--- the printed total of one unit more
-total-last : (b : Board) (xs : List ℕ) (x : ℕ) → shownTotal b (xs ++ (x ∷ [])) ≡ shownTotal b xs + b .units .shown x
-unfolding shownTotal
-total-last b [] x = omega arith
-total-last b (y ∷ ys) x = omega (arith, total-last b ys x)
+-- the printed total of a list is that of its line
+pub line-total : (b : Board) (us : List ℕ) → shownTotal b us ≡ printedTotal (map (lossFighter b) us)
+unfolding shownTotal totalBy lossFighter
+line-total b [] = refl
+line-total b (u ∷ us) = ap (λ (n : ℕ). b .units .shown u + n) (line-total b us)
 
-pub record Totals (b : Board) (units : List ℕ) (i n : ℕ) : Type 0 where
-  pub most : i ≤ length units
-  pub is : n ≡ shownTotal b (take i units)
-  pub small : n ≤ 256 * i
+-- a place of the line, and all of it
+pub loss-place : (b : Board) (units : List ℕ) (i : ℕ) {s : ℕ} → s ≡ b .units .shown (getD units i 0) → fighterOf (getD units i 0) s 0 ≡ lossAt b units i
+unfolding lossAt lossFighter
+loss-place b units i e = ap (λ (k : ℕ). fighterOf (getD units i 0) k 0) e
 
-pub totals-none : (b : Board) (units : List ℕ) → Totals b units 0 0
-unfolding shownTotal
-totals-none b units = record { most = omega arith; is = refl; small = omega arith }
-
-pub totals-more :
-    {b : Board} {units : List ℕ} {i n s : ℕ} → Totals b units i n → i < length units → s ≡ b .units .shown (getD units i 0) → s < 256
-    → Totals b units (i + 1) (n + s)
-totals-more {b} {units} {i} {n} {s} o l e m =
-    record {
-      most = omega arith;
-      is =
-          ap₂ _+_ (o .is) e
-          ∙ sym (total-last b (take i units) (getD units i 0))
-          ∙ ap (shownTotal b) (sym (take-more units i l));
-      small = omega (arith, o .small);
-    }
-
-pub totals-all : {b : Board} {units : List ℕ} {i n : ℕ} → Totals b units i n → length units ≤ i → n ≡ shownTotal b units
-totals-all {b} {units} {i} o l = o .is ∙ ap (shownTotal b) (take-all i units l)
-
--- the units of the list destroyed up to place i
-pub record Striking (p : List ℕ) (v : View) (units : List ℕ) (i : ℕ) (q : List ℕ) : Type 0 where
-  pub most : i ≤ length units
-  pub laid : Laid q v
-  pub made : q ≡ makes p (map destroyed (take i units))
-
-module _ {p : List ℕ} {v : View} {units : List ℕ} where
-  pub striking-none : Laid p v → Striking p v units 0 p
-  unfolding makes
-  striking-none l = record { most = omega arith; laid = l; made = refl }
-
-  pub striking-more :
-      {i : ℕ} {q r : List ℕ} → Striking p v units i q → i < length units → r ≡ make q (destroyed (getD units i 0))
-      → Striking p v units (i + 1) r
-  striking-more {i} o l e =
-      let u = getD units i 0 in
-      record {
-        most = omega arith;
-        laid = rw e (laid-make (o .laid) (destroyed u));
-        made =
-            e
-            ∙ ap (λ (k : List ℕ). make k (destroyed u)) (o .made)
-            ∙ sym (makes-snoc (map destroyed (take i units)) (destroyed u) p)
-            ∙ ap (makes p) (sym (map-last destroyed (take i units) u) ∙ ap (map destroyed) (sym (take-more units i l)));
-      }
-
-  pub striking-all : {i : ℕ} {q : List ℕ} → Striking p v units i q → length units ≤ i → q ≡ makes p (map destroyed units)
-  striking-all {i} o l = o .made ∙ ap (λ (k : List ℕ). makes p (map destroyed k)) (take-all i units l)
+pub listed-total :
+    (b : Board) (units : List ℕ) {l : List Fighter} {r : ℕ} → length units ≤ 18 → Filled (lossAt b units) (length units) l
+    → r ≡ printedTotal (take (length units - 0) (drop 0 l)) → r ≡ shownTotal b units
+unfolding lossAt
+listed-total b units {l} k f e =
+    let z : length units - 0 ≡ length units = omega arith in
+    e
+    ∙ ap (λ (n : ℕ). printedTotal (take n l)) z
+    ∙ ap printedTotal (filled-list (lossFighter b) units (omega arith) f refl (λ i j. refl))
+    ∙ sym (line-total b units)
 
 -- a whole list, named
 pub named-whole : (units : List ℕ) (u n : ℕ) {r : Bool} → r ≡ named (take n units) u → length units ≤ n → r ≡ named units u

@@ -4,11 +4,15 @@ use Prim.Native.Nat.{ℕ, _+_}
 use mathlib.Core.Bool.{Bool, not, _&&_, _||_}
 use mathlib.Core.List.{List, [], _∷_, _++_, map}
 use lib.Dec.{leb, eqb}
+use lib.ListN.{getD}
 use Rattle.position.specs.Tally.{any}
+use Rattle.position.specs.Kind.{special}
 use Rattle.position.specs.Board.{Board, board, forceOf}
 use Rattle.position.specs.Change.{Change}
 use Rattle.position.specs.Change.Change.{destroyed, assigned}
 use Rattle.acceptance.specs.Broken.{broken}
+use Rattle.line.specs.Line.{fighterOf}
+use Rattle.line.specs.declared.Fighter.{Fighter}
 use Rattle.ruling.specs.Verdict.{Verdict, along}
 use Rattle.ruling.specs.Verdict.Judge.{rule}
 use Rattle.ruling.specs.Verdict.Verdict.{refuseIf, judge}
@@ -31,6 +35,14 @@ unfoldable pub shownTotal : Board → List ℕ → ℕ
 shownTotal b [] = 0
 shownTotal b (u ∷ us) = b .units .shown u + shownTotal b us
 
+-- a unit of the list in the battle line, by the strength that it shows; nobody fights
+unfoldable pub lossFighter : Board → ℕ → Fighter
+lossFighter b u = fighterOf u (b .units .shown u) 0
+
+-- the fighter at place i of the list's line
+unfoldable pub lossAt : Board → List ℕ → ℕ → Fighter
+lossAt b units i = lossFighter b (getD units i 0)
+
 -- unit u owes, and the list spares it
 unfoldable pub spared : Board → List ℕ → ℕ → Bool
 spared b units u = owes b u && not (named units u)
@@ -38,9 +50,6 @@ spared b units u = owes b u && not (named units u)
 -- "its printed total reaches need or it names all"
 unfoldable pub enough : Board → List ℕ → Bool
 enough b units = leb (b .desk .need) (shownTotal b units) || not (any (spared b units) (b .units .count))
-
-abbrev pub special : ℕ
-special = 4
 
 -- the owing units are the phasing force's
 unfoldable pub owesPhasing : Board → ℕ → Bool

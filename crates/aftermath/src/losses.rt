@@ -8,6 +8,7 @@ ghost use Rattle.position.specs.Board.{board};
 ghost use Rattle.position.specs.Change.{makes};
 ghost use Rattle.position.specs.Change.Change.{destroyed};
 ghost use Rattle.position.specs.Laid.{Laid};
+ghost use Rattle.line.specs.Line.{Filled};
 ghost use Rattle.ruling.specs.Verdict.{Met};
 ghost use Rattle.ruling.specs.Judged.{TestedOf};
 ghost use Rattle.ruling.specs.Answers.{answerAs};
@@ -17,6 +18,7 @@ ghost use Rattle.aftermath.specs.Losses.{
   loss,
   losses,
   shownTotal,
+  lossAt,
   spared,
   enough,
   owesPhasing,
@@ -30,6 +32,7 @@ ghost use Rattle.aftermath.specs.Losses.{
 };
 use crate::stage;
 use field::listed;
+use line::Fighter;
 use position::Checked;
 use position::View;
 use position::forces;
@@ -75,16 +78,29 @@ fn each_loss(p: &[u8], v: View, units: &[u16]) -> Tested
     Tested::Passed
 }
 
+// The line of the list: each unit with the strength that it shows. Nobody fights.
+fn loss_line(p: &[u8], v: View, units: &[u16]) -> [Fighter; 21]
+    requires { ⌜ Laid (now p) v × (length (now units) ≤ 18) ⌝ }
+    ensures { λ r. ⌜ Filled (lossAt (board (now (p .entry))) (now (units .entry))) (length (now (units .entry))) r ⌝ }
+{
+    let mut fighters = line::nobody();
+    for i in 0..units.len() {
+        fighters[i] = Fighter {
+            unit: units[i],
+            printed: read::shown(p, v, units[i] as usize) as u8,
+            fighting: 0,
+        };
+    }
+    fighters
+}
+
 // The printed total of the list, of strengths that are shown.
 fn shown_total(p: &[u8], v: View, units: &[u16]) -> usize
     requires { ⌜ Laid (now p) v × (length (now units) ≤ 18) ⌝ }
     ensures { λ r. ⌜ r ≡ shownTotal (board (now (p .entry))) (now (units .entry)) ⌝ }
 {
-    let mut n = 0;
-    for i in 0..units.len() {
-        n += read::shown(p, v, units[i] as usize);
-    }
-    n
+    let totals = line::sum_up(loss_line(p, v, units), 0, units.len());
+    totals.printed
 }
 
 // Whether unit `u` owes and the list spares it.

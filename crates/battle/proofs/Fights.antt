@@ -1,4 +1,4 @@
--- Laws of a battle as a whole: who takes part stands where supply can be looked up, the arrays add up to the line of the definition,
+-- Laws of a battle as a whole: who takes part stands where supply can be looked up, the line drawn up is the line of the definition,
 -- and what is turned over, answered and changed meets the ruling.
 -- Assumes nothing.
 use Prim.Native.Nat.{_*_, _+_, _-_, _<_, _≤_, suc, zero, ℕ}
@@ -10,7 +10,7 @@ use native.Mathlib.Omega.{arith}
 use borrow.Author.Tests.{eqb-false, eqb-true, leb-true, ne-eqb}
 use lib.Dec.{eqb}
 use lib.ListN.{List·getD-append, drop, getD, length, length-drop, replicate, take, take-append-drop}
-use lib.Seq.{drop-append-le, drop-at, ext-getD, getD-append-add, getD-take, length-take-le, take-at, take-take}
+use lib.Seq.{drop-append-le, drop-at, getD-append-add, getD-take, length-take-le, take-at, take-take}
 use Rattle.position.proofs.Crowds.{crowd-is}
 use Rattle.acceptance.proofs.Lawfuls.{standable-on}
 use Rattle.position.proofs.Tallies.{equals, neither, not-both, same-or, tally-some}
@@ -26,6 +26,9 @@ use Rattle.ruling.proofs.Meets.{seen-all}
 use Rattle.ruling.specs.Verdict.{Met, Outcome, judged, outcome, turnedAll}
 use Rattle.ruling.specs.Verdict.Ruling.{accepted}
 use Rattle.walk.proofs.Marks.{le-or}
+use Rattle.line.proofs.Filling.{filled-list}
+use Rattle.line.specs.Line.{Filled, fighterOf, fightingTotal, most, places, printedTotal}
+use Rattle.line.specs.declared.Fighter.{Fighter}
 use Rattle.field.proofs.Lists.{Passing, map-at, map-long, sieve-at, sieve-long}
 use Rattle.field.specs.Phasing.{notPhasing}
 use Rattle.field.specs.Scene.{scene}
@@ -33,8 +36,8 @@ use Rattle.field.specs.Zone.{standsOn}
 use Rattle.battle.proofs.Settles.{need-attackers, need-defenders, need-none}
 use Rattle.battle.specs.Asked.{Able, Engaged}
 use Rattle.battle.specs.Battle.{battle, codeOf, columnOf, needFor, ruled}
-use Rattle.battle.specs.Line.{attackLine, defenceLine, defenders, fighter, fightingTotal, line, participants, printedTotal, strengthOf}
-use Rattle.battle.specs.Mustered.{AllStanding, ArmsAll, Musters, Prints, Standing, places, sum}
+use Rattle.battle.specs.Line.{attackLine, defenceLine, defenders, fighter, line, participants, strengthOf}
+use Rattle.battle.specs.Mustered.{AllStanding, ArmsAll, Musters, Prints, Standing, drawn}
 use Rattle.battle.specs.Odds.{column, multipleAt}
 use Rattle.battle.specs.Results.{battleChanges, lost, needOf, upshot}
 use Rattle.battle.specs.declared.Upshot.{Upshot}
@@ -144,12 +147,12 @@ all-standing {b} {target} {units} {who} {n} l m e w i k =
     i
     (omega (arith, w .long)))
 
-map-two : (g : ℕ → ℕ) (xs ys : List ℕ) → map g (xs ++ ys) ≡ map g xs ++ map g ys
+map-two : {A : Type 0} (g : ℕ → A) (xs ys : List ℕ) → map g (xs ++ ys) ≡ map g xs ++ map g ys
 map-two g [] ys = refl
-map-two g (x ∷ xs) ys = ap (λ (l : List ℕ). g x ∷ l) (map-two g xs ys)
+map-two g (x ∷ xs) ys = ap (λ (l : List _). g x ∷ l) (map-two g xs ys)
 
--- the first n places of an array are what g makes of the participants: of the attackers, and then of the defenders
-module _ (g : ℕ → ℕ) (us ds xs : List ℕ) (n : ℕ) (z : length xs ≡ places) (m : n ≤ places) (c : n ≡ length us + length ds) (e : take n xs ≡ map g (us ++ ds)) where
+-- the first n places of a line are what g makes of the participants: of the attackers, and then of the defenders
+module _ (g : ℕ → Fighter) (us ds : List ℕ) (xs : List Fighter) (n : ℕ) (z : length xs ≡ places) (m : n ≤ places) (c : n ≡ length us + length ds) (e : take n xs ≡ map g (us ++ ds)) where
   halves : take n xs ≡ map g us ++ map g ds
   halves = e ∙ map-two g us ds
 
@@ -172,50 +175,44 @@ module _ (g : ℕ → ℕ) (us ds xs : List ℕ) (n : ℕ) (z : length xs ≡ pl
       ∙ ap (drop k) halves
       ∙ drop-at (map g us) (map g ds) k (map-long g us)
 
--- what unit u fights with
-unfoldable pub fights : Board → (ℕ → ℕ) → ℕ → ℕ
-fights b s u = strengthOf b u (s u)
+-- the fighter of unit u
+unfoldable pub fighterBy : Board → (ℕ → ℕ) → ℕ → Fighter
+fighterBy b s u = fighter b u (s u)
 
-pub armed-list :
-    {p : List ℕ} {target : ℕ} {units who printed fighting : List ℕ} {n : ℕ} → Musters (board p) target units who n → Prints p who n printed
-    → ArmsAll (board p) who n printed fighting → take n fighting ≡ map (fights (board p) (strength p)) (participants (board p) target units)
-unfolding fights
-armed-list {p} {target} {units} {who} {printed} {fighting} {n} w q a =
+-- a place of the arrays is the fighter of its unit
+drawn-place :
+    (b : Board) (s : ℕ → ℕ) (who printed fighting : List ℕ) (i : ℕ) → getD printed i 0 ≡ s (getD who i 0)
+    → getD fighting i 0 ≡ strengthOf b (getD who i 0) (getD printed i 0) → drawn who printed fighting i ≡ fighterBy b s (getD who i 0)
+unfolding drawn fighterBy fighter
+drawn-place b s who printed fighting i e f =
+    ap₂ (fighterOf (getD who i 0)) e (f ∙ ap (strengthOf b (getD who i 0)) e)
+
+-- and so the line is that of the participants
+drawn-list :
+    {p : List ℕ} {target : ℕ} {units who printed fighting : List ℕ} {n : ℕ} {fs : List Fighter} → Musters (board p) target units who n
+    → Prints p who n printed → ArmsAll (board p) who n printed fighting → Filled (drawn who printed fighting) n fs
+    → take n fs ≡ map (fighterBy (board p) (strength p)) (participants (board p) target units)
+drawn-list {p} {target} {units} {who} {printed} {fighting} {n} {fs} w q a d =
     let b = board p in
-    let g = fights b (strength p) in
-    let h = length-take-le n who (omega (arith, w .size, w .most)) in
-    let k = length-take-le n fighting (omega (arith, a .size, w .most)) in
-    ext-getD 0 (take n fighting) (map g (take n who)) (k ∙ sym (map-long g (take n who) ∙ h))
-    (λ i l.
-    let j : i < n = omega arith in
+    let g = fighterBy b (strength p) in
+    let h : length (take n who) ≡ n = length-take-le n who (omega (arith, w .size, w .most)) in
+    filled-list g (take n who) (w .most) d h
+    (λ i j.
     let e : getD printed i 0 ≡ strength p (getD who i 0) =
     sym (getD-take n printed i 0 j)
     ∙ ap (λ (x : List ℕ). getD x i 0) (q .held)
     ∙ map-at (strength p) (take n who) i (omega arith)
     ∙ ap (strength p) (getD-take n who i 0 j)
     in
-    getD-take n fighting i 0 j
-    ∙ a .each i j
-    ∙ ap (strengthOf b (getD who i 0)) e
-    ∙ sym (map-at g (take n who) i (omega arith) ∙ ap g (getD-take n who i 0 j)))
+    drawn-place b (strength p) who printed fighting i e (a .each i j) ∙ sym (ap g (getD-take n who i 0 j)))
     ∙ ap (map g) (w .held)
 
-pub printed-list :
-    {p : List ℕ} {target : ℕ} {units who printed : List ℕ} {n : ℕ} → Musters (board p) target units who n → Prints p who n printed
-    → take n printed ≡ map (strength p) (participants (board p) target units)
-printed-list {p} w q = q .held ∙ ap (map (strength p)) (w .held)
-
--- the sums of a line
+-- the two sides of the line
 module _ (b : Board) (s : ℕ → ℕ) where
-  fighting-sum : (us : List ℕ) → fightingTotal (line b us (map s us)) ≡ sum (map (fights b s) us)
-  unfolding fightingTotal line fighter sum fights
-  fighting-sum [] = refl
-  fighting-sum (u ∷ us) = ap (λ (n : ℕ). strengthOf b u (s u) + n) (fighting-sum us)
-
-  printed-sum : (us : List ℕ) → printedTotal (line b us (map s us)) ≡ sum (map s us)
-  unfolding printedTotal line fighter sum
-  printed-sum [] = refl
-  printed-sum (u ∷ us) = ap (λ (n : ℕ). s u + n) (printed-sum us)
+  line-of : (us : List ℕ) → line b us (map s us) ≡ map (fighterBy b s) us
+  unfolding line fighterBy
+  line-of [] = refl
+  line-of (u ∷ us) = ap (λ (l : List Fighter). fighter b u (s u) ∷ l) (line-of us)
 
   module _ (target : ℕ) (units : List ℕ) where
     abbrev strengths : List ℕ
@@ -225,27 +222,19 @@ module _ (b : Board) (s : ℕ → ℕ) where
     unfolding participants
     two-sides = map-two s units (defenders b target)
 
-    attack-strengths : take (length units) strengths ≡ map s units
-    attack-strengths = ap (take (length units)) two-sides ∙ take-at (map s units) (map s (defenders b target)) (length units) (map-long s units)
-
-    defence-strengths : drop (length units) strengths ≡ map s (defenders b target)
-    defence-strengths = ap (drop (length units)) two-sides ∙ drop-at (map s units) (map s (defenders b target)) (length units) (map-long s units)
-
-    pub attack-fighting : fightingTotal (attackLine b units strengths) ≡ sum (map (fights b s) units)
+    pub attack-line : attackLine b units strengths ≡ map (fighterBy b s) units
     unfolding attackLine
-    attack-fighting = ap (λ (x : List ℕ). fightingTotal (line b units x)) attack-strengths ∙ fighting-sum units
+    attack-line =
+        ap (λ (x : List ℕ). line b units (take (length units) x)) two-sides
+        ∙ ap (line b units) (take-at (map s units) (map s (defenders b target)) (length units) (map-long s units))
+        ∙ line-of units
 
-    pub defence-fighting : fightingTotal (defenceLine b target units strengths) ≡ sum (map (fights b s) (defenders b target))
+    pub defence-line : defenceLine b target units strengths ≡ map (fighterBy b s) (defenders b target)
     unfolding defenceLine
-    defence-fighting = ap (λ (x : List ℕ). fightingTotal (line b (defenders b target) x)) defence-strengths ∙ fighting-sum (defenders b target)
-
-    pub attack-printed : printedTotal (attackLine b units strengths) ≡ sum (map s units)
-    unfolding attackLine
-    attack-printed = ap (λ (x : List ℕ). printedTotal (line b units x)) attack-strengths ∙ printed-sum units
-
-    pub defence-printed : printedTotal (defenceLine b target units strengths) ≡ sum (map s (defenders b target))
-    unfolding defenceLine
-    defence-printed = ap (λ (x : List ℕ). printedTotal (line b (defenders b target) x)) defence-strengths ∙ printed-sum (defenders b target)
+    defence-line =
+        ap (λ (x : List ℕ). line b (defenders b target) (drop (length units) x)) two-sides
+        ∙ ap (line b (defenders b target)) (drop-at (map s units) (map s (defenders b target)) (length units) (map-long s units))
+        ∙ line-of (defenders b target)
 
 -- what is read and computed is what the ruling says: column, code and need
 pub record Decides (b : Board) (target : ℕ) (units : List ℕ) (die : ℕ) (ss : List ℕ) (c k x : ℕ) : Type 0 where
@@ -254,24 +243,21 @@ pub record Decides (b : Board) (target : ℕ) (units : List ℕ) (die : ℕ) (ss
   pub need : x ≡ needFor b target units die ss
 
 pub decides :
-    (b : Board) (s : ℕ → ℕ) (target : ℕ) (units : List ℕ) (die : ℕ) {fa fd fm pa pd c k x : ℕ}
-    → fa ≡ sum (map (fights b s) units) → fd ≡ sum (map (fights b s) (defenders b target)) → fm ≡ multipleAt b target units
+    (b : Board) (target : ℕ) (units : List ℕ) (die : ℕ) (ss : List ℕ) {fa fd fm pa pd c k x : ℕ}
+    → fa ≡ fightingTotal (attackLine b units ss) → fd ≡ fightingTotal (defenceLine b target units ss) → fm ≡ multipleAt b target units
     → c ≡ column (b .results) fa (fd * fm) → k ≡ b .results .code c die
-    → pa ≡ sum (map s units) → pd ≡ sum (map s (defenders b target)) → x ≡ needOf (upshot k) pa pd
-    → Decides b target units die (map s (participants b target units)) c k x
+    → pa ≡ printedTotal (attackLine b units ss) → pd ≡ printedTotal (defenceLine b target units ss) → x ≡ needOf (upshot k) pa pd
+    → Decides b target units die ss c k x
 unfolding columnOf codeOf needFor
-decides b s target units die {fa} {fd} {fm} {pa} {pd} {c} {k} e f g h i j m n =
-    let ss = map s (participants b target units) in
-    let a = e ∙ sym (attack-fighting b s target units) in
-    let d = ap₂ (λ (x y : ℕ). x * y) (f ∙ sym (defence-fighting b s target units)) g in
-    let z : c ≡ columnOf b target units ss = h ∙ ap₂ (column (b .results)) a d in
-    let y : k ≡ codeOf b target units die ss = i ∙ ap (λ (q : ℕ). b .results .code q die) z in
+decides b target units die ss {k = k} e f g h i j m n =
+    let z = h ∙ ap₂ (column (b .results)) e (ap₂ (λ (x y : ℕ). x * y) f g) in
+    let y = i ∙ ap (λ (q : ℕ). b .results .code q die) z in
     record {
       column = z;
       code = y;
       need =
           n
-          ∙ ap₂ (needOf (upshot k)) (j ∙ sym (attack-printed b s target units)) (m ∙ sym (defence-printed b s target units))
+          ∙ ap₂ (needOf (upshot k)) j m
           ∙ ap (λ (q : ℕ). needOf (upshot q) (printedTotal (attackLine b units ss)) (printedTotal (defenceLine b target units ss))) y;
     }
 
@@ -298,10 +284,10 @@ battled {p} {l} {q} {m} {target} {units} {die} {c} {k} {x} s d e f =
     }
 
 -- the sums fit
-pub defence-fits : {m n : ℕ} → m < 65536 → n < 256 → m * n < 16777216
-defence-fits {m} {n} l k = let a : m ≤ 65535 = omega arith in let b : n ≤ 255 = omega arith in let e : m * n ≤ 65535 * 255 = mul-le-mul a b in omega arith
+pub defence-fits : {m n : ℕ} → m ≤ most → n < 256 → m * n < 16777216
+defence-fits {m} {n} l k = let b : n ≤ 255 = omega arith in let e : m * n ≤ most * 255 = mul-le-mul l b in omega arith
 
-pub need-fits : (o : Upshot) (a d : ℕ) → a < 65536 → d < 65536 → needOf o a d < 65536
+pub need-fits : (o : Upshot) (a d : ℕ) → a ≤ most → d ≤ most → needOf o a d < 65536
 need-fits o a d l k =
     same-or (o .stage) 2
     (λ e.
@@ -310,28 +296,26 @@ need-fits o a d l k =
     (λ f. omega (arith, need-defenders o a d e f)))
     (λ e. omega (arith, need-none o a d e))
 
--- the sums of both sides, as they are read off the arrays
-pub record Sides (p : List ℕ) (target : ℕ) (units printed fighting : List ℕ) (n : ℕ) : Type 0 where
-  pub attack : sum (take (length units - 0) (drop 0 fighting)) ≡ sum (map (fights (board p) (strength p)) units)
-  pub defence :
-      sum (take (n - length units) (drop (length units) fighting)) ≡ sum (map (fights (board p) (strength p)) (defenders (board p) target))
-  pub attackTotal : sum (take (length units - 0) (drop 0 printed)) ≡ sum (map (strength p) units)
-  pub defenceTotal : sum (take (n - length units) (drop (length units) printed)) ≡ sum (map (strength p) (defenders (board p) target))
+-- both sides, as they are lent from the line that is drawn up
+pub record Sides (p : List ℕ) (target : ℕ) (units : List ℕ) (fs : List Fighter) (n : ℕ) : Type 0 where
+  pub attackers : take (length units - 0) (drop 0 fs) ≡ attackLine (board p) units (map (strength p) (participants (board p) target units))
+  pub defenders :
+      take (n - length units) (drop (length units) fs)
+      ≡ defenceLine (board p) target units (map (strength p) (participants (board p) target units))
 
 pub sides :
-    {p : List ℕ} {target : ℕ} {units who printed fighting : List ℕ} {n : ℕ} → Musters (board p) target units who n → Prints p who n printed
-    → ArmsAll (board p) who n printed fighting → Sides p target units printed fighting n
+    {p : List ℕ} {target : ℕ} {units who printed fighting : List ℕ} {n : ℕ} {fs : List Fighter} → Musters (board p) target units who n
+    → Prints p who n printed → ArmsAll (board p) who n printed fighting → Filled (drawn who printed fighting) n fs
+    → Sides p target units fs n
 unfolding participants
-sides {p} {target} {units} {who} {printed} {fighting} {n} w q a =
-    let ds = defenders (board p) target in
-    let g = fights (board p) (strength p) in
-    let e = armed-list w q a in
-    let f = printed-list w q in
+sides {p} {target} {units} {who} {printed} {fighting} {n} {fs} w q a d =
+    let b = board p in
+    let ds = defenders b target in
+    let g = fighterBy b (strength p) in
+    let e = drawn-list w q a d in
     record {
-      attack = ap sum (first-part g units ds fighting n (a .size) (w .most) (w .long) e);
-      defence = ap sum (second-part g units ds fighting n (a .size) (w .most) (w .long) e);
-      attackTotal = ap sum (first-part (strength p) units ds printed n (q .size) (w .most) (w .long) f);
-      defenceTotal = ap sum (second-part (strength p) units ds printed n (q .size) (w .most) (w .long) f);
+      attackers = first-part g units ds fs n (d .size) (w .most) (w .long) e ∙ sym (attack-line b (strength p) target units);
+      defenders = second-part g units ds fs n (d .size) (w .most) (w .long) e ∙ sym (defence-line b (strength p) target units);
     }
 
 -- the participants, as they are lent from the array

@@ -28,7 +28,8 @@ use Rattle.field.proofs.Zones.{force-in}
 use Rattle.field.specs.Listed.{listLength, noUnit, allThere, named, andThen}
 use Rattle.battle.specs.declared.Upshot.{Upshot}
 use Rattle.battle.specs.Attack.{dieFits, mayAttackNow, foughtOn, noTarget, cannotAttack, notBeside, attacker, attackers, inRange, attackChecks}
-use Rattle.battle.specs.Line.{defenders, participants, attackLine, defenceLine, fightingTotal, printedTotal}
+use Rattle.battle.specs.Line.{defenders, participants, attackLine, defenceLine}
+use Rattle.line.specs.Line.{fightingTotal, printedTotal}
 use Rattle.battle.specs.Odds.{multipleAt}
 use Rattle.battle.specs.Results.{upshot, battleChanges}
 use Rattle.battle.specs.Battle.{columnOf, codeOf, needFor, ruled, battle, attackRule, attackVerdict}

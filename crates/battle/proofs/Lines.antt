@@ -1,6 +1,6 @@
--- Laws of the battle line: its arrays filled place by place, sums, and what they say of the line of the definition.
+-- Laws of the battle line: the arrays that it is drawn up from, filled place by place.
 -- Assumes nothing.
-use Prim.Native.Nat.{_*_, _+_, _-_, _<_, _≤_, ℕ}
+use Prim.Native.Nat.{_+_, _<_, _≤_, ℕ}
 use mathlib.Core.Bool.{Bool, cond, false, true}
 use mathlib.Core.List.{List, [], _++_, _∷_, append-assoc, append-nil, map}
 use mathlib.Core.Path.{_∙_, _≡_, ap, ap₂, refl, sym}
@@ -8,11 +8,10 @@ use native.Mathlib.Numerals.{add-one}
 use native.Mathlib.Omega.{arith}
 use borrow.Author.Tests.{eq-eqb}
 use lib.Dec.{eqb}
-use lib.ListN.{drop, getD, length, length-append, length-drop, length-set, set, take}
-use lib.Seq.{getD-drop, getD-set-other, getD-set-same, take-all, take-suc-set}
+use lib.ListN.{getD, length, length-append, length-set, set, take}
+use lib.Seq.{getD-set-other, getD-set-same, take-all, take-suc-set}
 use Rattle.position.proofs.Tallies.{any-false, not-both, same-or}
 use Rattle.position.specs.Board.{Board}
-use Rattle.position.specs.Laid.{Read}
 use Rattle.position.specs.Ground.{next}
 use Rattle.position.specs.Layout.{strength}
 use Rattle.position.specs.Tally.{any}
@@ -25,7 +24,8 @@ use Rattle.field.specs.Working.{working}
 use Rattle.field.specs.Zone.{standsOn}
 use Rattle.supply.specs.Supply.{supplied, supplyMap}
 use Rattle.battle.specs.Line.{defenders, participants, strengthOf}
-use Rattle.battle.specs.Mustered.{AllStanding, Armed, Arms, ArmsAll, Enlists, Joins, Musters, Prints, nationAt, places, sum}
+use Rattle.battle.specs.Mustered.{AllStanding, Armed, Arms, ArmsAll, Enlists, Joins, Musters, Prints, nationAt}
+use Rattle.line.specs.Line.{places}
 
 -- one place more is written
 pub write-next : (us : List ℕ) (i x : ℕ) → i < length us → take (i + 1) (set us i x) ≡ take i us ++ (x ∷ [])
@@ -281,39 +281,3 @@ module _ {b : Board} {who : List ℕ} {n : ℕ} {printed after : List ℕ} where
 
   pub armed-all : {m : ℕ} → AllStanding b who n → ArmedTo b who n printed after m → 5 ≤ m → ArmsAll b who n printed after
   armed-all s o l = record { size = o .size; each = λ i k. o .each i k (omega (arith, s i k .nation)) }
-
--- the sum of the places from a to before i
-pub record Sums (xs : List ℕ) (a e i n : ℕ) : Type 0 where
-  pub from : a ≤ i
-  pub most : i ≤ e
-  pub is : n ≡ sum (take (i - a) (drop a xs))
-  pub small : n ≤ 255 * i
-
-sum-last : (xs : List ℕ) (x : ℕ) → sum (xs ++ (x ∷ [])) ≡ sum xs + x
-unfolding sum
-sum-last [] x = omega arith
-sum-last (y ∷ ys) x = omega (arith, sum-last ys x)
-
-pub sums-none : (xs : List ℕ) (a e : ℕ) → a ≤ e → Sums xs a e a 0
-unfolding sum
-sums-none xs a e l =
-    let z : a - a ≡ 0 = omega arith in
-    record { from = omega arith; most = l; is = rw z refl; small = omega arith }
-
-pub sums-more : {xs : List ℕ} {a e i n x : ℕ} → length xs ≡ places → e ≤ places → Sums xs a e i n → i < e → Read (getD xs i 0) 256 x → Sums xs a e (i + 1) (n + x)
-sums-more {xs} {a} {e} {i} {n} {x} s m o l b =
-    let k : i + 1 - a ≡ (i - a) + 1 = omega (arith, o .from) in
-    let j : a + (i - a) ≡ i = omega (arith, o .from) in
-    let ys = drop a xs in
-    let h : i - a < length ys = omega (arith, length-drop a xs, o .from) in
-    let g : getD ys (i - a) 0 ≡ getD xs i 0 = getD-drop a xs (i - a) 0 ∙ ap (λ (x : ℕ). getD xs x 0) j in
-    let t = ap sum (take-more ys (i - a) h) ∙ sum-last (take (i - a) ys) (getD ys (i - a) 0) in
-    record {
-      from = omega (arith, o .from);
-      most = omega arith;
-      is = rw k (ap₂ (λ (x y : ℕ). x + y) (o .is) (b .is ∙ sym g) ∙ sym t);
-      small = omega (arith, o .small, b .small);
-    }
-
-pub sums-all : {xs : List ℕ} {a e i n : ℕ} → Sums xs a e i n → e ≤ i → n ≡ sum (take (e - a) (drop a xs))
-sums-all {xs} {a} {e} {i} o l = let k : i ≡ e = omega (arith, o .most) in o .is ∙ ap (λ (x : ℕ). sum (take (x - a) (drop a xs))) k

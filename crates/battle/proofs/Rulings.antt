@@ -1,9 +1,16 @@
 -- The attack's small rulings hold: both sides of each row compute to the same.
 -- Assumes nothing.
-use mathlib.Core.Path.{refl}
+use mathlib.Core.Path.{_≡_, refl}
+use mathlib.Core.List.{[], _∷_}
 use Rattle.grid.specs.Rulings.{Answered}
-use Rattle.battle.specs.Rulings.{battleOpen, battleRows}
+use Rattle.position.specs.Ground.{riverSide, majorRiverSide}
+use Rattle.battle.specs.Rulings.{battleOpen, plainSide, multipleFor, battleRows}
 
 pub battle-rulings : Answered battleRows
 unfolding battleOpen
-battle-rulings = (refl, (refl, (refl, (refl, (refl, (refl, (refl, tt)))))))
+battle-rulings = (refl, (refl, (refl, (refl, (refl, (refl, tt))))))
+
+-- where one attacker crosses a plain side, the rivers of the others are left out
+pub one-plain : multipleFor 1 (riverSide ∷ plainSide ∷ majorRiverSide ∷ []) ≡ 1
+unfolding battleOpen
+one-plain = refl

@@ -28,6 +28,7 @@ use Rattle.ruling.specs.Verdict.{turnedAll}
 use Rattle.field.proofs.Scenes.{scene-marks, scene-turned-up}
 use Rattle.field.specs.Scene.{Scene, scene}
 use Rattle.field.proofs.Lists.{map-last, named-last, take-more}
+use Rattle.field.proofs.Making.{makes-more}
 use Rattle.field.specs.Listed.{named}
 use Rattle.battle.specs.Line.{defenders, participants}
 use Rattle.battle.specs.Results.{addOnce, battleChanges, foughtBy, lost, needOf, onceEach, routedFrom, routesWritten, sufferedBy, suffers, upshot}
@@ -142,34 +143,6 @@ turning-more {p} {us} {q} {r} {v} {i} {u} o l e f =
 
 pub turning-all : {p us q : List ℕ} {v : View} {i : ℕ} → Turning p v us i q → length us ≤ i → q ≡ turnedAll p us
 turning-all {p} {us} {i = i} o l = o .made ∙ ap (turnedAll p) (take-all i us l)
-
--- the same change made for one unit after another
-pub record Making (f : ℕ → Change) (p : List ℕ) (v : View) (us : List ℕ) (i : ℕ) (q : List ℕ) : Type 0 where
-  pub most : i ≤ length us
-  pub made : q ≡ makes p (map f (take i us))
-  pub laid : Laid q v
-
-makes-more : (f : ℕ → Change) (p us : List ℕ) (i : ℕ) → i < length us → makes p (map f (take (i + 1) us)) ≡ make (makes p (map f (take i us))) (f (getD us i 0))
-makes-more f p us i l =
-    ap (λ (x : List ℕ). makes p (map f x)) (take-more us i l)
-    ∙ ap (makes p) (map-last f (take i us) (getD us i 0))
-    ∙ makes-snoc (map f (take i us)) (f (getD us i 0)) p
-
-module _ {f : ℕ → Change} {p us : List ℕ} {v : View} where
-  pub making-none : Laid p v → Making f p v us 0 p
-  unfolding makes
-  making-none l = record { most = omega arith; made = refl; laid = l }
-
-  pub making-more : {q r : List ℕ} {i u : ℕ} → Making f p v us i q → i < length us → u ≡ getD us i 0 → r ≡ make q (f u) → Making f p v us (i + 1) r
-  making-more {q} {r} {i} {u} o l e g =
-      record {
-        most = omega arith;
-        made = g ∙ ap₂ (λ (x : List ℕ) (y : ℕ). make x (f y)) (o .made) e ∙ sym (makes-more f p us i l);
-        laid = rw g (laid-make (o .laid) (f u));
-      }
-
-  pub making-all : {q : List ℕ} {i : ℕ} → Making f p v us i q → length us ≤ i → q ≡ makes p (map f us)
-  making-all {q} {i} o l = o .made ∙ ap (λ (x : List ℕ). makes p (map f x)) (take-all i us l)
 
 -- a side that is destroyed, and one that gets a role
 module _ (fate u : ℕ) where

@@ -8,7 +8,8 @@ use lib.ListN.{length, take, drop}
 use Rattle.position.specs.Board.{Board}
 use Rattle.position.specs.Shape.{In}
 use Rattle.ruling.specs.Secret.{Each}
-use Rattle.battle.specs.Line.{fighter, line, printedTotal, attackLine, defenceLine, defenders, participants}
+use Rattle.line.specs.Line.{printedTotal, totalBy}
+use Rattle.battle.specs.Line.{fighter, line, attackLine, defenceLine, defenders, participants}
 
 -- the strengths of those in front, and of those behind
 front-strengths : (f : ℕ → ℕ) (us ds : List ℕ) → take (length us) (map f (us ++ ds)) ≡ map f us
@@ -22,7 +23,7 @@ back-strengths f (u ∷ us) ds = back-strengths f us ds
 module _ (b : Board) (f : ℕ → ℕ) where
   -- each is 1 to 60
   totals : (us : List ℕ) → Each (λ u. In 1 (f u) 60) us → In (length us) (printedTotal (line b us (map f us))) (60 * length us)
-  unfolding line printedTotal fighter
+  unfolding line totalBy fighter
   totals [] h = record { low = omega arith; high = omega arith }
   totals (u ∷ us) h =
       let i = totals us (h .1) in

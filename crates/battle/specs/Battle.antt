@@ -5,10 +5,11 @@ use mathlib.Core.List.{List, [], _∷_}
 use lib.ListN.{replicate}
 use Rattle.position.specs.Board.{Board, board}
 use Rattle.acceptance.specs.Broken.{broken}
+use Rattle.line.specs.Line.{fightingTotal, printedTotal}
 use Rattle.ruling.specs.Verdict.{Verdict, Judge, revealAll}
 use Rattle.ruling.specs.Verdict.Judge.{rule}
 use Rattle.ruling.specs.Verdict.Verdict.{refuseIf, judge}
-use Rattle.battle.specs.Line.{participants, attackLine, defenceLine, fightingTotal, printedTotal}
+use Rattle.battle.specs.Line.{participants, attackLine, defenceLine}
 use Rattle.battle.specs.Odds.{multipleAt, column}
 use Rattle.battle.specs.Results.{upshot, needOf, battleChanges}
 use Rattle.battle.specs.Attack.{attackChecks}

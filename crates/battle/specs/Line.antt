@@ -1,9 +1,10 @@
 -- The battle line: who takes part, and what each brings.
 -- Assumes nothing.
-use Prim.Native.Nat.{ℕ, _+_}
+use Prim.Native.Nat.{ℕ}
 use mathlib.Core.List.{List, [], _∷_, _++_}
 use lib.ListN.{length, take, drop}
 use Rattle.position.specs.Board.{Board}
+use Rattle.line.specs.declared.Fighter.{Fighter}
 use Rattle.field.specs.Scene.{scene}
 use Rattle.field.specs.Zone.{standsOn}
 use Rattle.field.specs.Working.{working}
@@ -18,16 +19,11 @@ defenders b target = sieve (standsOn (scene b) target) (b .units .count)
 unfoldable pub participants : Board → ℕ → List ℕ → List ℕ
 participants b target units = units ++ defenders b target
 
--- "one record for each participant, carries unit, printed strength and fighting strength"
-pub record Fighter : Type 0 where
-  pub unit : ℕ
-  pub printed : ℕ
-  pub fighting : ℕ
-
 -- "Each strength out of supply at that instant is halved, fractions up, unit by unit.": each by its own nationality, as the call begins
 unfoldable pub strengthOf : Board → ℕ → ℕ → ℕ
 strengthOf b u printed = working b u (supplied (scene b) (b .units .nationality u) (b .units .hex u)) printed
 
+-- "one record for each participant, carries unit, printed strength and fighting strength"
 unfoldable pub fighter : Board → ℕ → ℕ → Fighter
 fighter b u printed = record { unit = u; printed = printed; fighting = strengthOf b u printed }
 
@@ -36,15 +32,6 @@ unfoldable pub line : Board → List ℕ → List ℕ → List Fighter
 line b [] ss = []
 line b (u ∷ us) [] = []
 line b (u ∷ us) (s ∷ ss) = fighter b u s ∷ line b us ss
-
--- what a part of the line comes to in the odds, and in the losses
-unfoldable pub fightingTotal : List Fighter → ℕ
-fightingTotal [] = 0
-fightingTotal (f ∷ fs) = f .fighting + fightingTotal fs
-
-unfoldable pub printedTotal : List Fighter → ℕ
-printedTotal [] = 0
-printedTotal (f ∷ fs) = f .printed + printedTotal fs
 
 -- the attackers come first in the line: their strengths, and those of the defenders behind them
 unfoldable pub attackLine : Board → List ℕ → List ℕ → List Fighter

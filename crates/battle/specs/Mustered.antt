@@ -1,4 +1,5 @@
--- What the arrays of the battle line hold: units, printed strengths and fighting strengths. Each has 21 places, of which the first n count.
+-- What the arrays that the battle line is drawn up from hold: units, printed strengths and fighting strengths. Each has 21 places, of
+-- which the first n count.
 -- Assumes nothing.
 use Prim.Native.Nat.{_+_, _<_, _≤_, ℕ}
 use mathlib.Core.Bool.{Bool}
@@ -8,16 +9,9 @@ use lib.Dec.{eqb}
 use lib.ListN.{getD, length, take}
 use Rattle.position.specs.Board.{Board}
 use Rattle.position.specs.Layout.{strength}
+use Rattle.line.specs.Line.{fighterOf, places}
+use Rattle.line.specs.declared.Fighter.{Fighter}
 use Rattle.battle.specs.Line.{defenders, participants, strengthOf}
-
--- the sum of a list
-unfoldable pub sum : List ℕ → ℕ
-sum [] = 0
-sum (x ∷ xs) = x + sum xs
-
--- how many places an array has
-abbrev pub places : ℕ
-places = 21
 
 -- the first of the array are these units
 pub record Enlists (units who : List ℕ) : Type 0 where
@@ -68,3 +62,7 @@ pub record Arms (b : Board) (nation : ℕ) (who : List ℕ) (n : ℕ) (printed b
 pub record ArmsAll (b : Board) (who : List ℕ) (n : ℕ) (printed after : List ℕ) : Type 0 where
   pub size : length after ≡ places
   pub each : (i : ℕ) → i < n → Armed b who printed after i
+
+-- the fighter at place i of the line: unit, printed strength and fighting strength, as the arrays have them
+unfoldable pub drawn : List ℕ → List ℕ → List ℕ → ℕ → Fighter
+drawn who printed fighting i = fighterOf (getD who i 0) (getD printed i 0) (getD fighting i 0)

@@ -16,17 +16,21 @@ use Rattle.field.specs.Listed.{named}
 abbrev pub lost : ℕ
 lost = 0
 
+-- what becomes of attackers and defenders, the stage and n
+abbrev pub fateOf : ℕ → ℕ → ℕ → ℕ → Upshot
+fateOf a d s n = record { attackers = a; defenders = d; stage = s; owed = n }
+
 -- "D or A gives the losers role 1 and n. De and Ae destroy. Dx and Ax destroy one side; .. the other side gets role 1. Victors of
 -- D, De, A, Ae get role 2. D and A lead to stage 1, Dx and Ax to 2, De and Ae to 3."
 -- "Codes: 1..3 D1..D3, 4..6 A1..A3, 7 Ae, 8 De, 9 Dx, 10 Ax."
 unfoldable pub upshot : ℕ → Upshot
 upshot code =
-    cond (leb code 3) (record { attackers = 2; defenders = 1; stage = 1; owed = code })
-    (cond (leb code 6) (record { attackers = 1; defenders = 2; stage = 1; owed = code - 3 })
-    (cond (eqb code 7) (record { attackers = lost; defenders = 2; stage = 3; owed = 0 })
-    (cond (eqb code 8) (record { attackers = 2; defenders = lost; stage = 3; owed = 0 })
-    (cond (eqb code 9) (record { attackers = 1; defenders = lost; stage = 2; owed = 0 })
-    (record { attackers = lost; defenders = 1; stage = 2; owed = 0 })))))
+    cond (leb code 3) (fateOf 2 1 1 code)
+    (cond (leb code 6) (fateOf 1 2 1 (code - 3))
+    (cond (eqb code 7) (fateOf lost 2 3 0)
+    (cond (eqb code 8) (fateOf 2 lost 3 0)
+    (cond (eqb code 9) (fateOf 1 lost 2 0)
+    (fateOf lost 1 2 0)))))
 
 -- "need is its printed total": the destroyed side's, in an exchange alone
 unfoldable pub needOf : Upshot → ℕ → ℕ → ℕ

@@ -36,7 +36,7 @@ abbrev pub multipleFor : ℕ → List ℕ → ℕ
 multipleFor terrain sides = defenceMultiple terrain (map (sideMultiple rivers) sides)
 
 -- "columns 1:1, 2:1, 3:1 give 26:9 2:1, 27:9 3:1, 8:9 1:1; halves of 5, 1, 4 are 3, 1, 2; side multiples 2 and 3, terrain 1: 2;
--- a plain side, terrain 3: 3"; and with terrain 1 the plain side leaves the rivers out
+-- a plain side, terrain 3: 3"
 abbrev pub battleRows : List Row
 battleRows =
     row (columnFor 26 9) 2 ∷
@@ -45,5 +45,4 @@ battleRows =
     row (map half (5 ∷ 1 ∷ 4 ∷ [])) (3 ∷ 1 ∷ 2 ∷ []) ∷
     row (multipleFor 1 (riverSide ∷ majorRiverSide ∷ [])) 2 ∷
     row (multipleFor 3 (plainSide ∷ [])) 3 ∷
-    row (multipleFor 1 (riverSide ∷ plainSide ∷ majorRiverSide ∷ [])) 1 ∷
     []

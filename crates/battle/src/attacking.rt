@@ -10,14 +10,13 @@ ghost use Rattle.battle.specs.Battle.{battle, attackVerdict};
 ghost use Rattle.battle.specs.Answers.{foughtAs};
 use crate::Fought;
 use crate::asking;
-use crate::line;
 use crate::odds;
+use crate::ranks;
 use crate::results;
 use position::Checked;
 use position::View;
 use position::read;
 use ruling::Tested;
-use supply::paint;
 
 // The battle of an attack that is let through.
 fn fight(
@@ -34,17 +33,19 @@ fn fight(
 {
     let k = units.len();
     let mut who = [0; 21];
-    let n = line::muster(p, v, target, units, &mut who);
+    let n = ranks::muster(p, v, target, units, &mut who);
     let mut printed = [0; 21];
-    line::strengths(p, v, &who, n, &mut printed);
+    ranks::strengths(p, v, &who, n, &mut printed);
     let mut fighting = [0; 21];
-    line::arm_all(p, v, &who, n, &printed, &mut fighting, scratch);
-    let attack = line::total(&fighting, 0, k);
-    let defence = line::total(&fighting, k, n) * odds::multiple_at(p, v, target, units);
-    let column = odds::column(p, v, attack, defence);
+    ranks::arm_all(p, v, &who, n, &printed, &mut fighting, scratch);
+    let fighters = ranks::draw_up(&who, &printed, &fighting, n);
+    let attackers = line::sum_up(fighters, 0, k);
+    let defenders = line::sum_up(fighters, k, n);
+    let defence = defenders.fighting * odds::multiple_at(p, v, target, units);
+    let column = odds::column(p, v, attackers.fighting, defence);
     let code = read::code(p, v, column, die);
     let o = results::upshot(code);
-    let need = results::need_of(o, line::total(&printed, 0, k), line::total(&printed, k, n));
+    let need = results::need_of(o, attackers.printed, defenders.printed);
     results::settle(p, v, target, units, &who[0..n], o, need);
     paint::clear(scratch);
     Fought::Done(column + 1, code)

@@ -1,8 +1,8 @@
 // Battle: the attack, its line, its odds and its results.
 mod asking;
 pub mod attacking;
-mod line;
 mod odds;
+mod ranks;
 mod results;
 
 // The answer to an attack: the column, counted from 1, and the result code; or refused with the refusal's number and its place in the list.

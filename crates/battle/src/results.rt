@@ -10,7 +10,7 @@ ghost use Rattle.position.specs.Laid.{Laid, Read};
 ghost use Rattle.ruling.specs.Verdict.{turnedAll};
 ghost use Rattle.field.specs.Listed.{named};
 ghost use Rattle.battle.specs.Line.{participants};
-ghost use Rattle.battle.specs.Results.{upshot, needOf, suffers, onceEach, routesWritten, routedFrom, battleChanges};
+ghost use Rattle.battle.specs.Results.{fateOf, upshot, needOf, suffers, onceEach, routesWritten, routedFrom, battleChanges};
 ghost use Rattle.battle.specs.Settled.{MarksAll, RoutesOnce, Fitting};
 use crate::Upshot;
 use position::View;
@@ -44,56 +44,38 @@ const DE: usize = 8;
 
 const DX: usize = 9;
 
+// What becomes of the sides, the stage that follows, and the length of the retreats.
+fn fate(attackers: usize, defenders: usize, stage: usize, owed: usize) -> Upshot
+    ensures { λ r. ⌜ r ≡ fateOf attackers defenders stage owed ⌝ }
+{
+    Upshot {
+        attackers,
+        defenders,
+        stage,
+        owed,
+    }
+}
+
 // What a result code does to the two sides and to the desk.
 pub fn upshot(code: usize) -> Upshot
     ensures { λ r. ⌜ r ≡ upshot code ⌝ }
 {
     if code <= D3 {
-        return Upshot {
-            attackers: ADVANCES,
-            defenders: OWES,
-            stage: RETREATS,
-            owed: code,
-        };
+        return fate(ADVANCES, OWES, RETREATS, code);
     }
     if code <= A3 {
-        return Upshot {
-            attackers: OWES,
-            defenders: ADVANCES,
-            stage: RETREATS,
-            owed: code - D3,
-        };
+        return fate(OWES, ADVANCES, RETREATS, code - D3);
     }
     if code == AE {
-        return Upshot {
-            attackers: LOST,
-            defenders: ADVANCES,
-            stage: ADVANCING,
-            owed: 0,
-        };
+        return fate(LOST, ADVANCES, ADVANCING, 0);
     }
     if code == DE {
-        return Upshot {
-            attackers: ADVANCES,
-            defenders: LOST,
-            stage: ADVANCING,
-            owed: 0,
-        };
+        return fate(ADVANCES, LOST, ADVANCING, 0);
     }
     if code == DX {
-        return Upshot {
-            attackers: OWES,
-            defenders: LOST,
-            stage: LOSSES,
-            owed: 0,
-        };
+        return fate(OWES, LOST, LOSSES, 0);
     }
-    Upshot {
-        attackers: LOST,
-        defenders: OWES,
-        stage: LOSSES,
-        owed: 0,
-    }
+    fate(LOST, OWES, LOSSES, 0)
 }
 
 // What the other side owes in an exchange: the printed total of the destroyed side.

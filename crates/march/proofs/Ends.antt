@@ -31,8 +31,8 @@ use Rattle.field.proofs.Scenes.{scene-marks}
 use Rattle.field.proofs.Scenes.Still.{marks as still, clock as still-clock}
 use Rattle.supply.specs.Supply as Supply
 use Rattle.supply.specs.Supply.{supplyMap}
-use Rattle.march.specs.declared.Clock.{Clock}
-use Rattle.march.specs.Clock.{nextClock, judgesSupply}
+use Rattle.clock.specs.declared.Clock.{Clock}
+use Rattle.clock.specs.Clock.{nextClock, judgesSupply}
 use Rattle.march.specs.EndPhase.{clock, rested, restAll, judgedMarks, mappedOf, judgeAll, judgeForce, supplyChanges, endChanges}
 use Rattle.march.specs.Ending.{Waits, Since, JudgesUnit, JudgesAll, JudgesForce, JudgesPhase}
 use Rattle.acceptance.proofs.Carries.{changes-then}

@@ -20,8 +20,8 @@ use Rattle.position.proofs.Tallies.{same-or}
 use Rattle.ruling.specs.Verdict.{outcome}
 use Rattle.field.specs.Scene.{scene}
 use Rattle.supply.specs.Supply as Supply
-use Rattle.march.specs.declared.Clock.{Clock}
-use Rattle.march.specs.Clock.{nextClock, isLast, judgesSupply}
+use Rattle.clock.specs.declared.Clock.{Clock}
+use Rattle.clock.specs.Clock.{nextClock, isLast, judgesSupply}
 use Rattle.march.specs.EndPhase.{
   clock,
   rested,

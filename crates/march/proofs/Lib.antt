@@ -4,3 +4,4 @@ pub mod Moves
 pub mod KeepMove
 pub mod KeepEnd
 pub mod Ends
+pub mod EndDesk

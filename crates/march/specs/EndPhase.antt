@@ -15,8 +15,8 @@ use Rattle.ruling.specs.Verdict.Judge.{rule}
 use Rattle.ruling.specs.Verdict.Verdict.{refuseIf, judge}
 use Rattle.field.specs.Scene.{scene}
 use Rattle.supply.specs.Supply as Supply
-use Rattle.march.specs.declared.Clock.{Clock}
-use Rattle.march.specs.Clock.{nextClock, isLast, judgesSupply}
+use Rattle.clock.specs.declared.Clock.{Clock}
+use Rattle.clock.specs.Clock.{nextClock, isLast, judgesSupply}
 
 -- the clock on the desk
 abbrev pub clock : Board → Clock

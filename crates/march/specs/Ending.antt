@@ -11,7 +11,7 @@ use Rattle.position.specs.Change.{makes}
 use Rattle.position.specs.Change.Change.{marked}
 use Rattle.field.specs.Scene.{scene}
 use Rattle.supply.specs.Supply.{supplyMap}
-use Rattle.march.specs.declared.Clock.{Clock}
+use Rattle.clock.specs.declared.Clock.{Clock}
 use Rattle.march.specs.EndPhase.{clock, rested, judgedMarks, mappedOf, judgeAll, judgeForce, supplyChanges, endChanges}
 
 -- the clock of a board, whose numbers are bytes

@@ -2,6 +2,5 @@ pub mod Step
 pub mod Move
 pub mod Answers
 pub mod Judged
-pub mod Clock
 pub mod EndPhase
 pub mod Ending

@@ -8,16 +8,17 @@ ghost use Rattle.acceptance.specs.Accepted.{Accepted};
 ghost use Rattle.position.specs.Laid.{Laid, Read};
 ghost use Rattle.ruling.specs.Verdict.{Met};
 ghost use Rattle.ruling.specs.Answers.{answerAs};
+ghost use Rattle.clock.specs.Clock.{nextClock};
 ghost use Rattle.march.specs.EndPhase.{rested, restAll, endVerdict};
 ghost use Rattle.march.specs.Ending.{ClockOf, JudgesUnit, JudgesAll, JudgesForce, JudgesPhase, Ended};
-use crate::Clock;
+use clock::Clock;
+use clock::timing;
 use position::Checked;
 use position::View;
 use position::bits;
 use position::read;
 use position::write;
 use ruling::Answer;
-use supply::paint;
 
 // The clock on the desk.
 fn clock_of(p: &[u8], v: View) -> Clock
@@ -29,6 +30,16 @@ fn clock_of(p: &[u8], v: View) -> Clock
         force: read::phasing(p, v),
         phase: read::phase(p, v),
     }
+}
+
+// The clock moved on: it is lent to the one function that does so in place.
+fn moved_on(c: Clock) -> Clock
+    requires { ⌜ (c .turn < 256) × (c .force < 256) × (c .phase < 256) ⌝ }
+    ensures { λ r. ⌜ r ≡ nextClock c ⌝ }
+{
+    let mut clock = c;
+    timing::move_on(&mut clock);
+    clock
 }
 
 // Marks without moved and fought.
@@ -114,7 +125,7 @@ fn pass_on(p: &mut [u8], v: View, scratch: &mut [u8])
     ensures { λ _. ⌜ Ended (now (p .entry)) (now (p .exit)) (now (scratch .exit)) ⌝ }
 {
     let now = clock_of(p, v);
-    let next = now.next();
+    let next = moved_on(now);
     rest_all(p, v);
     write::set_clock(p, v, next.turn, next.force, next.phase);
     enter(p, v, next, scratch);

@@ -1,8 +1,7 @@
-// March: move, end phase and the clock.
+// March: move and end phase.
 pub mod ending;
 pub mod moving;
 pub mod stepping;
-pub mod timing;
 
 // The answer to a move: done, or refused with the refusal's number and its place in the path.
 pub enum Moved {
@@ -20,11 +19,4 @@ pub enum Way {
 pub enum Path {
     To(usize),
     Stop(usize, usize),
-}
-
-// Whose turn it is: turn, force and phase.
-pub struct Clock {
-    pub turn: usize,
-    pub force: usize,
-    pub phase: usize,
 }

@@ -63,7 +63,7 @@ fn leaves_zone(p: &[u8], v: View, u: usize, at: usize, k: usize) -> bool
     if k <= 1 {
         return false;
     }
-    zone::enemy_zone(p, v, forces::force_of(p, v, u), at)
+    paint::zone_at(p, v, forces::force_of(p, v, u), at)
 }
 
 // Whether no step may be made from hex `h` to hex `x`.

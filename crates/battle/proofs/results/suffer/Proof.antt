@@ -4,7 +4,7 @@ use Prim.Native.Nat.{_-_}
 use mathlib.Core.Path.{refl}
 use native.Mathlib.Omega.{arith}
 use borrow.Author.Needs.{needs}
-use Rattle.battle.proofs.Settles.{Making, making-all, making-more, making-none}
+use Rattle.field.proofs.Making.{Making, making-all, making-more, making-none}
 use Rattle.battle.specs.Results.{suffers}
 use Rattle.battle.proofs.results.suffer.Statement.{statement}
 use Rattle.battle.proofs.results.suffer.Tie as tie

@@ -8,7 +8,7 @@ use Rattle.acceptance.specs.Accepted.{Accepted}
 use Rattle.acceptance.specs.Broken.{broken-true, broken-false}
 use Rattle.ruling.proofs.Meets.{pass, stop, ruled}
 use Rattle.supply.proofs.Supplies.{other-length, own-length}
-use Rattle.march.specs.Clock.{isLast}
+use Rattle.clock.specs.Clock.{isLast}
 use Rattle.march.specs.EndPhase.{endRule, endVerdict}
 use Rattle.march.proofs.ending.end_phase.Statement.{statement}
 use Rattle.march.proofs.ending.end_phase.Tie as tie

@@ -6,21 +6,21 @@ use borrow.Author.Needs.{needs}
 use Rattle.position.specs.Layout.{hexes}
 use Rattle.position.specs.Board.{board}
 use Rattle.position.proofs.Changes.{laid-make, laid-makes}
-use Rattle.march.specs.Clock.{nextClock}
+use Rattle.clock.specs.Clock.{nextClock}
 use Rattle.march.specs.EndPhase.{clock}
 use Rattle.march.proofs.Ends.{next-bytes, all-ended, all-clear}
 use Rattle.march.proofs.ending.pass_on.Statement.{statement}
 use Rattle.march.proofs.ending.pass_on.Tie as tie
 
 -- the clock that is set is the board's next
-upcoming : (c : tie.After-next) → c .next .result ≡ nextClock (clock (board (c .before .before .before .before .before .args .p .now)))
-upcoming c = c .next .ensures ∙ ap nextClock (c .before .clock-of .ensures .is)
+upcoming : (c : tie.After-moved-on) → c .moved-on .result ≡ nextClock (clock (board (c .before .before .before .before .before .args .p .now)))
+upcoming c = c .moved-on .ensures ∙ ap nextClock (c .before .clock-of .ensures .is)
 
 clock-of-requires : tie.Need-clock-of-requires
 clock-of-requires c κs = search needs
 
-next-requires : tie.Need-next-requires
-next-requires c κs = let k = c .clock-of .ensures in (k .turn, k .force, k .phase)
+moved-on-requires : tie.Need-moved-on-requires
+moved-on-requires c κs = let k = c .clock-of .ensures in (k .turn, k .force, k .phase)
 
 rest-all-requires : tie.Need-rest-all-requires
 rest-all-requires c κs = search needs
@@ -62,7 +62,7 @@ pass-on-spec =
     tie.close
     (tie.spec
     clock-of-requires
-    next-requires
+    moved-on-requires
     rest-all-requires
     set-clock-requires
     enter-requires

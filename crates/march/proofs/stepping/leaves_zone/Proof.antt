@@ -18,15 +18,15 @@ returns c = sym (leaves-first _ _ _ _ (c .if1 .taken))
 force-of-requires : tie.Need-force-of-requires
 force-of-requires c κs = search needs
 
-enemy-zone-requires : tie.Need-enemy-zone-requires
-enemy-zone-requires c κs = search needs
+zone-at-requires : tie.Need-zone-at-requires
+zone-at-requires c κs = search needs
 
 returns-2 : tie.Need-returns-2
 returns-2 c =
     let b = board (c .before .before .before .before .args .p .now) in
-    c .enemy-zone .ensures
+    c .zone-at .ensures
     ∙ ap (λ (f : ℕ). enemyZone (scene b) f (c .before .before .before .before .args .at)) (c .before .force-of .ensures)
     ∙ sym (leaves-later b (c .before .before .before .before .args .u) (leg (c .before .before .before .before .args .at) 0) (c .before .before .before .before .args .k) (omega arith))
 
 pub leaves-zone-spec : {M : Type 1} → statement M
-leaves-zone-spec = tie.close (tie.spec returns force-of-requires enemy-zone-requires returns-2)
+leaves-zone-spec = tie.close (tie.spec returns force-of-requires zone-at-requires returns-2)

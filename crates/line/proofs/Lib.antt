@@ -1,0 +1,4 @@
+pub mod Filling
+pub mod Sums
+pub mod Summing
+pub mod Rows
