@@ -35,7 +35,7 @@ module _ (b : Board) (r w x y z : ℕ) where
   abbrev written : Board
   written = change b (routed r w x y z)
 
-  route-there : r < 6 → (j : ℕ) → written .desk .route r j ≡ ofFour j w x y z
+  pub route-there : r < 6 → (j : ℕ) → written .desk .route r j ≡ ofFour j w x y z
   unfolding change reroute
   route-there l j = simp (lt-ltb r 6 l, eq-eqb r r refl)
 

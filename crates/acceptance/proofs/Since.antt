@@ -59,6 +59,11 @@ lawful-since l s most combat stage =
     (s .routes)
     l
 
+-- placing a unit leaves the desk
+pub placed-desk : (c : Board) (u h : ℕ) → change c (placed u h) .desk ≡ c .desk
+unfolding change
+placed-desk c u h = either (ltb h (c .map .hexes)) (λ e. simp e) (λ e. simp e)
+
 module _ {b c : Board} (most : b .map .hexes ≤ nowhere) (s : Since b c) where
   small : c .map .hexes ≤ nowhere
   small = rw (s .fixed .map) most
@@ -114,12 +119,8 @@ module _ {b c : Board} (most : b .map .hexes ≤ nowhere) (s : Since b c) where
       (λ n. same (assigned-else c u 0 w (λ e. n (sym e)))))
       (s .units))
 
-  placed-desk : (u h : ℕ) → change c (placed u h) .desk ≡ c .desk
-  unfolding change
-  placed-desk u h = either (ltb h (c .map .hexes)) (λ e. simp e) (λ e. simp e)
-
   pub since-placed : (u h : ℕ) → u < c .units .count → Room c u h → Since b (change c (placed u h))
-  since-placed u h l r = since-units (placed u h) (placed-desk u h) (units-placed (s .units) u h l r)
+  since-placed u h l r = since-units (placed u h) (placed-desk c u h) (units-placed (s .units) u h l r)
 
   -- the stage is set, and route r is written, given what its places are
   pub since-staged : (t n x : ℕ) → Since b (change c (staged t n x))

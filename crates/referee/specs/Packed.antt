@@ -25,3 +25,9 @@ pub record Exported (p l : List ℕ) (v : Verdict) (r : ℕ) (q m : List ℕ) : 
   pub answer : Ruling
   pub packs : r ≡ packed answer
   pub met : Met p l v answer q m
+
+-- "Two results that fit the same promise are proved equal": the number returned, and every byte. Proved in proofs/One.antt.
+abbrev pub OneExport : Type 0
+OneExport =
+    (p l : List ℕ) (v : Verdict) (r r′ : ℕ) (q q′ m m′ : List ℕ) → Exported p l v r q m → Exported p l v r′ q′ m′
+    → (r ≡ r′) × (q ≡ q′) × (m ≡ m′)

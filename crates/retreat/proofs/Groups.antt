@@ -5,7 +5,7 @@ use mathlib.Core.Bool.{Bool, cond, false, not, true}
 use mathlib.Core.List.{List, [], _∷_}
 use mathlib.Core.Path.{_∙_, _≡_, ap, ap₂, refl, sym}
 use native.Mathlib.Omega.{arith}
-use borrow.Author.Tests.{eq-eqb, le-leb, le-ltb, lt-leb, lt-ltb, ne-eqb}
+use borrow.Author.Tests.{eq-eqb, le-leb, le-ltb, lt-leb, lt-ltb, ne-eqb, not-false}
 use lib.Dec.{eqb, leb, ltb}
 use lib.ListN.{List·getD-append, getD, length}
 use Rattle.position.proofs.Tallies.{neither, same-or, tally-pos}
@@ -54,6 +54,13 @@ module _ (b : Board) (h : ℕ) where
       any (walksFrom b h) (b .units .count) ≡ true → doomed b h ≡ not (found (firstRoute b (groupForce b h) h (b .desk .owed)))
   unfolding doomed
   doomed-route e = simp e
+
+  -- a group that is not destroyed has a route
+  pub spared-route : doomed b h ≡ false → found (firstRoute b (groupForce b h) h (b .desk .owed)) ≡ true
+  unfolding doomed
+  spared-route e =
+      let t = found (firstRoute b (groupForce b h) h (b .desk .owed)) in
+      not-false t (neither (not (any (walksFrom b h) (b .units .count))) (not t) e .1)
 
   module _ (route : List ℕ) where
     pub any-route : doomed b h ≡ true → notLegal b h route ≡ false

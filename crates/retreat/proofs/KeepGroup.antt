@@ -6,22 +6,23 @@ use mathlib.Core.Bool.{true, false}
 use mathlib.Core.List.{List, [], _∷_, map}
 use native.Mathlib.Omega.{arith}
 use lib.Dec.{eqb, ltb}
-use borrow.Author.Tests.{eqb-true, not-true}
+use borrow.Author.Tests.{not-true}
+use Rattle.position.specs.Kind.{supplyKind}
 use Rattle.position.specs.Board.{Board, Desk, forceOf, nowhere}
 use Rattle.position.specs.Ground.{standable}
-use Rattle.position.specs.Crowd.{crowd, others, owesAt, owingHexes}
-use Rattle.position.specs.Tally.{any}
+use Rattle.position.specs.Crowd.{crowd, holders, others, owesAt, owingHexes}
+use Rattle.position.specs.Tally.{any, tally}
 use Rattle.position.specs.Change.Change.{assigned, destroyed, placed}
 use Rattle.position.specs.Effect.{change, changes}
-use Rattle.position.proofs.Crowds.{crowd-with, others-is}
+use Rattle.position.proofs.Crowds.{crowd-with, holders-is, others-is}
 use Rattle.position.proofs.Effects.{upd-else}
-use Rattle.position.proofs.Tallies.{any-false, both-yes, but, but-other, but-self, either, equals, equals-is, equals-yes, not-both, same-or, tally-le}
+use Rattle.position.proofs.Tallies.{any-false, but, but-other, but-self, either, equals, equals-is, equals-yes, not-both, same-or, tally-but-hit, tally-le}
 use Rattle.acceptance.specs.Accepted.{Lawful, MappedOk}
 use Rattle.acceptance.proofs.Carries.{changes-then, force-by, standable-by}
 use Rattle.acceptance.proofs.Fates.{Same, assigned-else, assigned-none, destroyed-else, destroyed-here, same-trans}
 use Rattle.acceptance.proofs.Lawfuls.{Room}
 use Rattle.acceptance.proofs.Owings.{owes, owes-role, owes-hex, owing-less}
-use Rattle.acceptance.proofs.Since.{Since, since-destroyed, since-freed, since-placed}
+use Rattle.acceptance.proofs.Since.{Since, placed-desk, since-destroyed, since-freed, since-placed}
 use Rattle.ruling.specs.Secret.{Each}
 use Rattle.field.specs.Listed.{named}
 use Rattle.field.specs.Scene.{scene}
@@ -29,7 +30,7 @@ use Rattle.field.specs.Zone.{standsOn, vacant}
 use Rattle.field.proofs.Lists.{named-nil}
 use Rattle.field.proofs.Named.{named-past}
 use Rattle.field.proofs.Zones.{stands-here}
-use Rattle.retreat.specs.Retreat.{goesOff, leaves, supplyKind}
+use Rattle.retreat.specs.Retreat.{goesOff, leaves}
 use Rattle.retreat.proofs.KeepRoute.{standable-where}
 
 -- nobody stands on a vacant hex
@@ -71,12 +72,8 @@ pub record Leaving (b : Board) (h : ℕ) (d : Desk) (us : List ℕ) (c : Board) 
 abbrev pub Owes : Board → ℕ → ℕ → Type 0
 Owes b h u = (u < b .units .count) × (owesAt b h u ≡ true)
 
--- placing a unit leaves the desk and the others
+-- placing a unit leaves the others, and no role and no loss touches the desk
 module _ (c : Board) (u x : ℕ) where
-  placed-desk : change c (placed u x) .desk ≡ c .desk
-  unfolding change
-  placed-desk = either (ltb x (c .map .hexes)) (λ e. simp e) (λ e. simp e)
-
   placed-else : (w : ℕ) → (w ≡ u → ⊥) → Same (c .units) (change c (placed u x) .units) w
   unfolding change
   placed-else w n =
@@ -185,7 +182,25 @@ module _ {b : Board} (l : Lawful b) (most : b .map .hexes ≤ nowhere) (h : ℕ)
     all-off (u ∷ us) {c} m o =
         rw (changes-then (leaves b x u) (goesOff b x us) c) (all-off us (m .1) (leaving-leaves u (m .0) o))
 
--- a hex less owes when all are gone
+-- when all are gone fewer units owe, and a hex less
+pub left-holders : {b c : Board} {h : ℕ} {d : Desk} → Leaving b h d [] c → (u : ℕ) → Owes b h u → holders c 1 < holders b 1
+left-holders {b} {c} {h} o u m =
+    let t = equals (b .units .role) 1 in
+    let s = equals (c .units .role) 1 in
+    let n = b .units .count in
+    let k = tally-but-hit t u n (m .0) (equals-yes (b .units .role) 1 u (owes-role b u h (m .1))) in
+    let i =
+    tally-le s (but t u) n
+    (λ w l e.
+    let r = equals-is (c .units .role) 1 w e in
+    either (owesAt b h w)
+    (λ q. absurd (omega (arith, o .gone w l q (named-nil w))))
+    (λ q.
+    but-other t u w (λ z. not-both (owesAt b h u) (m .1) (ap (owesAt b h) (sym z) ∙ q))
+    ∙ equals-yes (b .units .role) 1 w (sym (o .kept w q .role) ∙ r)))
+    in
+    omega (arith, holders-is b 1, holders-is c 1, ap (tally s) (o .since .fixed .count))
+
 pub left-owing :
     {b c : Board} {h : ℕ} {d : Desk} → Leaving b h d [] c → (u : ℕ) → Owes b h u → owingHexes c + 1 ≤ owingHexes b
 left-owing {b} {c} {h} o u m =

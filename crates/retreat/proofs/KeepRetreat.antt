@@ -7,7 +7,7 @@ use mathlib.Core.List.{List, []}
 use native.Mathlib.Omega.{arith}
 use lib.Dec.{eqb, leb, ltb}
 use lib.ListN.{getD, length}
-use borrow.Author.Tests.{eqb-true, ne-eqb, not-false}
+use borrow.Author.Tests.{eqb-true, not-false}
 use Rattle.position.specs.Board.{Board, Desk, board, nowhere}
 use Rattle.position.specs.Crowd.{filled, holders, owesAt, owingHexes, routes}
 use Rattle.position.specs.Ground.{standable}
@@ -15,7 +15,7 @@ use Rattle.position.specs.Tally.{any, tally}
 use Rattle.position.specs.Change.Change.{routed}
 use Rattle.position.specs.Effect.{change, changes}
 use Rattle.position.proofs.Shapes.{hexes-most}
-use Rattle.position.proofs.Tallies.{any-some, either, not-both, same-or, tally-some}
+use Rattle.position.proofs.Tallies.{any-some, either, not-both, tally-some}
 use Rattle.acceptance.specs.Accepted.{Accepted, Lawful, StageOk}
 use Rattle.acceptance.specs.Broken.{broken}
 use Rattle.acceptance.proofs.Carries.{changes-then}
@@ -45,7 +45,7 @@ use Rattle.retreat.specs.Retreat.{
   retreatVerdict,
 }
 use Rattle.retreat.proofs.KeepRoute.{refuge-stands, refuge-vacant, routes-room, run-follows, run-refuge, since-written, standable-where}
-use Rattle.retreat.proofs.KeepGroup.{Leaving, Owes, all-doomed, all-off, left-owing, start-stands}
+use Rattle.retreat.proofs.KeepGroup.{Leaving, Owes, all-doomed, all-off, left-holders, left-owing, start-stands}
 
 -- the units of the group owe, and all that owe there are in it
 module _ (b : Board) (h : ℕ) where
@@ -88,6 +88,12 @@ holds-some b n =
     let s = tally-some (λ u. eqb (b .units .role u) 1) (b .units .count) (omega arith) in
     owing-some b (s .at) (s .below) (eqb-true (b .units .role (s .at)) 1 (s .passes))
 
+-- board c since board b, the retreats not over and fewer units owing
+pub record Lighter (b c : Board) : Type 0 where
+  pub since : Since b c
+  pub stage : c .desk .stage ≡ 1
+  pub fewer : holders c 1 < holders b 1
+
 module _ {b : Board} (l : Lawful b) (most : b .map .hexes ≤ nowhere) (e : b .desk .stage ≡ 1) (h u : ℕ) (m : Owes b h u) where
   stands : standable b h ≡ true
   stands = start-stands l h u (m .0) (m .1)
@@ -107,6 +113,9 @@ module _ {b : Board} (l : Lawful b) (most : b .map .hexes ≤ nowhere) (e : b .d
           ap (λ (d : Desk). d .owed) (o .desk) ∙ k .1,
           ap (λ (d : Desk). d .need) (o .desk) ∙ k .2 ∙ l .stage .need (λ q. omega arith),
         )
+
+    lighter : Lighter b c
+    lighter = record { since = o .since; stage = as-before .0; fewer = left-holders o u m }
 
     goes-on : (holders c 1 ≡ 0 → ⊥) → StageOk c
     goes-on n =
@@ -167,6 +176,17 @@ module _ {b : Board} (l : Lawful b) (most : b .map .hexes ≤ nowhere) (e : b .d
       let t = legal b (groupForce b h) h (b .desk .owed) route in
       let q : not t ≡ false = simp d at n in
       legal-right b (groupForce b h) h (b .desk .owed) route .0 (not-false t q)
+
+  -- an accepted retreat leaves fewer that owe
+  pub retreat-lightens :
+      (route : List ℕ) → notLegal b h route ≡ false
+      → Lighter b (changes b (cond (doomed b h) (doomChanges b h) (retreatChanges b h route)))
+  retreat-lightens route n =
+      either (doomed b h)
+      (λ d. simp d (lighter nowhere nowhere nowhere doomed-left))
+      (λ d.
+      simp d
+      (lighter (getD route 0 nowhere) (getD route 1 nowhere) (getD route 2 nowhere) (off-left (groupForce b h) route (is-legal route n d))))
 
   lawful-retreat :
       (route : List ℕ) → notLegal b h route ≡ false

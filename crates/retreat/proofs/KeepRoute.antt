@@ -7,18 +7,18 @@ use mathlib.Core.List.{List, _∷_}
 use native.Mathlib.Omega.{arith}
 use native.Mathlib.Numerals.{add-one}
 use lib.ListN.{getD, length}
-use borrow.Author.Tests.{lt-ltb, eq-eqb}
 use Rattle.position.specs.Board.{Board, nowhere}
 use Rattle.position.specs.Ground.{joined, standable}
 use Rattle.position.specs.Crowd.{routes}
 use Rattle.position.specs.Change.Change.{routed}
-use Rattle.position.specs.Effect.{change, ofFour, reroute}
+use Rattle.position.specs.Effect.{change, ofFour}
 use Rattle.position.proofs.Tallies.{both-yes}
 use Rattle.acceptance.specs.Accepted.{Lawful, PlaceOk}
 use Rattle.acceptance.proofs.Carries.{fixed-change, standable-by}
 use Rattle.acceptance.proofs.Lawfuls.{standable-on}
-use Rattle.acceptance.proofs.Routings.{routes-filled}
+use Rattle.acceptance.proofs.Routings.{route-there, routes-filled}
 use Rattle.acceptance.proofs.Since.{Since, since-lawful, since-routed}
+use Rattle.field.specs.Listed.{Charted}
 use Rattle.field.specs.Scene.{scene}
 use Rattle.field.specs.Zone.{enemyZone, vacant}
 use Rattle.routes.specs.Bears.{bears, refuge}
@@ -49,7 +49,13 @@ module _ (b : Board) (f h : ℕ) (e : refuge b f h ≡ true) where
   unfolding bears
   refuge-stands = both-yes (standable b h) (not (enemyZone (scene b) f h)) refuge-bears .0
 
--- the hexes of a run are refuges, and each may follow the one before
+-- the hexes of a run are on the map
+pub run-charted : {b : Board} {f start i a last : ℕ} {route : List ℕ} → Run b f start i a route last → Charted b route
+run-charted stay j l = absurd (omega arith)
+run-charted {b} {f} (go {x = x} d s k) zero l = standable-on b x (refuge-stands b f x (s .into))
+run-charted (go d s k) (suc j) l = run-charted k j (omega arith)
+
+-- they are refuges, and each may follow the one before
 module _ {b : Board} {f start : ℕ} (most : b .map .hexes ≤ nowhere) where
   pub run-refuge :
       {i a last : ℕ} {route : List ℕ} → Run b f start i a route last → (j : ℕ) → j < length route
@@ -78,8 +84,7 @@ module _
   written = change b (routed r w x y z)
 
   here : (j : ℕ) → written .desk .route r j ≡ ofFour j w x y z
-  unfolding change reroute
-  here j = simp (lt-ltb r 6 l, eq-eqb r r refl)
+  here = route-there b r w x y z l
 
   next : (j : ℕ) → written .desk .route r (j + 1) ≡ ofFour (suc j) w x y z
   next j = here (j + 1) ∙ ap (λ (k : ℕ). ofFour k w x y z) (add-one j)

@@ -40,8 +40,8 @@ unfolding onMapAll
 all-on p path k l v a q m w = gone-end (reached p path k (length path) (omega arith) .gone) (omega arith) l (λ s. v) a q m w
 
 -- the group is asked for, and it is there
-judged : {p : List ℕ} {h : ℕ} {route : List ℕ} → Due p h route → Passes p (groupChecks (board p) h route)
-judged {p} {h} {route} d =
+pub passes-due : {p : List ℕ} {h : ℕ} {route : List ℕ} → Due p h route → Passes p (groupChecks (board p) h route)
+passes-due {p} {h} {route} d =
     passes-group p (board p) h route (d .short) (d .there) (all-on p route (d .charted)) (d .stage)
     (any-true (owesAt (board p) h) (board p .units .count) (d .unit) (d .counted) (d .owes))
     .0
@@ -107,13 +107,13 @@ module _ {p : List ℕ} {h : ℕ} {route : List ℕ} (d : Due p h route) where
   fits = legal (board p) (groupForce (board p) h) h (board p .desk .owed) route
 
   says-destroyed : doomed (board p) h ≡ true → answerTo p h route ≡ accepted (2 ∷ [])
-  says-destroyed e = sym (ends-doomed h route (d .whole) (judged d) e refl .answers)
+  says-destroyed e = sym (ends-doomed h route (d .whole) (passes-due d) e refl .answers)
 
   says-refused : doomed (board p) h ≡ false → fits ≡ false → answerTo p h route ≡ refused 14 0
-  says-refused e g = sym (stops-illegal h route (d .whole) (judged d) e g .answers)
+  says-refused e g = sym (stops-illegal h route (d .whole) (passes-due d) e g .answers)
 
   says-retreated : doomed (board p) h ≡ false → fits ≡ true → answerTo p h route ≡ accepted (1 ∷ endOf (board p) route ∷ [])
-  says-retreated e g = sym (ends-going h route (d .whole) (judged d) e g refl refl .answers)
+  says-retreated e g = sym (ends-going h route (d .whole) (passes-due d) e g refl refl .answers)
 
 pub destroyed-right : DestroyedRight
 destroyed-right p h route d = (

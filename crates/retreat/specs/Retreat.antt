@@ -7,6 +7,7 @@ use mathlib.Core.List.{List, [], _∷_, _++_, map}
 use lib.ListN.{length, getD}
 use lib.Dec.{leb, ltb, eqb}
 use Rattle.position.specs.Tally.{any}
+use Rattle.position.specs.Kind.{supplyKind}
 use Rattle.position.specs.Board.{Board, board, nowhere, forceOf}
 use Rattle.position.specs.Crowd.{owesAt, routes}
 use Rattle.position.specs.Change.{Change}
@@ -27,9 +28,6 @@ group b h = sieve (owesAt b h) (b .units .count)
 -- the force that owes there
 unfoldable pub groupForce : Board → ℕ → ℕ
 groupForce b h = forceOf b (getD (group b h) 0 0)
-
-abbrev pub supplyKind : ℕ
-supplyKind = 5
 
 -- a unit owes in hex h that is no supply unit
 unfoldable pub walksFrom : Board → ℕ → ℕ → Bool

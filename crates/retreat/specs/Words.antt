@@ -6,6 +6,7 @@ use mathlib.Core.Bool.{true}
 use mathlib.Core.List.{List, [], _∷_}
 use mathlib.Core.Logic.{_↔_, _⊎_}
 use lib.ListN.{length}
+use Rattle.position.specs.Kind.{supplyKind}
 use Rattle.position.specs.Board.{Board, board, forceOf}
 use Rattle.position.specs.Crowd.{owesAt}
 use Rattle.acceptance.specs.Accepted.{Accepted}
@@ -13,7 +14,7 @@ use Rattle.ruling.specs.Verdict.{Ruling, outcome}
 use Rattle.ruling.specs.Verdict.Ruling.{refused, accepted}
 use Rattle.field.specs.Listed.{Charted}
 use Rattle.routes.specs.Run.{LegalRoute, RouteExists}
-use Rattle.retreat.specs.Retreat.{groupForce, supplyKind, endOf, retreatVerdict}
+use Rattle.retreat.specs.Retreat.{groupForce, endOf, retreatVerdict}
 
 -- a retreat that passes every question but that of its route: an accepted position in stage 1, a hex of the map where a unit owes, and a
 -- route of 0..3 hexes of the map

@@ -1,21 +1,30 @@
 -- The demands on all calls hold.
 -- Assumes nothing.
-use Prim.Native.Nat.{ℕ}
-use mathlib.Core.Path.{_≡_, refl}
-use mathlib.Core.Bool.{Bool, not}
+use Prim.Native.Nat.{ℕ, _≤_}
+use mathlib.Core.Path.{_≡_, refl, sym, ap}
+use mathlib.Core.Bool.{Bool, true, false, not, cond}
 use mathlib.Core.List.{List, []}
+use mathlib.Core.Logic.{_↔_, inl, inr}
+use native.Mathlib.Omega.{arith}
 use lib.ListN.{length}
 use lib.Dec.{ltb, eqb}
+use borrow.Author.Tests.{eq-eqb, le-ltb}
 use Rattle.position.specs.Board.{board}
-use Rattle.acceptance.specs.Broken.{broken}
+use Rattle.position.specs.Change.{makes}
+use Rattle.acceptance.specs.Broken.{broken, broken-false}
 use Rattle.acceptance.specs.Accepted.{Accepted}
 use Rattle.position.specs.Effect.{changes}
-use Rattle.ruling.specs.Verdict.{outcome}
+use Rattle.ruling.specs.Verdict.{outcome, Met}
+use Rattle.ruling.specs.Verdict.Ruling.{accepted}
 use Rattle.ruling.specs.Secret.{Sent}
-use Rattle.ruling.proofs.Meets.{only, untouched}
+use Rattle.ruling.proofs.Meets.{pass, ruled, only, untouched}
 use Rattle.ruling.proofs.Kept.{Kept, kept-past, kept-ruled}
 use Rattle.ruling.proofs.Secrets.{secret-runs}
-use Rattle.supply.specs.Supply.{supplyRule, supplyVerdict}
+use Rattle.field.specs.Scene.{scene}
+use Rattle.walk.specs.Chain.{OneIf}
+use Rattle.walk.proofs.Marks.{tab-at}
+use Rattle.supply.specs.Supply.{supplied, supplyMap, supplyRule, supplyVerdict}
+use Rattle.supply.proofs.Supplies.{supplied-right}
 use Rattle.march.specs.Move.{moveVerdict}
 use Rattle.march.specs.EndPhase.{endVerdict}
 use Rattle.march.proofs.KeepMove.{move-keeps}
@@ -30,7 +39,30 @@ use Rattle.retreat.specs.Retreat.{retreatVerdict}
 use Rattle.retreat.proofs.KeepRetreat.{retreat-keeps}
 use Rattle.rules.specs.Order.{Order, ruleOf, verdict, step}
 use Rattle.rules.specs.Order.Order.{supply, move, endPhase, attack, retreat, losses, advance, close}
-use Rattle.rules.specs.Demands.{StaysAccepted, Secrecy, OneResult, RefusalsLeaveAll}
+use Rattle.rules.specs.Demands.{Total, SupplyRight, StaysAccepted, Secrecy, OneResult, RefusalsLeaveAll}
+
+pub total : Total
+total p c = (step p c, record { answers = refl; leaves = refl; lends = refl })
+
+-- what an accepted supply call hands back
+supply-lends :
+    (p l : List ℕ) (n : ℕ) → Accepted p → length l ≡ board p .map .hexes → n ≤ 4
+    → Met p l (verdict p (supply n) l) (accepted []) p (supplyMap (scene (board p)) n)
+unfolding ruleOf supplyRule makes
+supply-lends p l n a e le =
+    pass (broken-false a)
+    (pass (ap not (eq-eqb (length l) (board p .map .hexes) e)) (pass (le-ltb 4 n le) (ruled refl)))
+
+-- a byte of the supply map, by the test
+one-if : {A : Type 0} (t : Bool) → (t ≡ true) ↔ A → OneIf A (cond t 1 0)
+one-if true i = inl (refl, i .0 refl)
+one-if false i = inr (refl, λ x. let z : _≡_ {A = ℕ} 0 1 = let y = i .1 x in cc in absurd (omega arith))
+
+pub supply-right : SupplyRight
+unfolding supplyMap
+supply-right p l n h a e le there =
+    rw (sym (supply-lends p l n a e le .lends), tab-at (board p .map .hexes) (λ k. cond (supplied (scene (board p)) n k) 1 0) h there)
+    (one-if (supplied (scene (board p)) n h) (supplied-right (scene (board p)) n h))
 
 -- the supply call leaves the position as it was
 supply-keeps : (p l : List ℕ) (n : ℕ) → Accepted p → Kept p l (supplyVerdict p n (length l))

@@ -1,1 +1,12 @@
 pub mod Demands
+pub mod Rulings
+pub mod Referees
+pub mod Useless
+pub mod OnwardCall
+pub mod OnwardStage
+pub mod OnwardEnd
+pub mod OnwardRetreat
+pub mod OnwardLosses
+pub mod OnwardClose
+pub mod Onward
+pub mod Certain

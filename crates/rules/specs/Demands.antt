@@ -1,13 +1,33 @@
 -- What is certain of all calls together, each as one statement. Proved in proofs/Demands.antt.
 -- Assumes nothing.
-use Prim.Native.Nat.{ℕ}
+use Prim.Native.Nat.{ℕ, _≤_, _<_}
 use mathlib.Core.Path.{_≡_}
 use mathlib.Core.List.{List}
+use lib.ListN.{length}
+use Rattle.position.specs.Board.{board}
 use Rattle.acceptance.specs.Accepted.{Accepted}
-use Rattle.ruling.specs.Verdict.{Ruling, Met}
+use Rattle.ruling.specs.Verdict.{Ruling, Outcome, Met}
 use Rattle.ruling.specs.Verdict.Ruling.{refused}
 use Rattle.ruling.specs.Secret.{Sent, Keeping, SecretRuns}
+use Rattle.field.specs.Scene.{scene}
+use Rattle.walk.specs.Chain.{mark, OneIf}
+use Rattle.supply.specs.Supply.{Supplied}
 use Rattle.rules.specs.Order.{Order, ruleOf, verdict, step}
+use Rattle.rules.specs.Order.Order.{supply}
+
+-- demand 1: "Every call takes every position, order, list and roll, bad ones included, ends, and answers with a ruling or a refusal by
+-- number.": for all bytes, orders and buffers there is an outcome that meets the call's promise
+abbrev pub Total : Type 0
+Total =
+    (p : List ℕ) (c : Sent Order)
+    → (o : Outcome) × Met p (c .lent) (verdict p (c .order) (c .lent)) (o .answer) (o .position) (o .lent)
+
+-- "A unit is in supply exactly if an unblocked line of hexes to a source exists.": what an accepted supply call writes for a hex is 1 if
+-- the chain exists, and 0 if it does not
+abbrev pub SupplyRight : Type 0
+SupplyRight =
+    (p l : List ℕ) (n h : ℕ) → Accepted p → length l ≡ board p .map .hexes → n ≤ 4 → h < board p .map .hexes
+    → OneIf (Supplied (scene (board p)) n h) (mark (step p (record { order = supply n; lent = l }) .lent) h)
 
 -- an accepted position stays accepted after every call
 abbrev pub StaysAccepted : Type 0

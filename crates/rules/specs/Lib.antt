@@ -1,2 +1,9 @@
 pub mod Order
 pub mod Demands
+pub mod Rulings
+pub mod Referee
+pub mod Trials
+pub mod Useless
+pub mod Onward
+pub mod Examples
+pub mod Certain

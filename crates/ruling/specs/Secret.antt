@@ -32,7 +32,11 @@ pub record Sent (Order : Type 0) : Type 0 where
   pub order : Order
   pub lent : List ℕ
 
--- A referee is a rule for each order on a board, given how many bytes are lent: what they hold is not looked at.
+-- a referee, good or bad: what it answers to a call on a position, and what it leaves of the position and of the bytes lent
+abbrev pub Referee : Type 0 → Type 0
+Referee Order = List ℕ → Sent Order → Outcome
+
+-- The rules: a verdict for each order on a board, given how many bytes are lent. What they hold is not looked at.
 abbrev pub Rules : Type 0 → Type 0
 Rules Order = Board → Order → ℕ → Verdict
 
@@ -40,7 +44,8 @@ Rules Order = Board → Order → ℕ → Verdict
 abbrev pub verdictOn : {Order : Type 0} → Rules Order → List ℕ → Sent Order → Verdict
 verdictOn rules p c = refuseIf (broken p) 1 0 (rules (board p) (c .order) (length (c .lent)))
 
-abbrev pub afterCall : {Order : Type 0} → Rules Order → List ℕ → Sent Order → Outcome
+-- the referee that rules by them
+abbrev pub afterCall : {Order : Type 0} → Rules Order → Referee Order
 afterCall rules p c = outcome p (c .lent) (verdictOn rules p c)
 
 -- an accepted position stays accepted
@@ -53,16 +58,17 @@ ShownAlike rules p q [] = Unit {0}
 ShownAlike rules p q (c ∷ cs) =
     OneStrength p q (verdictOn rules p c) × ShownAlike rules (afterCall rules p c .position) (afterCall rules q c .position) cs
 
--- after each call answers and buffers are equal, and the positions look alike
-abbrev pub RunsAlike : {Order : Type 0} → Rules Order → List ℕ → List ℕ → List (Sent Order) → Type 0
-RunsAlike rules p q [] = Unit {0}
-RunsAlike rules p q (c ∷ cs) =
-    (afterCall rules p c .answer ≡ afterCall rules q c .answer)
-    × (afterCall rules p c .lent ≡ afterCall rules q c .lent)
-    × Alike (afterCall rules p c .position) (afterCall rules q c .position)
-    × RunsAlike rules (afterCall rules p c .position) (afterCall rules q c .position) cs
+-- after each call of two runs of a referee answers and buffers are equal, and the positions look alike
+abbrev pub RunsAlike : {Order : Type 0} → Referee Order → List ℕ → List ℕ → List (Sent Order) → Type 0
+RunsAlike r p q [] = Unit {0}
+RunsAlike r p q (c ∷ cs) =
+    (r p c .answer ≡ r q c .answer)
+    × (r p c .lent ≡ r q c .lent)
+    × Alike (r p c .position) (r q c .position)
+    × RunsAlike r (r p c .position) (r q c .position) cs
 
 -- "Two accepted positions that differ only in face-down strengths, the same calls: same rulings, same bytes but for the strengths
 -- still face down, as long as what was turned over was equal."
 abbrev pub SecretRuns : {Order : Type 0} → Rules Order → Type 0
-SecretRuns {Order} rules = (p q : List ℕ) (cs : List (Sent Order)) → Alike p q → ShownAlike rules p q cs → RunsAlike rules p q cs
+SecretRuns {Order} rules =
+    (p q : List ℕ) (cs : List (Sent Order)) → Alike p q → ShownAlike rules p q cs → RunsAlike (afterCall rules) p q cs

@@ -1,0 +1,36 @@
+-- Everything that is certain of this referee holds.
+-- Assumes nothing.
+use mathlib.Core.Path.{refl}
+use Rattle.retreat.proofs.Words.{group-right, destroyed-right, retreated-right, refused-right}
+use Rattle.rules.specs.Order.{step}
+use Rattle.rules.specs.Referee.{Meets}
+use Rattle.rules.specs.Certain.{DemandOne, DemandTwo, Certain}
+use Rattle.rules.proofs.Demands.{total, one-result, refusals-leave-all, supply-right, stays-accepted, secrecy}
+use Rattle.rules.proofs.Referees.{agree}
+use Rattle.rules.proofs.Rulings.{small-rulings}
+use Rattle.rules.proofs.Useless.{four-useless}
+use Rattle.rules.proofs.Onward.{never-stuck}
+
+rules-meet : Meets step
+rules-meet p c = record { answers = refl; leaves = refl; lends = refl }
+
+demand-one : DemandOne
+demand-one = record { total = total; one = one-result; leaves = refusals-leave-all }
+
+demand-two : DemandTwo
+demand-two =
+    record {
+      right = rules-meet;
+      agree = agree;
+      supply = supply-right;
+      group = group-right;
+      destroyed = destroyed-right;
+      retreated = retreated-right;
+      refused = refused-right;
+      keeps = stays-accepted;
+      small = small-rulings;
+      useless = four-useless;
+    }
+
+pub certain : Certain
+certain = record { one = demand-one; two = demand-two; three = secrecy; onward = never-stuck }

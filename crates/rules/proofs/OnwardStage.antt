@@ -1,0 +1,79 @@
+-- What is left by the stage, and that less is left when a stage passes on.
+-- Assumes nothing.
+use Prim.Native.Nat.{_+_, _≤_, _<_}
+use mathlib.Core.Path.{_≡_, refl}
+use mathlib.Core.List.{List}
+use native.Mathlib.Omega.{arith}
+use Rattle.position.specs.Board.{Board}
+use Rattle.position.specs.Crowd.{holders}
+use Rattle.position.specs.Change.{Change}
+use Rattle.position.specs.Change.Change.{staged, unrouted}
+use Rattle.position.specs.Effect.{change, changes}
+use Rattle.acceptance.proofs.Carries.{changes-then}
+use Rattle.acceptance.proofs.Since.{Since}
+use Rattle.aftermath.specs.Stage.{passesOn, thenOn}
+use Rattle.aftermath.proofs.KeepStage.{passed-by}
+use Rattle.rules.specs.Onward.{battleLeft, left, phasesLeft}
+
+module _ (b : Board) where
+  pub left-quiet : b .desk .stage ≡ 0 → battleLeft b ≡ 0
+  unfolding battleLeft
+  left-quiet e = rw e refl
+
+  pub left-retreats : b .desk .stage ≡ 1 → battleLeft b ≡ 2 + holders b 1
+  unfolding battleLeft
+  left-retreats e = rw e refl
+
+  pub left-losses : b .desk .stage ≡ 2 → battleLeft b ≡ 2
+  unfolding battleLeft
+  left-losses e = rw e refl
+
+  pub left-advances : b .desk .stage ≡ 3 → battleLeft b ≡ 1
+  unfolding battleLeft
+  left-advances e = rw e refl
+
+-- setting the stage leaves the clock
+module _ (c : Board) where
+  phases-advances : phasesLeft (change c (staged 3 0 0)) ≡ phasesLeft c
+  unfolding phasesLeft change
+  phases-advances = refl
+
+  phases-quiet : phasesLeft (change (change c (staged 0 0 0)) unrouted) ≡ phasesLeft c
+  unfolding phasesLeft change
+  phases-quiet = refl
+
+  battle-advances : battleLeft (change c (staged 3 0 0)) ≡ 1
+  unfolding battleLeft change
+  battle-advances = refl
+
+  battle-quiet : battleLeft (change (change c (staged 0 0 0)) unrouted) ≡ 0
+  unfolding battleLeft change
+  battle-quiet = refl
+
+-- board c since board b of a battle: what is left falls with the stage, or where somebody owes still, by itself
+module _
+    {b c : Board}
+    (s : Since b c)
+    (some : 1 ≤ battleLeft b)
+    (more : (holders c 2 ≡ 0 → ⊥) → 2 ≤ battleLeft b)
+    (later : (holders c 1 ≡ 0 → ⊥) → battleLeft c < battleLeft b) where
+  phases-since : phasesLeft c ≡ phasesLeft b
+  unfolding phasesLeft
+  phases-since = rw (s .clock .turn, s .clock .force, s .clock .phase, s .fixed .lastTurn) refl
+
+  falls-passed : left (changes c (passesOn c)) < left b
+  unfolding left
+  falls-passed =
+      passed-by (λ d. phasesLeft d + battleLeft d < phasesLeft b + battleLeft b) c
+      (λ _ _. omega (arith, phases-since, phases-quiet c, battle-quiet c))
+      (λ _ n. omega (arith, more n, phases-since, phases-advances c, battle-advances c))
+      (λ n. omega (arith, later n, phases-since))
+
+-- a call's own changes, and then the stage that follows
+pub falls-then-on :
+    {b : Board} (xs : List Change) → Since b (changes b xs) → 1 ≤ battleLeft b
+    → ((holders (changes b xs) 2 ≡ 0 → ⊥) → 2 ≤ battleLeft b)
+    → ((holders (changes b xs) 1 ≡ 0 → ⊥) → battleLeft (changes b xs) < battleLeft b) → left (changes b (thenOn b xs)) < left b
+unfolding thenOn
+falls-then-on {b} xs s some more later =
+    rw (changes-then xs (passesOn (changes b xs)) b) (falls-passed s some more later)

@@ -1,0 +1,40 @@
+-- Everything that is certain of this referee, as one statement. Each of the eight calls (src/lib.rt) promises `Met` of the verdict on its
+-- order; these are the facts about all that so promise. Proved in proofs/Certain.antt.
+-- Assumes nothing.
+use Rattle.retreat.specs.Words.{GroupRight, DestroyedRight, RetreatedRight, RefusedRight}
+use Rattle.rules.specs.Order.{step}
+use Rattle.rules.specs.Demands.{Total, OneResult, RefusalsLeaveAll, SupplyRight, StaysAccepted, Secrecy}
+use Rattle.rules.specs.Referee.{Meets, Agree}
+use Rattle.rules.specs.Useless.{FourUseless}
+use Rattle.rules.specs.Rulings.{SmallRulings}
+use Rattle.rules.specs.Onward.{NeverStuck}
+
+-- 1. Every call, on all bytes, orders and buffers, has an outcome that its promise allows, and no other. A refusal changes no byte.
+pub record DemandOne : Type 0 where
+  pub total : Total
+  pub one : OneResult
+  pub leaves : RefusalsLeaveAll
+
+-- 2. The rulings of the rules keep every promise, and a referee that keeps every promise gives no others. A unit is in supply exactly if an
+-- unblocked line of hexes to a source exists; a beaten group is eliminated exactly if no legal route of the owed length exists, or only
+-- supply units owe; else its route is accepted exactly if it is legal. Accepted positions stay accepted.
+pub record DemandTwo : Type 0 where
+  pub right : Meets step
+  pub agree : Agree
+  pub supply : SupplyRight
+  pub group : GroupRight
+  pub destroyed : DestroyedRight
+  pub retreated : RetreatedRight
+  pub refused : RefusedRight
+  pub keeps : StaysAccepted
+  pub small : SmallRulings
+  pub useless : FourUseless
+
+-- 3. Two accepted positions that differ only in face-down strengths are ruled on alike, as long as what is turned over is equal: of the
+-- rulings of 2, "never alone".
+pub record Certain : Type 0 where
+  pub one : DemandOne
+  pub two : DemandTwo
+  pub three : Secrecy
+  -- and no game gets stuck before its end
+  pub onward : NeverStuck

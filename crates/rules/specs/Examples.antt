@@ -1,0 +1,65 @@
+-- The order onward tried on the roster's position and on one of each stage.
+-- Assumes nothing.
+use Prim.Native.Nat.{ℕ}
+use mathlib.Core.Path.{_≡_, refl}
+use mathlib.Core.Bool.{true, false}
+use mathlib.Core.List.{List, [], _∷_, map}
+use lib.ListN.{replicate, set}
+use Rattle.position.specs.Board.{board}
+use Rattle.acceptance.specs.Broken.{broken}
+use Rattle.acceptance.specs.Examples.{computing, roster, rosterLess}
+use Rattle.field.specs.Listed.{sieve}
+use Rattle.routes.specs.Examples.{searching}
+use Rattle.clock.specs.Clock.{isLast}
+use Rattle.aftermath.specs.Losses.{owes}
+use Rattle.retreat.specs.Retreat.{group, groupForce}
+use Rattle.rules.specs.Order.Order.{close, endPhase, losses, retreat}
+use Rattle.rules.specs.Onward.{
+  allOwing,
+  battleLeft,
+  firstOwing,
+  left,
+  onward,
+  over,
+  phasesLeft,
+  retreatOnward,
+  routeFor,
+  sentRoute,
+}
+
+-- phase 1 with a stage, an owed retreat and a need, unit 0 tried and with a role
+abbrev during : List ℕ → ℕ → ℕ → ℕ → ℕ → List ℕ
+during p stage owed need role = set (set (set (set (set (set p 103 1) 104 stage) 105 owed) 106 need) 90 1) 91 role
+
+abbrev retreating : List ℕ
+retreating = during rosterLess 1 1 0 1
+
+abbrev losing : List ℕ
+losing = during roster 2 0 3 1
+
+abbrev advancing : List ℕ
+advancing = during roster 3 0 0 2
+
+-- turn 1 of 1, force 3, phase 2
+abbrev lastPhase : List ℕ
+lastPhase = set (set (set roster 101 1) 102 3) 103 2
+
+pub whole : map broken (retreating ∷ losing ∷ advancing ∷ lastPhase ∷ []) ≡ replicate 4 false
+unfolding computing
+whole = refl
+
+-- unit 0 retreats from hex 2 to hex 1, which unit 1 has left
+pub orders :
+    map (λ p. onward (board p)) (roster ∷ retreating ∷ losing ∷ advancing ∷ [])
+    ≡ endPhase ∷ retreat 2 (1 ∷ []) ∷ losses (0 ∷ []) ∷ close ∷ []
+unfolding computing searching sieve owes group groupForce allOwing firstOwing sentRoute routeFor retreatOnward onward
+orders = refl
+
+pub ends : map (λ p. over (board p)) (roster ∷ retreating ∷ lastPhase ∷ []) ≡ false ∷ false ∷ true ∷ []
+unfolding computing isLast over
+ends = refl
+
+-- sixty turns of twelve phases, all but this one; and the calls of a battle
+pub lefts : map (λ p. left (board p)) (roster ∷ retreating ∷ losing ∷ advancing ∷ lastPhase ∷ []) ≡ 719 ∷ 721 ∷ 720 ∷ 719 ∷ 0 ∷ []
+unfolding computing phasesLeft battleLeft left
+lefts = refl

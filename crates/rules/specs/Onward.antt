@@ -1,0 +1,108 @@
+-- Never stuck: in every accepted position that is not the end of the game a call is accepted, and calls so chosen come to the end.
+-- Proved in proofs/Onward.antt.
+-- Assumes nothing.
+use Prim.Native.Nat.{ℕ, _+_, _*_, _-_, _≤_, _<_}
+use mathlib.Core.Path.{_≡_}
+use mathlib.Core.Bool.{Bool, true, false, cond, _&&_}
+use mathlib.Core.List.{List, [], _∷_}
+use lib.ListN.{getD, length, replicate, take}
+use lib.Dec.{eqb}
+use Rattle.position.specs.Board.{Board, board}
+use Rattle.position.specs.Crowd.{holders}
+use Rattle.acceptance.specs.Accepted.{Accepted}
+use Rattle.ruling.specs.Verdict.{Ruling}
+use Rattle.ruling.specs.Verdict.Ruling.{refused, accepted}
+use Rattle.ruling.specs.Secret.{Sent}
+use Rattle.field.specs.Listed.{sieve}
+use Rattle.routes.specs.declared.Found.{Found}
+use Rattle.routes.specs.declared.Found.the-variants.{Route, Nothing}
+use Rattle.routes.specs.Search.{firstRoute}
+use Rattle.clock.specs.Clock.{isLast}
+use Rattle.march.specs.EndPhase.{clock}
+use Rattle.aftermath.specs.Losses.{owes}
+use Rattle.retreat.specs.Retreat.{groupForce}
+use Rattle.rules.specs.Order.{Order, step}
+use Rattle.rules.specs.Order.Order.{endPhase, retreat, losses, close}
+
+-- "16 | last phase of the last turn": the game is over, the end of its phase is refused
+unfoldable pub over : Board → Bool
+over b = eqb (b .desk .stage) 0 && isLast (clock b) (b .desk .lastTurn)
+
+-- "Role 1 owes": all that owe, in counter order
+unfoldable pub allOwing : Board → List ℕ
+allOwing b = sieve (owes b) (b .units .count)
+
+-- the hex of the first of them
+unfoldable pub firstOwing : Board → ℕ
+firstOwing b = b .units .hex (getD (allOwing b) 0 0)
+
+-- "a route of 0..3": the n hexes of a route that was found
+unfoldable pub sentRoute : ℕ → Found → List ℕ
+sentRoute n (Route x y z) = take n (x ∷ y ∷ z ∷ [])
+sentRoute n Nothing = []
+
+-- "If none exists, .. the group is destroyed whatever route was sent": the group of hex h is sent the first legal route, or none
+unfoldable pub routeFor : Board → ℕ → List ℕ
+routeFor b h = sentRoute (b .desk .owed) (firstRoute b (groupForce b h) h (b .desk .owed))
+
+-- the order that a retreat is sent: the first group goes
+unfoldable pub retreatOnward : Board → Order
+retreatOnward b = retreat (firstOwing b) (routeFor b (firstOwing b))
+
+-- "wrong stage (move, attack, end phase 0; retreat 1; losses 2; advance, close 3)": an order for each stage, and losses that name all
+unfoldable pub onward : Board → Order
+onward b =
+    cond (eqb (b .desk .stage) 0) endPhase
+    (cond (eqb (b .desk .stage) 1) (retreatOnward b) (cond (eqb (b .desk .stage) 2) (losses (allOwing b)) close))
+
+-- "end phase borrow a scratch of exactly width x height bytes"; the other orders borrow nothing
+unfoldable pub lentOnward : Board → List ℕ
+lentOnward b = cond (eqb (b .desk .stage) 0) (replicate (b .map .hexes) 0) []
+
+unfoldable pub onwardCall : List ℕ → Sent Order
+onwardCall p = record { order = onward (board p); lent = lentOnward (board p) }
+
+-- "passes 0, 1, 2, then the next force, and after force 3 the next turn": the phases from this one to the last
+unfoldable pub phasesLeft : Board → ℕ
+phasesLeft b =
+    12 * (b .desk .lastTurn - b .desk .turn) + (3 * (3 - b .desk .force) + (2 - b .desk .phase))
+
+-- "Stages: 0 quiet, 1 retreats, 2 losses, 3 advances": the calls that a battle may still take
+unfoldable pub battleLeft : Board → ℕ
+battleLeft b =
+    cond (eqb (b .desk .stage) 0) 0
+    (cond (eqb (b .desk .stage) 1) (2 + holders b 1) (cond (eqb (b .desk .stage) 2) 2 1))
+
+unfoldable pub left : Board → ℕ
+left b = phasesLeft b + battleLeft b
+
+abbrev pub IsAccepted : Ruling → Type 0
+IsAccepted (refused n k) = ⊥
+IsAccepted (accepted vs) = Unit {0}
+
+-- unless the game is over, the order is accepted
+abbrev pub OnwardAccepted : Type 0
+OnwardAccepted = (p : List ℕ) → Accepted p → over (board p) ≡ false → IsAccepted (step p (onwardCall p) .answer)
+
+-- and less is left
+abbrev pub Falls : Type 0
+Falls = (p : List ℕ) → Accepted p → over (board p) ≡ false → left (board (step p (onwardCall p) .position)) < left (board p)
+
+-- a run of calls, each accepted in the position that the one before it left
+abbrev pub AllAccepted : List ℕ → List (Sent Order) → Type 0
+AllAccepted p [] = Unit {0}
+AllAccepted p (c ∷ cs) = IsAccepted (step p c .answer) × AllAccepted (step p c .position) cs
+
+-- and the position after all
+abbrev pub afterAll : List ℕ → List (Sent Order) → List ℕ
+afterAll p [] = p
+afterAll p (c ∷ cs) = afterAll (step p c .position) cs
+
+-- every accepted position can be played to the end of the game, by no more calls than are left
+abbrev pub PlayedOut : Type 0
+PlayedOut =
+    (p : List ℕ) → Accepted p
+    → (cs : List (Sent Order)) × (length cs ≤ left (board p)) × AllAccepted p cs × (over (board (afterAll p cs)) ≡ true)
+
+abbrev pub NeverStuck : Type 0
+NeverStuck = OnwardAccepted × Falls × PlayedOut
