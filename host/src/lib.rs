@@ -23,6 +23,7 @@ pub mod referee;
 pub mod refusal;
 pub mod results;
 pub mod retreat;
+pub mod roster;
 pub mod stages;
 pub mod supply;
 pub mod table;

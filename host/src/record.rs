@@ -14,6 +14,9 @@ pub enum Line {
     Call(Order),
     Show,
     Lent,
+    Roster,
+    /// A line for people, which this referee passes over.
+    Passed,
     Unreadable,
 }
 
@@ -41,6 +44,9 @@ fn read_words(word: &[u8], operands: &[&[u8]]) -> Option<Line> {
         (b"buffer", [length]) => number(length).map(|length| Line::Buffer(usize::from(length))),
         (b"show", []) => Some(Line::Show),
         (b"lent", []) => Some(Line::Lent),
+        (b"roster", []) => Some(Line::Roster),
+        (b"echo", [] | [b"off"]) | (b"help", []) | (b"map", []) => Some(Line::Passed),
+        (b"map", [nationality]) if number(nationality)? <= 4 => Some(Line::Passed),
         _ => {
             let call = Call::named(word)?;
             let numbers: Option<Vec<u16>> = operands.iter().map(|operand| number(operand)).collect();

@@ -4,6 +4,7 @@ use crate::acceptance::accepted;
 use crate::order::{Answer, Call, Order, CALLS};
 use crate::record::{self, hex_digits, Line};
 use crate::referee;
+use crate::roster::roster;
 
 /// Every lent byte before a call.
 const FILL: u8 = 0xA5;
@@ -24,16 +25,20 @@ pub enum Reply {
     Silent,
     Answered(Call, Answer),
     Digits(String),
+    /// Lines, none too.
+    Roster(Vec<String>),
     What(usize),
 }
 
 impl Reply {
-    /// The answer line; none where the record has none.
+    /// The answer's line or lines; none where the record has none.
     pub fn text(&self) -> Option<String> {
         match self {
             Reply::Silent => None,
             Reply::Answered(_, answer) => Some(answer.text()),
             Reply::Digits(digits) => Some(digits.clone()),
+            Reply::Roster(lines) if lines.is_empty() => None,
+            Reply::Roster(lines) => Some(lines.join("\n")),
             Reply::What(line) => Some(format!("what {line}")),
         }
     }
@@ -56,7 +61,7 @@ impl Table {
     pub fn play(&mut self, line: &[u8]) -> Reply {
         self.lines += 1;
         match record::read(line) {
-            Line::Nothing => Reply::Silent,
+            Line::Nothing | Line::Passed => Reply::Silent,
             Line::Position(bytes) => {
                 self.position = bytes;
                 Reply::Silent
@@ -71,6 +76,7 @@ impl Table {
             }
             Line::Show => Reply::Digits(hex_digits(&self.position)),
             Line::Lent => Reply::Digits(hex_digits(&self.lent)),
+            Line::Roster => Reply::Roster(roster(&self.position)),
             Line::Call(_) | Line::Unreadable => Reply::What(self.lines),
         }
     }

@@ -163,3 +163,21 @@ fn call_lists_are_read_by_name() {
     assert_eq!(call_list("end,fly"), None);
     assert_eq!(call_list(""), None);
 }
+
+#[test]
+fn a_roster_has_a_line_for_each_unit_on_the_map() {
+    let row = row_line();
+    assert_eq!(play(&["roster"]), "refused 1");
+    assert_eq!(play(&[&row, "roster", "roster 1"]), "0 0 O | what 3");
+    let mut position = combat(3, 1, US);
+    stand(&mut position, US, INFANTRY, 0, 1);
+    stand(&mut position, ESC, INFANTRY, 2, 1);
+    let line = format!("position {}", hex_digits(&written(&position)));
+    assert_eq!(play(&[&line, "roster"]), "0 0 O\n1 2 O");
+}
+
+#[test]
+fn lines_for_people_are_passed_over() {
+    assert_eq!(play(&["echo", "echo off", "help", "map", "map 4"]), "");
+    assert_eq!(play(&["echo on", "help 1", "map 5", "map 1 2"]), "what 1 | what 2 | what 3 | what 4");
+}

@@ -4,7 +4,7 @@ ghost use Prim.Native.Nat.{_<_};
 ghost use lib.ListN.{length};
 ghost use Rattle.position.specs.Laid.{Laid};
 use libc::STDIN_FILENO;
-use libc::STDOUT_FILENO;
+use page::Output;
 use position::Checked;
 use position::View;
 use position::read;
@@ -13,14 +13,6 @@ use position::read;
 const MAP: usize = 4096;
 
 const MAPS: usize = 20480;
-
-fn text(bytes: &[u8]) {
-    io::write_all(STDOUT_FILENO, bytes);
-}
-
-fn number(n: usize) {
-    io::print_decimal(STDOUT_FILENO, n as u64);
-}
 
 // The supply of every nationality, one map after the other.
 fn judge(p: &[u8], v: View, maps: &mut [u8])
@@ -36,50 +28,54 @@ fn judge(p: &[u8], v: View, maps: &mut [u8])
 }
 
 // The line of unit `u`, if it is on the map.
-fn line(p: &[u8], v: View, maps: &[u8], u: usize)
+fn line(out: &mut Output, full: usize, p: &[u8], v: View, maps: &[u8], u: usize) -> usize
     requires { ⌜ Laid (now p) v × (length (now maps) ≡ 20480) ⌝ }
 {
     let h = read::hex(p, v, u);
     if MAP <= h {
-        return;
+        return full;
     }
     let n = read::nationality(p, v, u);
     if 5 <= n {
-        return;
+        return full;
     }
-    number(u);
-    text(b" ");
-    number(h);
+    let f = page::pair(out, full, b"", u, h);
     if maps[n * MAP + h] == 1 {
-        text(b" S\n");
-        return;
+        return page::text(out, f, b" S\n");
     }
-    text(b" O\n");
+    page::text(out, f, b" O\n")
 }
 
-fn lines(p: &[u8], v: View, maps: &[u8])
+fn lines(out: &mut Output, full: usize, p: &[u8], v: View, maps: &[u8]) -> usize
     requires { ⌜ Laid (now p) v × (length (now maps) ≡ 20480) ⌝ }
 {
     let count = v.count;
+    let mut f = full;
     for u in 0..count {
-        line(p, v, maps, u);
+        f = line(out, f, p, v, maps, u);
     }
+    f
 }
 
 // The roster of `p`; a refused position prints only `refused 1`.
-pub fn roster(p: &[u8]) {
+pub fn roster(out: &mut Output, full: usize, p: &[u8]) -> usize {
     let Checked::Whole(v) = acceptance::check(p) else {
-        text(b"refused 1\n");
-        return;
+        return page::text(out, full, b"refused 1\n");
     };
     let mut maps = [0u8; MAPS];
     judge(p, v, &mut maps);
-    lines(p, v, &maps);
+    lines(out, full, p, v, &maps)
+}
+
+fn written(out: &Output, full: usize) {
+    page::flush(out, full);
 }
 
 // The roster of the position on standard input. More bytes than any position has are a refused position.
 pub fn run() {
     let mut input = [0u8; 32768];
+    let mut out = [0u8; 65536];
     let got = io::read_full(STDIN_FILENO, &mut input);
-    roster(&input[..got]);
+    let full = roster(&mut out, 0, &input[..got]);
+    written(&out, full);
 }

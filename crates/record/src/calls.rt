@@ -1,18 +1,17 @@
 // The calls. Each has a function here that takes the line's numbers, and an arm in `orders`.
+use crate::answers;
 use crate::game;
 use crate::game::Game;
-use crate::line::Line;
 use crate::number;
-use crate::print;
-use crate::rooms;
+use crate::reading::Line;
 use crate::rooms::NONE;
 use crate::rooms::Numbers;
-use crate::rooms::Output;
 use battle::Fought;
 use march::Moved;
+use page::Output;
 use position::Checked;
-use retreat::Retreated;
 use ruling::Answer;
+use wording::Call;
 
 // The right length of a buffer for the position `p`.
 fn right(p: &[u8]) -> usize {
@@ -35,14 +34,6 @@ fn length(g: Game, p: &[u8]) -> usize {
 fn fill(lent: &mut [u8]) {
     for i in 0..lent.len() {
         lent[i] = 0xa5;
-    }
-}
-
-// Accepted, or refused by a number and a place.
-fn answer(g: Game, a: Answer, out: &mut Output) -> Game {
-    match a {
-        Answer::Accepted => game::printed(g, print::text(out, g.full, b"ok\n")),
-        Answer::Refused(n, place) => game::printed(g, print::refused(out, g.full, n, place)),
     }
 }
 
@@ -70,10 +61,10 @@ pub fn supply_call(
     if words != 1 {
         return game::what(g, out);
     }
-    let size = rooms::within(g.size, pos);
-    let n = rooms::within(length(g, &pos[..size]), lent);
+    let size = page::within(g.size, pos);
+    let n = page::within(length(g, &pos[..size]), lent);
     let a = supplied(&pos[..size], number::wide(nums[0]), &mut lent[..n]);
-    answer(game::called(g, n), a, out)
+    answers::plain(game::called(g, n), Call::Supply, a, out)
 }
 
 pub fn move_call(g: Game, l: Line, pos: &mut [u8], nums: &Numbers, out: &mut Output) -> Game {
@@ -81,10 +72,10 @@ pub fn move_call(g: Game, l: Line, pos: &mut [u8], nums: &Numbers, out: &mut Out
     if words < 1 {
         return game::what(g, out);
     }
-    let size = rooms::within(g.size, pos);
+    let size = page::within(g.size, pos);
     let list: &[u16] = nums;
     let a = rules::move_unit(&mut pos[..size], number::wide(nums[0]), &list[1..words]);
-    answer(game::called(g, 0), moved(a), out)
+    answers::plain(game::called(g, 0), Call::Move, moved(a), out)
 }
 
 fn ended(p: &mut [u8], scratch: &mut [u8]) -> Answer {
@@ -97,18 +88,11 @@ pub fn end_call(g: Game, l: Line, pos: &mut [u8], lent: &mut [u8], out: &mut Out
     if words != 0 {
         return game::what(g, out);
     }
-    let size = rooms::within(g.size, pos);
-    let n = rooms::within(length(g, &pos[..size]), lent);
+    let size = page::within(g.size, pos);
+    let n = page::within(length(g, &pos[..size]), lent);
     let a = ended(&mut pos[..size], &mut lent[..n]);
-    answer(game::called(g, n), a, out)
-}
-
-// The column and the result code, or refused.
-fn fought(g: Game, a: Fought, out: &mut Output) -> Game {
-    match a {
-        Fought::Done(column, code) => game::printed(g, print::fought(out, g.full, column, code)),
-        Fought::Refused(n, place) => game::printed(g, print::refused(out, g.full, n, place)),
-    }
+    let whole = page::within(g.size, pos);
+    answers::ended(game::called(g, n), a, &pos[..whole], out)
 }
 
 fn attacked(p: &mut [u8], target: usize, units: &[u16], die: usize, scratch: &mut [u8]) -> Fought {
@@ -128,8 +112,8 @@ pub fn attack_call(
     if words < 2 {
         return game::what(g, out);
     }
-    let size = rooms::within(g.size, pos);
-    let n = rooms::within(length(g, &pos[..size]), lent);
+    let size = page::within(g.size, pos);
+    let n = page::within(length(g, &pos[..size]), lent);
     let list: &[u16] = nums;
     let target = number::wide(nums[0]);
     let die = number::wide(nums[1]);
@@ -140,16 +124,8 @@ pub fn attack_call(
         die,
         &mut lent[..n],
     );
-    fought(game::called(g, n), a, out)
-}
-
-// Where a retreat ends, that the group is destroyed, or refused.
-fn retreated(g: Game, a: Retreated, out: &mut Output) -> Game {
-    match a {
-        Retreated::To(end) => game::printed(g, print::retreated(out, g.full, end)),
-        Retreated::Destroyed => game::printed(g, print::text(out, g.full, b"destroyed\n")),
-        Retreated::Refused(n, place) => game::printed(g, print::refused(out, g.full, n, place)),
-    }
+    let whole = page::within(g.size, pos);
+    answers::fought(game::called(g, n), a, &pos[..whole], out)
 }
 
 pub fn retreat_call(g: Game, l: Line, pos: &mut [u8], nums: &Numbers, out: &mut Output) -> Game {
@@ -157,18 +133,18 @@ pub fn retreat_call(g: Game, l: Line, pos: &mut [u8], nums: &Numbers, out: &mut 
     if words < 1 {
         return game::what(g, out);
     }
-    let size = rooms::within(g.size, pos);
+    let size = page::within(g.size, pos);
     let list: &[u16] = nums;
     let a = rules::retreat(&mut pos[..size], number::wide(nums[0]), &list[1..words]);
-    retreated(game::called(g, 0), a, out)
+    answers::retreated(game::called(g, 0), a, &list[0..words], &list[0..1], out)
 }
 
 pub fn losses_call(g: Game, l: Line, pos: &mut [u8], nums: &Numbers, out: &mut Output) -> Game {
     let words = number::listed(l);
-    let size = rooms::within(g.size, pos);
+    let size = page::within(g.size, pos);
     let list: &[u16] = nums;
     let a = rules::losses(&mut pos[..size], &list[0..words]);
-    answer(game::called(g, 0), a, out)
+    answers::plain(game::called(g, 0), Call::Losses, a, out)
 }
 
 pub fn advance_call(g: Game, l: Line, pos: &mut [u8], nums: &Numbers, out: &mut Output) -> Game {
@@ -176,13 +152,13 @@ pub fn advance_call(g: Game, l: Line, pos: &mut [u8], nums: &Numbers, out: &mut 
     if words != 2 {
         return game::what(g, out);
     }
-    let size = rooms::within(g.size, pos);
+    let size = page::within(g.size, pos);
     let a = rules::advance(
         &mut pos[..size],
         number::wide(nums[0]),
         number::wide(nums[1]),
     );
-    answer(game::called(g, 0), a, out)
+    answers::plain(game::called(g, 0), Call::Advance, a, out)
 }
 
 pub fn close_call(g: Game, l: Line, pos: &mut [u8], out: &mut Output) -> Game {
@@ -190,7 +166,7 @@ pub fn close_call(g: Game, l: Line, pos: &mut [u8], out: &mut Output) -> Game {
     if words != 0 {
         return game::what(g, out);
     }
-    let size = rooms::within(g.size, pos);
+    let size = page::within(g.size, pos);
     let a = rules::close(&mut pos[..size]);
-    answer(game::called(g, 0), a, out)
+    answers::plain(game::called(g, 0), Call::Close, a, out)
 }

@@ -1,15 +1,16 @@
 // The record, piece by piece and byte by byte.
+use crate::echo;
 use crate::game;
 use crate::game::Game;
-use crate::line;
-use crate::line::Line;
 use crate::orders;
-use crate::print;
+use crate::reading;
+use crate::reading::Line;
+use crate::reading::Stage;
 use crate::rooms::Numbers;
-use crate::rooms::Output;
 use crate::rooms::Room;
 use crate::words;
 use libc::STDIN_FILENO;
+use page::Output;
 
 // The game, the line that is being read, and whether the record has ended.
 struct State {
@@ -30,12 +31,15 @@ fn byte(
 ) -> State {
     let mut after = s;
     if b == b'\n' {
-        let g = orders::finish(s.game, s.line, pos, next, lent, nums, out);
-        after.game = game::onward(g);
-        after.line = line::empty();
+        let g = echo::end(s.game, s.line, out);
+        let h = orders::finish(g, s.line, pos, next, lent, nums, out);
+        after.game = game::onward(h);
+        after.line = reading::empty();
         return after;
     }
-    after.line = words::step(s.line, b, next, nums);
+    let l = words::step(s.line, b, next, nums);
+    after.game = echo::byte(s.game, l, b, out);
+    after.line = l;
     after
 }
 
@@ -59,14 +63,31 @@ fn piece(
 // The answers so far are written.
 fn written(s: State, ended: bool, out: &Output) -> State {
     let g = s.game;
-    print::flush(out, g.full);
+    page::flush(out, g.full);
     let mut after = s;
     after.game = game::printed(g, 0);
     after.ended = ended;
     after
 }
 
-// Reads a piece and answers it. The end of the record ends the last line, whether a newline did or not.
+// The end of the record ends the last line, if a newline did not.
+fn last(
+    s: State,
+    pos: &mut Room,
+    next: &mut Room,
+    lent: &mut Room,
+    nums: &mut Numbers,
+    out: &mut Output,
+) -> State {
+    let l = s.line;
+    let stage = l.stage;
+    if let Stage::First = stage {
+        return s;
+    }
+    byte(s, b'\n', pos, next, lent, nums, out)
+}
+
+// Reads a piece and answers it.
 fn turn(
     s: State,
     pos: &mut Room,
@@ -79,8 +100,8 @@ fn turn(
     let got = libc::read(STDIN_FILENO, &mut chunk);
     let n = io::count(got, &chunk);
     if n == 0 {
-        let last = byte(s, b'\n', pos, next, lent, nums, out);
-        return written(last, true, out);
+        let after = last(s, pos, next, lent, nums, out);
+        return written(after, true, out);
     }
     let after = piece(s, &chunk[..n], pos, next, lent, nums, out);
     written(after, false, out)
@@ -95,7 +116,7 @@ pub fn feed() {
     let mut out = [0u8; 65536];
     let mut s = State {
         game: game::new(),
-        line: line::empty(),
+        line: reading::empty(),
         ended: false,
     };
     let mut turns = u64::MAX;

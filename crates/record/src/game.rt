@@ -1,16 +1,16 @@
 // What is kept from line to line, beside the position's bytes and those of the lent buffer.
-use crate::print;
 use crate::rooms::NONE;
-use crate::rooms::Output;
+use page::Output;
 
 // The line's number from 1; the lengths of the position, of the buffer that the last call borrowed, and of the one
-// that the next call is to borrow, or `NONE`; and how full the output is.
+// that the next call is to borrow, or `NONE`; how full the output is; and whether lines are echoed.
 pub struct Game {
-    pub line: u64,
+    pub line: usize,
     pub size: usize,
     pub lent: usize,
     pub wanted: usize,
     pub full: usize,
+    pub echo: bool,
 }
 
 pub fn new() -> Game {
@@ -20,6 +20,7 @@ pub fn new() -> Game {
         lent: 0,
         wanted: NONE,
         full: 0,
+        echo: false,
     }
 }
 
@@ -41,12 +42,22 @@ pub fn called(g: Game, lent: usize) -> Game {
 // The game at the next line.
 pub fn onward(g: Game) -> Game {
     let mut after = g;
-    after.line = std::num::wrapping_add_u64(g.line, 1);
+    after.line = std::num::wrapping_add_usize(g.line, 1);
+    after
+}
+
+// The game from here on with lines echoed, or without.
+pub fn echoed(g: Game, echo: bool) -> Game {
+    let mut after = g;
+    after.echo = echo;
     after
 }
 
 // The line cannot be read.
 pub fn what(g: Game, out: &mut Output) -> Game {
-    let full = print::what(out, g.full, g.line);
-    printed(g, full)
+    let f = page::word(out, g.full, b"what ", g.line);
+    if g.echo {
+        return printed(g, page::text(out, f, b"  this line cannot be read\n"));
+    }
+    printed(g, page::line(out, f))
 }

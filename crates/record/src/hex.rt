@@ -1,8 +1,8 @@
 // Hex digits, two to a byte.
 ghost use Prim.Native.Nat.{_<_};
-use crate::line;
-use crate::line::Line;
-use crate::line::Stage;
+use crate::reading;
+use crate::reading::Line;
+use crate::reading::Stage;
 use crate::rooms::Room;
 
 // What a digit stands for, or 16.
@@ -35,7 +35,7 @@ fn pair(l: Line, half: u8, d: u8, next: &mut Room) -> Line
 {
     let k = l.bytes;
     if 65535 <= k {
-        return line::bad(l);
+        return reading::bad(l);
     }
     next[k] = half * 16 + d;
     let mut after = l;
@@ -48,13 +48,13 @@ fn pair(l: Line, half: u8, d: u8, next: &mut Room) -> Line
 pub fn more(l: Line, b: u8, next: &mut Room) -> Line {
     let d = value(b);
     if 15 < d {
-        return line::tail(l, b);
+        return reading::tail(l, b);
     }
     let half = l.half;
     if half < 16 {
         return pair(l, half, d, next);
     }
-    let mut after = line::enter(l, Stage::Digits);
+    let mut after = reading::enter(l, Stage::Digits);
     after.count = 1;
     after.half = d;
     after
@@ -63,7 +63,7 @@ pub fn more(l: Line, b: u8, next: &mut Room) -> Line {
 // The first digit, or the dash of the empty position.
 pub fn begin(l: Line, b: u8, next: &mut Room) -> Line {
     if b == b'-' {
-        let mut after = line::enter(l, Stage::Tail);
+        let mut after = reading::enter(l, Stage::Tail);
         after.count = 1;
         return after;
     }

@@ -1,13 +1,14 @@
 // A game record, read from standard input a line each; each call is answered with one line.
+mod answers;
 mod calls;
+mod echo;
 mod feed;
 mod game;
 mod hex;
-mod line;
 mod lines;
 mod number;
 mod orders;
-mod print;
+mod reading;
 mod rooms;
 mod words;
 

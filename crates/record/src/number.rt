@@ -1,8 +1,8 @@
 // Decimal numbers, 0 to 65535, and the list of a line's first 40.
 ghost use Prim.Native.Nat.{_≤_};
-use crate::line;
-use crate::line::Line;
-use crate::line::Stage;
+use crate::reading;
+use crate::reading::Line;
+use crate::reading::Stage;
 use crate::rooms::Numbers;
 
 enum Grown {
@@ -28,7 +28,7 @@ fn grow(n: u16, b: u8) -> Grown {
 
 // The number goes into the list, if there is room.
 fn push(l: Line, stage: Stage, nums: &mut Numbers) -> Line {
-    let mut after = line::enter(l, stage);
+    let mut after = reading::enter(l, stage);
     after.number = 0;
     let k = l.count;
     if 40 <= k {
@@ -41,7 +41,7 @@ fn push(l: Line, stage: Stage, nums: &mut Numbers) -> Line {
 
 // A digit, or the end of the number.
 pub fn more(l: Line, b: u8, nums: &mut Numbers) -> Line {
-    if line::is_blank(b) {
+    if reading::is_blank(b) {
         return push(l, Stage::Gap, nums);
     }
     if b == b'\r' {
@@ -50,9 +50,9 @@ pub fn more(l: Line, b: u8, nums: &mut Numbers) -> Line {
     let n = l.number;
     let grown = grow(n, b);
     let Grown::To(m) = grown else {
-        return line::bad(l);
+        return reading::bad(l);
     };
-    let mut after = line::enter(l, Stage::Number);
+    let mut after = reading::enter(l, Stage::Number);
     after.number = m;
     after
 }

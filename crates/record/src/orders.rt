@@ -2,13 +2,13 @@
 use crate::calls;
 use crate::game;
 use crate::game::Game;
-use crate::line::Line;
-use crate::line::Stage;
 use crate::lines;
 use crate::number;
+use crate::reading::Line;
+use crate::reading::Stage;
 use crate::rooms::Numbers;
-use crate::rooms::Output;
 use crate::rooms::Room;
+use page::Output;
 
 // The words as numbers of base 256.
 pub const POSITION: u64 = 0x706f736974696f6e;
@@ -35,6 +35,16 @@ const ADVANCE: u64 = 0x616476616e6365;
 
 const CLOSE: u64 = 0x636c6f7365;
 
+const ROSTER: u64 = 0x726f73746572;
+
+const MAP: u64 = 0x6d6170;
+
+const HELP: u64 = 0x68656c70;
+
+pub const ECHO: u64 = 0x6563686f;
+
+const ECHO_OFF: u64 = 0x6563686f206f6666;
+
 const NOTHING: u64 = 0;
 
 // A line that could be read as words. Each call has its arm.
@@ -54,6 +64,11 @@ fn obey(
         BUFFER => lines::buffer(g, l, nums, out),
         SHOW => lines::show(g, l, pos, out),
         LENT => lines::lent(g, l, lent, out),
+        ROSTER => lines::roster(g, l, pos, out),
+        MAP => lines::map(g, l, pos, nums, out),
+        HELP => lines::help(g, l, out),
+        ECHO => lines::echo(g, l, true, out),
+        ECHO_OFF => lines::echo(g, l, false, out),
         SUPPLY => calls::supply_call(g, l, pos, lent, nums, out),
         MOVE => calls::move_call(g, l, pos, nums, out),
         END => calls::end_call(g, l, pos, lent, out),

@@ -1,65 +1,76 @@
 // The words of a line, byte by byte.
 use crate::hex;
-use crate::line;
-use crate::line::Line;
-use crate::line::Stage;
 use crate::number;
+use crate::orders::ECHO;
 use crate::orders::POSITION;
+use crate::reading;
+use crate::reading::Line;
+use crate::reading::Stage;
 use crate::rooms::Numbers;
 use crate::rooms::Room;
 
-// One letter more of the first word, which has at most eight.
+// One letter more of the first word, which has at most eight. A longer one is no word.
 fn letter(l: Line, b: u8) -> Line {
     if b < b'a' {
-        return line::bad(l);
+        return reading::bad(l);
     }
     if b'z' < b {
-        return line::bad(l);
+        return reading::bad(l);
     }
     let key = l.key;
     if 0xffffffffffffff < key {
-        return line::bad(l);
+        return reading::bad(reading::empty());
     }
-    let mut after = line::enter(l, Stage::Key);
+    let mut after = reading::enter(l, Stage::Key);
     after.key = key * 256 + b as u64;
     after
 }
 
 fn in_key(l: Line, b: u8) -> Line {
-    if line::is_blank(b) {
-        return line::enter(l, Stage::Gap);
+    if reading::is_blank(b) {
+        return reading::enter(l, Stage::Gap);
     }
     if b == b'\r' {
-        return line::enter(l, Stage::Tail);
+        return reading::enter(l, Stage::Tail);
     }
     letter(l, b)
 }
 
 fn at_start(l: Line, b: u8) -> Line {
-    if line::is_blank(b) {
-        return line::enter(l, Stage::Start);
+    if reading::is_blank(b) {
+        return reading::enter(l, Stage::Start);
     }
     in_key(l, b)
 }
 
 fn at_first(l: Line, b: u8) -> Line {
     if b == b'#' {
-        return line::enter(l, Stage::Comment);
+        return reading::enter(l, Stage::Comment);
     }
     at_start(l, b)
 }
 
+// The first word with a blank after it: `echo off` is read as one.
+fn joined(l: Line) -> Line {
+    let mut after = l;
+    after.key = 0x6563686f20;
+    after
+}
+
 // Between two words: the byte that begins the next one belongs to it.
 fn in_gap(l: Line, b: u8, next: &mut Room, nums: &mut Numbers) -> Line {
-    if line::is_blank(b) {
+    if reading::is_blank(b) {
         return l;
     }
     if b == b'\r' {
-        return line::enter(l, Stage::Tail);
+        return reading::enter(l, Stage::Tail);
     }
     let key = l.key;
     if key == POSITION {
         return hex::begin(l, b, next);
+    }
+    if key == ECHO {
+        return letter(joined(l), b);
     }
     number::more(l, b, nums)
 }
@@ -74,7 +85,7 @@ pub fn step(l: Line, b: u8, next: &mut Room, nums: &mut Numbers) -> Line {
         Stage::Gap => in_gap(l, b, next, nums),
         Stage::Number => number::more(l, b, nums),
         Stage::Digits => hex::more(l, b, next),
-        Stage::Tail => line::tail(l, b),
+        Stage::Tail => reading::tail(l, b),
         Stage::Comment => l,
         Stage::Bad => l,
     }

@@ -8,7 +8,7 @@ use std::fs;
 use std::io::{self, Write};
 use std::process::ExitCode;
 
-/// One line of the record, and its answer if it has one.
+/// One line of the record, and its answer of one or more lines if it has one.
 struct Played<'a> {
     text: &'a [u8],
     answer: Option<String>,
@@ -41,9 +41,11 @@ fn judged(record: &[u8], answers: &[u8], calls: &[Call]) -> (String, bool) {
     let mut theirs = lines(answers).into_iter();
     for (at, played) in mine.iter().enumerate() {
         let Some(answer) = &played.answer else { continue };
-        let other = theirs.next();
-        if other != Some(answer.as_bytes()) {
-            return (shown(&mine, at, answer, other), false);
+        for line in answer.lines() {
+            let other = theirs.next();
+            if other != Some(line.as_bytes()) {
+                return (shown(&mine, at, line, other), false);
+            }
         }
     }
     match theirs.next() {

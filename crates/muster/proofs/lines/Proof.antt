@@ -7,10 +7,10 @@ use Rattle.muster.proofs.lines.Statement.{statement}
 use Rattle.muster.proofs.lines.Tie as tie
 
 abbrev Inv-loop : tie.InvT-loop
-Inv-loop p v maps count u₀ u = u ≤ count
+Inv-loop out₀ full p v maps count f₀ u₀ out f u = u ≤ count
 
 abbrev μ-loop : tie.MeasureT-loop
-μ-loop p v maps count u₀ u = count - u
+μ-loop out₀ full p v maps count f₀ u₀ out f u = count - u
 
 loop-holds : tie.Need-loop-holds Inv-loop μ-loop
 loop-holds c = omega arith

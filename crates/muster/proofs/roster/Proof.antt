@@ -38,7 +38,7 @@ slice-aggregate-lines : tie.Need-slice-aggregate-lines
 slice-aggregate-lines c = search needs
 
 lines-requires : tie.Need-lines-requires
-lines-requires c κs = (laid (c .before .before .before .before), search needs)
+lines-requires c κs = (laid (c .before .before .before .before .before), search needs)
 
 returns-2 : tie.Need-returns-2
 returns-2 c = search needs

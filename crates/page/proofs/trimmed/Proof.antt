@@ -1,0 +1,57 @@
+-- `page::trimmed` is safe and ends: the count goes down from within the buffer.
+-- Assumes nothing.
+use Prim.Native.Nat.{_≤_}
+use native.Mathlib.Omega.{arith}
+use lib.ListN.{length}
+use borrow.Author.Needs.{needs}
+use Rattle.page.proofs.trimmed.Statement.{statement}
+use Rattle.page.proofs.trimmed.Tie as tie
+
+abbrev Inv-loop : tie.InvT-loop
+Inv-loop out full f₀ f = f ≤ length out
+
+abbrev μ-loop : tie.MeasureT-loop
+μ-loop out full f₀ f = f
+
+within-requires : tie.Need-within-requires Inv-loop μ-loop
+within-requires c κs = search needs
+
+loop-holds : tie.Need-loop-holds Inv-loop μ-loop
+loop-holds c = search needs
+
+sub-if1 : tie.Need-sub-if1 Inv-loop μ-loop
+sub-if1 c = search needs
+
+shared-slice-read-if1 : tie.Need-shared-slice-read-if1 Inv-loop μ-loop
+shared-slice-read-if1 c = search needs
+
+returns : tie.Need-returns Inv-loop μ-loop
+returns c = search needs
+
+sub-f : tie.Need-sub-f Inv-loop μ-loop
+sub-f c = search needs
+
+loop-less : tie.Need-loop-less Inv-loop μ-loop
+loop-less c = search needs
+
+loop-again : tie.Need-loop-again Inv-loop μ-loop
+loop-again c = search needs
+
+returns-2 : tie.Need-returns-2 Inv-loop μ-loop
+returns-2 c = search needs
+
+pub trimmed-spec : {M : Type 1} → statement M
+trimmed-spec =
+    tie.close
+    (tie.spec
+    Inv-loop
+    μ-loop
+    within-requires
+    loop-holds
+    sub-if1
+    shared-slice-read-if1
+    returns
+    sub-f
+    loop-less
+    loop-again
+    returns-2)

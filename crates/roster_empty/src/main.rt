@@ -1,4 +1,0 @@
-// No bytes at all: refused 1.
-fn main() {
-    muster::run();
-}
