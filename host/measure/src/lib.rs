@@ -1,0 +1,5 @@
+//! What a call of the proved library costs. The positions are made by the second referee's types.
+
+pub mod cases;
+pub mod library;
+pub mod scenes;
