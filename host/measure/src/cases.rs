@@ -2,7 +2,7 @@
 
 use crate::scenes;
 use host::contents::written;
-use host::order::{Call, Order};
+use host::order::Order;
 use host::position::{Position, COMBAT, MECHANISED};
 
 pub struct Case {
@@ -64,7 +64,6 @@ pub fn tiny() -> Case {
 impl Case {
     /// The buffer or scratch that the call borrows.
     pub fn lent(&self) -> Vec<u8> {
-        let borrows = matches!(self.order.call(), Call::Supply | Call::End | Call::Attack);
-        vec![0xa5; if borrows { self.hexes } else { 0 }]
+        vec![0xa5; if self.order.call().borrows() { self.hexes } else { 0 }]
     }
 }
