@@ -1,69 +1,126 @@
-//! The cases that are measured: a name, a position and an order.
+//! The cases that are measured: each call on each ground.
 
-use crate::scenes;
+use crate::scenes::{Ground, Scene, TINY};
+use crate::stagings::{self, Staged};
 use host::contents::written;
 use host::order::Order;
-use host::position::{Position, COMBAT, MECHANISED};
+use host::position::{COMBAT, LAND_MOVEMENT, MECHANISED};
 
 pub struct Case {
-    pub name: &'static str,
+    pub call: &'static str,
+    pub ground: &'static str,
+    pub hexes: usize,
+    pub units: usize,
     pub position: Vec<u8>,
     pub order: Order,
-    pub hexes: usize,
 }
 
 /// Width and height, and how many units.
 pub const SIZES: [(u8, usize); 3] = [(16, 25), (32, 100), (64, 400)];
 
-fn case(name: &'static str, position: Position, order: Order) -> Case {
-    Case { name, hexes: position.map.hexes.len(), position: written(&position), order }
+/// A call's name, and how it is staged.
+type Call = (&'static str, fn(&Scene) -> Staged);
+
+const CALLS: [Call; 10] = [
+    ("supply", stagings::supply),
+    ("move of 30 steps", stagings::march),
+    ("end of a phase into combat", |scene| stagings::end(scene, LAND_MOVEMENT)),
+    ("end of a phase, US and Canada judged", |scene| stagings::end(scene, COMBAT)),
+    ("end of a phase, next force", |scene| stagings::end(scene, MECHANISED)),
+    ("attack on 3, three nationalities", stagings::attack),
+    ("retreat, none in a whole search", stagings::retreat),
+    ("losses of 18", stagings::losses),
+    ("advance along the sixth road", stagings::advance),
+    ("close", stagings::close),
+];
+
+fn case((call, staging): &Call, scene: &Scene) -> Case {
+    let (position, order) = staging(scene);
+    Case {
+        call,
+        ground: scene.ground.name(),
+        hexes: position.map.hexes.len(),
+        units: position.units.len(),
+        position: written(&position),
+        order,
+    }
 }
 
-fn in_phase(mut position: Position, phase: u8) -> Position {
-    position.desk.phase = phase;
-    position
-}
-
-/// Thirty steps to and fro between the corner and the hex below it.
-fn paces(side: u8) -> Vec<u16> {
-    (0..30).map(|i| if i % 2 == 0 { u16::from(side) } else { 0 }).collect()
-}
-
-/// Every case on a square map of this side with this many units.
+/// Every call on an open map, a front and a maze of this side with this many units.
 pub fn cases(side: u8, count: usize) -> Vec<Case> {
-    let us = Order::Supply { nationality: 3 };
-    let beaten = scenes::beaten(side, count);
-    let start = scenes::middle(&beaten) as u16;
-    let pursuit = scenes::pursuit(side, count);
-    let last = pursuit.desk.routes[5][3];
-    let owing = 18.min(count / 2) as u16;
-    let battle = scenes::battle(side, count);
-    let target = scenes::middle(&battle) as u16;
-    vec![
-        case("supply, open map", scenes::open(side, count), us.clone()),
-        case("supply, front", scenes::front(side, count), us.clone()),
-        case("supply, maze of one lane", scenes::maze(side, count), us),
-        case("move of 30 steps", scenes::march(side, count), Order::Move { unit: 0, path: paces(side) }),
-        case("end of a phase into combat", scenes::front(side, count), Order::End),
-        case("end of a phase, US and Canada judged", in_phase(scenes::open(side, count), COMBAT), Order::End),
-        case("end of a phase, front judged", in_phase(scenes::front(side, count), COMBAT), Order::End),
-        case("end of a phase, next force", in_phase(scenes::front(side, count), MECHANISED), Order::End),
-        case("attack 18 on 3, three nationalities", battle, Order::Attack { target, die: 1, list: (0..18).collect() }),
-        case("retreat, none in a whole search", beaten, Order::Retreat { hex: start, route: Vec::new() }),
-        case("losses of 18", scenes::exchange(side, count), Order::Losses { list: (0..owing).collect() }),
-        case("advance along the sixth road", pursuit.clone(), Order::Advance { unit: 0, hex: last }),
-        case("close", pursuit, Order::Close),
-    ]
+    let scenes = [Ground::Open, Ground::Front, Ground::Maze].map(|ground| ground.scene(side, count));
+    CALLS.iter().flat_map(|call| scenes.iter().map(move |scene| case(call, scene))).collect()
 }
 
-/// Supply on the document's roster.
-pub fn tiny() -> Case {
-    case("supply, tiny map", scenes::tiny(), Order::Supply { nationality: 3 })
+/// Every call on the tiny map.
+pub fn tiny() -> Vec<Case> {
+    let (side, count) = TINY;
+    let scene = Ground::Tiny.scene(side, count);
+    CALLS.iter().map(|call| case(call, &scene)).collect()
 }
 
 impl Case {
     /// The buffer or scratch that the call borrows.
     pub fn lent(&self) -> Vec<u8> {
         vec![0xa5; if self.order.call().borrows() { self.hexes } else { 0 }]
+    }
+}
+
+#[cfg(test)]
+mod tests {
+    use super::*;
+    use host::order::Answer;
+    use host::position::NONE;
+    use host::referee::rule;
+    use host::refusal::{Refusal, NO_WAY};
+
+    fn answer(case: &Case) -> Answer {
+        rule(&mut case.position.clone(), &case.order, &mut case.lent())
+    }
+
+    fn all() -> Vec<Case> {
+        SIZES.into_iter().flat_map(|(side, count)| cases(side, count)).chain(tiny()).collect()
+    }
+
+    #[test]
+    fn every_case_is_accepted() {
+        for case in all() {
+            assert!(!matches!(answer(&case), Answer::Refused(_)), "{}, {}", case.call, case.ground);
+        }
+    }
+
+    #[test]
+    fn a_map_holds_as_many_units_as_asked_for() {
+        for (side, count) in SIZES {
+            assert!(cases(side, count).iter().all(|case| case.units == count));
+        }
+    }
+
+    #[test]
+    fn eighteen_attack_and_in_the_maze_six() {
+        for case in all() {
+            if let Order::Attack { list, .. } = &case.order {
+                assert_eq!(list.len(), if case.ground == "maze of one lane" { 6 } else { 18 });
+            }
+        }
+    }
+
+    #[test]
+    fn no_retreat_finds_a_route() {
+        let retreats = all().into_iter().filter(|case| matches!(case.order, Order::Retreat { .. }));
+        assert!(retreats.map(|case| answer(&case)).all(|answer| answer == Answer::Destroyed));
+    }
+
+    /// The sixth road stands at the end of the position: without it no road serves.
+    #[test]
+    fn the_sixth_road_alone_serves() {
+        for mut case in all() {
+            if matches!(case.order, Order::Advance { .. }) {
+                let sixth = case.position.len() - 8;
+                case.position.truncate(sixth);
+                case.position.extend([NONE; 4].map(u16::to_le_bytes).concat());
+                assert_eq!(answer(&case), Answer::Refused(Refusal { number: NO_WAY, place: 0 }));
+            }
+        }
     }
 }

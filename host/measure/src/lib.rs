@@ -3,3 +3,4 @@
 pub mod cases;
 pub mod library;
 pub mod scenes;
+pub mod stagings;

@@ -1,65 +1,83 @@
-//! Maps and units to measure on: an open map, a front, a maze of one lane, a tiny map.
+//! The grounds to measure on: an open map, a front, a maze of one lane, a tiny map.
 
-use host::grid::Grid;
-use host::position::{
-    Desk, Position, Unit, ADVANCES, BLOCKED, COMBAT, LOSSES, MAY_ADVANCE, OWES, PLAIN, RETREATS, SUPPLIED, SUPPLY,
-    TRIED,
-};
+use host::position::{Position, Unit, BLOCKED, PLAIN, SUPPLY};
 
-const US: u8 = 3;
-const CANADA: u8 = 4;
-const ESC: u8 = 1;
-const PAL: u8 = 2;
+pub const ESC: u8 = 1;
+pub const PAL: u8 = 2;
+pub const US: u8 = 3;
+pub const CANADA: u8 = 4;
 const INFANTRY: u8 = 2;
-const ARMOUR: u8 = 0;
 const UNITED_STATES: u8 = 1;
 const CANADIAN: u8 = 2;
 
-fn infantry(nationality: u8, hex: usize) -> Unit {
+/// The tiny map's side and units: its middle hex has six neighbours, and one stands against one.
+pub const TINY: (u8, usize) = (3, 2);
+
+#[derive(Clone, Copy, Debug, PartialEq, Eq)]
+pub enum Ground {
+    Open,
+    Front,
+    Maze,
+    Tiny,
+}
+
+impl Ground {
+    pub fn name(self) -> &'static str {
+        match self {
+            Ground::Open => "open map",
+            Ground::Front => "front",
+            Ground::Maze => "maze of one lane",
+            Ground::Tiny => "tiny map",
+        }
+    }
+
+    /// The ground on a square map of this side, to hold this many units.
+    pub fn scene(self, side: u8, count: usize) -> Scene {
+        Scene { ground: self, land: self.land(side), count }
+    }
+
+    /// A square map of land, a supply hex of the US at the beginning of the first row and one of Canada at its end.
+    fn land(self, side: u8) -> Position {
+        let mut position = Position::plain(side, side);
+        for (hex, country) in [(0, UNITED_STATES), (usize::from(side) - 1, CANADIAN)] {
+            position.map.hexes[hex].flags = SUPPLY;
+            position.map.hexes[hex].country = country;
+        }
+        if self == Ground::Maze {
+            wind(&mut position);
+        }
+        position.desk.force = US;
+        position
+    }
+
+    /// The ground's own units, this many, on the free hexes; the tiny map has one in each of two corners.
+    fn own(self, free: &[usize], many: usize) -> Vec<Unit> {
+        match self {
+            Ground::Open | Ground::Maze => evenly(US, free, many),
+            Ground::Front => {
+                let (upper, lower) = free.split_at(free.len() / 2);
+                [evenly(US, upper, many / 2), evenly(ESC, lower, many - many / 2)].concat()
+            }
+            Ground::Tiny => {
+                let corners = [(US, 0), (ESC, 6)].into_iter().filter(|(_, hex)| free.contains(hex));
+                corners.map(|(nationality, hex)| infantry(nationality, hex)).collect()
+            }
+        }
+    }
+}
+
+pub fn infantry(nationality: u8, hex: usize) -> Unit {
     Unit::new(nationality, INFANTRY, hex as u16, 5, 6)
 }
 
-/// A square map of land, a supply hex of the US in one corner and one of Canada in another.
-fn land(side: u8) -> Position {
-    let mut position = Position::plain(side, side);
-    let last = position.map.hexes.len() - 1;
-    for (hex, country) in [(0, UNITED_STATES), (last, CANADIAN)] {
-        position.map.hexes[hex].flags = SUPPLY;
-        position.map.hexes[hex].country = country;
-    }
-    position.desk = Desk { force: US, ..Desk::plain() };
-    position
-}
-
-/// Units of one nationality evenly over the hexes from `first` to before `end`, until there are `count` in all.
-fn fill(position: &mut Position, nationality: u8, first: usize, end: usize, count: usize) {
-    let many = count.saturating_sub(position.units.len());
-    for i in 0..many {
-        position.units.push(infantry(nationality, first + i * (end - first) / many));
-    }
-}
-
-/// Friends all over an open map.
-pub fn open(side: u8, count: usize) -> Position {
-    let mut position = land(side);
-    let hexes = position.map.hexes.len();
-    fill(&mut position, US, 0, hexes, count);
-    position
-}
-
-/// Two forces face to face: the US in the upper half, the E.S.C. in the lower.
-pub fn front(side: u8, count: usize) -> Position {
-    let mut position = land(side);
-    let hexes = position.map.hexes.len();
-    fill(&mut position, US, 0, hexes / 2, count / 2);
-    fill(&mut position, ESC, hexes / 2, hexes, count);
-    position
+/// This many units of one nationality evenly over the hexes.
+fn evenly(nationality: u8, hexes: &[usize], many: usize) -> Vec<Unit> {
+    (0..many).map(|i| infantry(nationality, hexes[i * hexes.len() / many])).collect()
 }
 
 /// One lane that winds through all hexes: the sides between two rows are blocked but for one, at the lane's end.
-pub fn maze(side: u8, count: usize) -> Position {
-    let mut position = open(side, count);
-    let wide = usize::from(side);
+fn wind(position: &mut Position) {
+    let wide = usize::from(position.map.width);
     for hex in 0..position.map.hexes.len() {
         let (column, row) = (hex % wide, hex / wide);
         let gap = if row % 2 == 1 { wide - 1 } else { 0 };
@@ -71,109 +89,43 @@ pub fn maze(side: u8, count: usize) -> Position {
             .map(|(blocked, unit)| if blocked { unit * BLOCKED } else { PLAIN })
             .sum();
     }
-    position
 }
 
-/// The document's roster: three hexes in a row.
-pub fn tiny() -> Position {
-    let mut position = Position::plain(3, 1);
-    position.map.hexes[0].flags = SUPPLY;
-    position.map.hexes[0].country = UNITED_STATES;
-    position.units = vec![infantry(US, 2), infantry(ESC, 1)];
-    position
+/// A ground, its land without units, and how many units it is to hold.
+pub struct Scene {
+    pub ground: Ground,
+    pub land: Position,
+    count: usize,
 }
 
-/// The hex in the middle of the map.
-pub fn middle(position: &Position) -> usize {
-    let Grid { width, height } = position.grid();
-    height / 2 * width + width / 2
-}
-
-/// A front with an armour in the corner, which has 30 to spend.
-pub fn march(side: u8, count: usize) -> Position {
-    let mut position = front(side, count);
-    position.units[0] = Unit { marks: SUPPLIED, ..Unit::new(US, ARMOUR, 0, 5, 30) };
-    position
-}
-
-/// A battle in the middle: three of the P.A.L., and three of the US or of Canada on each of the six hexes round them.
-pub fn battle(side: u8, count: usize) -> Position {
-    let mut position = land(side);
-    let target = middle(&position);
-    let around = position.grid().neighbours(target);
-    for (i, hex) in around.into_iter().flatten().enumerate() {
-        let nationality = if i % 2 == 0 { US } else { CANADA };
-        position.units.extend([infantry(nationality, hex); 3]);
+impl Scene {
+    /// The hex in the middle of the map.
+    pub fn middle(&self) -> usize {
+        let grid = self.land.grid();
+        grid.height / 2 * grid.width + grid.width / 2
     }
-    position.units.extend([infantry(PAL, target); 3]);
-    let upper = target - 2 * usize::from(side);
-    fill(&mut position, US, 0, upper, count);
-    position.desk.phase = COMBAT;
-    position
-}
 
-/// The hexes that lie `far` steps from a start, and not fewer.
-fn ring(grid: &Grid, start: usize, far: usize) -> Vec<usize> {
-    let mut reached = vec![start];
-    let mut last = vec![start];
-    for _ in 0..far {
-        let mut next: Vec<usize> = last.iter().flat_map(|&hex| grid.neighbours(hex)).flatten().collect();
-        next.sort_unstable();
-        next.dedup();
-        next.retain(|hex| !reached.contains(hex));
-        reached.extend(&next);
-        last = next;
+    /// The hexes whose distance from the middle is as wanted.
+    pub fn hexes(&self, wanted: impl Fn(usize) -> bool) -> Vec<usize> {
+        let distances = self.land.grid().distances(self.middle());
+        (0..distances.len()).filter(|&hex| distances[hex].is_some_and(&wanted)).collect()
     }
-    last
-}
 
-/// The units of the middle hex owe three hexes, and every hex at distance three is held: the search tries all and finds none.
-pub fn beaten(side: u8, count: usize) -> Position {
-    let mut position = land(side);
-    let start = middle(&position);
-    let mut owing = infantry(US, start);
-    (owing.marks, owing.role) = (TRIED, OWES);
-    position.units.extend([owing; 3]);
-    let grid = position.grid();
-    for hex in ring(&grid, start, 3) {
-        if position.units.len() < count {
-            position.units.push(infantry(US, hex));
-        }
+    /// The ground with its own units all over.
+    pub fn whole(&self) -> Position {
+        self.filled(Vec::new(), &self.hexes(|_| true))
     }
-    let upper = start - 5 * usize::from(side);
-    fill(&mut position, US, 0, upper, count);
-    position.desk = Desk { phase: COMBAT, stage: RETREATS, owed_retreat: 3, ..position.desk };
-    position
-}
 
-/// Eighteen units owe the losses of an exchange.
-pub fn exchange(side: u8, count: usize) -> Position {
-    let mut position = front(side, count);
-    for unit in &mut position.units[..18.min(count / 2)] {
-        (unit.marks, unit.role) = (TRIED, OWES);
+    /// The ground with these units, and its own further than three hexes from the middle.
+    pub fn staged(&self, units: Vec<Unit>) -> Position {
+        self.filled(units, &self.hexes(|far| far > 3))
     }
-    position.desk = Desk { phase: COMBAT, stage: LOSSES, need: 90, ..position.desk };
-    position
-}
 
-/// Six roads lead east from the middle; the unit that may advance stands west of it.
-pub fn pursuit(side: u8, count: usize) -> Position {
-    let mut position = open(side, count);
-    let grid = position.grid();
-    let start = middle(&position);
-    let mut road = [start as u16; 4];
-    for i in 1..4 {
-        let next = grid.neighbour(usize::from(road[i - 1]), 2).expect("the middle is three hexes from the edge");
-        road[i] = next as u16;
+    /// These units, then the ground's own on the free hexes, until there are as many as it is to hold.
+    fn filled(&self, first: Vec<Unit>, free: &[usize]) -> Position {
+        let many = self.count.saturating_sub(first.len());
+        Position { units: [first, self.ground.own(free, many)].concat(), ..self.land.clone() }
     }
-    position.desk.routes = [road; 6];
-    let beside = grid.neighbour(start, 5).expect("the middle has neighbours");
-    position.units[0].hex = beside as u16;
-    for unit in &mut position.units[..2] {
-        (unit.marks, unit.role) = (TRIED, MAY_ADVANCE);
-    }
-    position.desk = Desk { phase: COMBAT, stage: ADVANCES, ..position.desk };
-    position
 }
 
 #[cfg(test)]
@@ -183,10 +135,19 @@ mod tests {
     /// Every hex of the maze has two open sides, its two ends one: the lane goes through all of them.
     #[test]
     fn the_maze_is_one_lane() {
-        let position = maze(8, 4);
+        let position = Ground::Maze.scene(8, 4).whole();
         let open = |hex: usize| (0..6).filter(|&direction| position.side(hex, direction) != BLOCKED).count();
         let ends = (0..64).filter(|&hex| open(hex) == 1).count();
         let passages = (0..64).filter(|&hex| open(hex) == 2).count();
         assert_eq!((ends, passages), (2, 62));
+    }
+
+    #[test]
+    fn units_of_the_ground_keep_out_of_the_middle() {
+        for ground in [Ground::Open, Ground::Front, Ground::Maze] {
+            let scene = ground.scene(16, 25);
+            let near = scene.hexes(|far| far <= 3);
+            assert!(scene.staged(Vec::new()).units.iter().all(|unit| !near.contains(&usize::from(unit.hex))));
+        }
     }
 }

@@ -51,12 +51,12 @@ fn measured(case: &Case) -> usize {
     let mut task = Task { case, position: case.position.clone(), lent: case.lent(), answer: 1 };
     let empty = used(nothing, &mut task);
     let bytes = used(make, &mut task) - empty;
-    assert_eq!(task.answer & 255, 0, "{} is refused", case.name);
+    assert_eq!(task.answer & 255, 0, "{}, {} is refused", case.call, case.ground);
     bytes
 }
 
 fn main() {
-    let mut all = vec![tiny()];
+    let mut all = tiny();
     for (side, units) in SIZES {
         all.extend(cases(side, units));
     }
