@@ -5,11 +5,12 @@ use mathlib.Core.Bool.{and-false, false, true}
 use mathlib.Core.List.{List, []}
 use mathlib.Core.Path.{_≡_}
 use borrow.Author.Count.{below-more}
-use borrow.Author.Tests.{eq-eqb, le-leb, lt-leb, ne-eqb}
+use borrow.Author.Tests.{eq-eqb, le-leb, lt-leb, ne-eqb, not-false}
 use lib.Dec.{eqb}
 use lib.ListN.{getD, length, take}
 use Rattle.position.specs.Bits.{fought, has}
 use Rattle.position.specs.Board.{Board, board}
+use Rattle.position.specs.Ground.{joined}
 use Rattle.position.specs.Kind.{mayAttack}
 use Rattle.position.specs.Tally.{any}
 use Rattle.ruling.proofs.Going.{Gone, gone-more}
@@ -21,7 +22,8 @@ use Rattle.field.specs.Listed.{andThen, named}
 use Rattle.field.specs.Phasing.{notPhasing}
 use Rattle.field.specs.Scene.{scene}
 use Rattle.field.specs.Zone.{holdsEnemy}
-use Rattle.battle.specs.Asked.{Able}
+use Rattle.odds.specs.Beside.{AllBeside}
+use Rattle.battle.specs.Asked.{Able, Engaged}
 use Rattle.battle.specs.Attack.{attacker, cannotAttack, dieFits, foughtOn, mayAttackNow, noTarget, notBeside}
 
 module _ (die : ℕ) where
@@ -115,3 +117,8 @@ asked-more {p} {target} {units} {i} o l t =
       gone = rw (take-more units i l) (gone-more (o .gone) l (t .0));
       able = below-more (λ j. Able (board p) target (getD units j 0)) i (o .able) (t .1);
     }
+
+-- past every question the attackers stand beside the target
+pub all-beside : {b : Board} {target : ℕ} {units : List ℕ} {long : ℕ} → Engaged b target units long → AllBeside b target units
+unfolding notBeside
+all-beside {b} {target} {units} e i l = not-false (joined (b .map) (b .units .hex (getD units i 0)) target) (e .able i l .beside)

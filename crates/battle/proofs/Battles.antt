@@ -26,9 +26,9 @@ use Rattle.field.specs.Bearing.{bearing}
 use Rattle.field.proofs.Bearings.{bearing-below}
 use Rattle.field.proofs.Zones.{stands-here}
 use Rattle.field.specs.Listed.{named, sieve}
-use Rattle.battle.specs.declared.Upshot.{Upshot}
-use Rattle.battle.specs.Line.{defenders, participants}
-use Rattle.battle.specs.Results.{lost, foughtBy, suffers, sufferedBy, onceEach, routesWritten, routedFrom, battleChanges}
+use Rattle.results.specs.declared.Upshot.{Upshot}
+use Rattle.results.specs.Participants.{defenders, participants}
+use Rattle.results.specs.Results.{lost, foughtBy, suffers, sufferedBy, onceEach, routesWritten, routedFrom, battleChanges}
 use Rattle.field.proofs.Lists.{sieve-long}
 use Rattle.ruling.proofs.Secrets.{each-by}
 use Rattle.field.proofs.Named.{each-then, each-map, named-each, named-then, sieve-each, sieve-names, once-most}

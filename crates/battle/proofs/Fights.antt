@@ -33,14 +33,15 @@ use Rattle.field.proofs.Lists.{Passing, map-at, map-long, sieve-at, sieve-long}
 use Rattle.field.specs.Phasing.{notPhasing}
 use Rattle.field.specs.Scene.{scene}
 use Rattle.field.specs.Zone.{standsOn}
-use Rattle.battle.proofs.Settles.{need-attackers, need-defenders, need-none}
+use Rattle.results.proofs.Settles.{need-attackers, need-defenders, need-none}
 use Rattle.battle.specs.Asked.{Able, Engaged}
 use Rattle.battle.specs.Battle.{battle, codeOf, columnOf, needFor, ruled}
-use Rattle.battle.specs.Line.{attackLine, defenceLine, defenders, fighter, line, participants, strengthOf}
+use Rattle.results.specs.Participants.{defenders, participants}
+use Rattle.battle.specs.Line.{attackLine, defenceLine, fighter, line, strengthOf}
 use Rattle.battle.specs.Mustered.{AllStanding, ArmsAll, Musters, Prints, Standing, drawn}
-use Rattle.battle.specs.Odds.{column, multipleAt}
-use Rattle.battle.specs.Results.{battleChanges, lost, needOf, upshot}
-use Rattle.battle.specs.declared.Upshot.{Upshot}
+use Rattle.odds.specs.Odds.{column, multipleAt}
+use Rattle.results.specs.Results.{battleChanges, lost, needOf, upshot}
+use Rattle.results.specs.declared.Upshot.{Upshot}
 
 -- the defenders are as many as the crowd, and stand there
 module _ (b : Board) (target : ℕ) where

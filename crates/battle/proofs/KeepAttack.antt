@@ -26,12 +26,13 @@ use Rattle.field.specs.Phasing.{notPhasing}
 use Rattle.field.specs.Zone.{standsOn, enemyOn, holdsEnemy}
 use Rattle.field.proofs.Zones.{force-in}
 use Rattle.field.specs.Listed.{listLength, noUnit, allThere, named, andThen}
-use Rattle.battle.specs.declared.Upshot.{Upshot}
+use Rattle.results.specs.declared.Upshot.{Upshot}
 use Rattle.battle.specs.Attack.{dieFits, mayAttackNow, foughtOn, noTarget, cannotAttack, notBeside, attacker, attackers, inRange, attackChecks}
-use Rattle.battle.specs.Line.{defenders, participants, attackLine, defenceLine}
+use Rattle.results.specs.Participants.{defenders, participants}
+use Rattle.battle.specs.Line.{attackLine, defenceLine}
 use Rattle.line.specs.Line.{fightingTotal, printedTotal}
-use Rattle.battle.specs.Odds.{multipleAt}
-use Rattle.battle.specs.Results.{upshot, battleChanges}
+use Rattle.odds.specs.Odds.{multipleAt}
+use Rattle.results.specs.Results.{upshot, battleChanges}
 use Rattle.battle.specs.Battle.{columnOf, codeOf, needFor, ruled, battle, attackRule, attackVerdict}
 use Rattle.ruling.proofs.Secrets.{each-by}
 use Rattle.battle.proofs.Upshots.{sensible, NeedOk, need-fits, code-fits}

@@ -26,7 +26,7 @@ use Rattle.ruling.specs.Secret.{Each}
 use Rattle.field.specs.Bearing.{bearing}
 use Rattle.field.proofs.Bearings.{bearing-below}
 use Rattle.field.specs.Listed.{named}
-use Rattle.battle.specs.declared.Upshot.{Upshot}
+use Rattle.results.specs.declared.Upshot.{Upshot}
 use Rattle.field.proofs.Lists.{named-at}
 use Rattle.field.proofs.Named.{named-each, tally-named}
 use Rattle.battle.proofs.Ring.{joined-other, joined-one}

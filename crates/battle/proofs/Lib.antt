@@ -1,9 +1,6 @@
 pub mod Asks
-pub mod Columns
 pub mod Lines
-pub mod Settles
 pub mod Fights
-pub mod Rulings
 pub mod Onces
 pub mod Ring
 pub mod Upshots

@@ -23,7 +23,8 @@ use Rattle.field.specs.Scene.{Scene, scene}
 use Rattle.field.specs.Working.{working}
 use Rattle.field.specs.Zone.{standsOn}
 use Rattle.supply.specs.Supply.{supplied, supplyMap}
-use Rattle.battle.specs.Line.{defenders, participants, strengthOf}
+use Rattle.results.specs.Participants.{defenders, participants}
+use Rattle.battle.specs.Line.{strengthOf}
 use Rattle.battle.specs.Mustered.{AllStanding, Armed, Arms, ArmsAll, Enlists, Joins, Musters, Prints, nationAt}
 use Rattle.line.specs.Line.{places}
 

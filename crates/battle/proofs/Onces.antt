@@ -7,7 +7,7 @@ use Rattle.position.proofs.Tallies.{either}
 use Rattle.ruling.specs.Secret.{Each}
 use Rattle.field.specs.Listed.{named}
 use Rattle.field.proofs.Named.{each-then, Once, once-last}
-use Rattle.battle.specs.Results.{addOnce, onceEach}
+use Rattle.results.specs.Results.{addOnce, onceEach}
 
 module _ (P : ℕ → Type 0) where
   pub once-each : (xs seen : List ℕ) → Each P seen → Each P xs → Each P (onceEach seen xs)

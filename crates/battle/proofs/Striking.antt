@@ -35,7 +35,7 @@ use Rattle.acceptance.proofs.Fates.{
 use Rattle.acceptance.proofs.Routings.{filled-there, filled-else, routes-lone}
 use Rattle.ruling.specs.Secret.{Each}
 use Rattle.field.specs.Listed.{named}
-use Rattle.battle.specs.Results.{lost, foughtBy, suffers, routedFrom}
+use Rattle.results.specs.Results.{lost, foughtBy, suffers, routedFrom}
 use Rattle.field.proofs.Lists.{named-nil}
 use Rattle.field.proofs.Named.{named-past, unnamed-parts}
 

@@ -9,7 +9,8 @@ use Rattle.position.specs.Board.{Board}
 use Rattle.position.specs.Shape.{In}
 use Rattle.ruling.specs.Secret.{Each}
 use Rattle.line.specs.Line.{printedTotal, totalBy}
-use Rattle.battle.specs.Line.{fighter, line, attackLine, defenceLine, defenders, participants}
+use Rattle.results.specs.Participants.{defenders, participants}
+use Rattle.battle.specs.Line.{fighter, line, attackLine, defenceLine}
 
 -- the strengths of those in front, and of those behind
 front-strengths : (f : ℕ → ℕ) (us ds : List ℕ) → take (length us) (map f (us ++ ds)) ≡ map f us

@@ -4,15 +4,14 @@ use Prim.Native.Nat.{ℕ, zero, suc, _+_, _-_, _≤_, _<_}
 use mathlib.Core.Path.{_≡_, refl}
 use mathlib.Core.Bool.{Bool}
 use native.Mathlib.Omega.{arith}
-use lib.Dec.{leb, eqb}
-use borrow.Author.Tests.{leb-true, leb-false, eq-eqb, ne-eqb}
 use Rattle.position.specs.Board.{Board}
 use Rattle.position.specs.Shape.{In}
 use Rattle.position.proofs.Tallies.{same-or, either}
 use Rattle.acceptance.specs.Accepted.{Lawful}
-use Rattle.battle.specs.declared.Upshot.{Upshot}
-use Rattle.battle.specs.Results.{upshot, needOf, lost}
-use Rattle.battle.specs.Odds.{reached, last, column}
+use Rattle.results.specs.declared.Upshot.{Upshot}
+use Rattle.results.specs.Results.{upshot, needOf}
+use Rattle.results.proofs.Settles.{each-row, need-attackers, need-defenders, need-none}
+use Rattle.odds.specs.Odds.{reached, last, column}
 
 -- Of roles 0 to 2 the sides have two: 1 and 2 where the losers retreat, 0 and 1 in an exchange, 0 and 2 where one side is gone.
 pub record Sensible (o : Upshot) : Type 0 where
@@ -72,50 +71,27 @@ advancing a d e n =
     }
 
 pub sensible : (code : ℕ) → In 1 code 10 → Sensible (upshot code)
-unfolding upshot
 sensible code i =
-    either (leb code 3)
-    (λ e. simp e (retreating 2 1 code (omega arith) (omega arith) refl (record { low = i .low; high = leb-true code 3 e })))
-    (λ e.
-    let l = leb-false code 3 e in
-    simp e
-    (either (leb code 6)
-    (λ f.
-    let h = leb-true code 6 f in
-    simp f (retreating 1 2 (code - 3) (omega arith) (omega arith) refl (record { low = omega arith; high = omega arith })))
-    (λ f.
-    simp f
-    (either (eqb code 7) (λ g. simp g (advancing 0 2 refl (λ q. omega arith)))
-    (λ g.
-    simp g
-    (either (eqb code 8) (λ h. simp h (advancing 2 0 refl (λ q. omega arith)))
-    (λ h.
-    simp h (either (eqb code 9) (λ k. simp k (exchanging 1 0 refl)) (λ k. simp k (exchanging 0 1 refl))))))))))
+    each-row Sensible code
+    (λ l. retreating 2 1 code (omega arith) (omega arith) refl (record { low = i .low; high = l }))
+    (λ l k. retreating 1 2 (code - 3) (omega arith) (omega arith) refl (record { low = omega arith; high = omega arith }))
+    (advancing 0 2 refl (λ q. omega arith))
+    (advancing 2 0 refl (λ q. omega arith))
+    (exchanging 1 0 refl)
+    (exchanging 0 1 refl)
 
 -- "Stage 2: need is 1..1080", "Elsewhere .. need [is] 0"
 pub record NeedOk (o : Upshot) (need : ℕ) : Type 0 where
   pub exact : o .stage ≡ 2 → In 1 need 1080
   pub none : (o .stage ≡ 2 → ⊥) → need ≡ 0
 
--- "need is its printed total": the destroyed side's, in an exchange alone
+-- the destroyed side's total is there
 module _ (o : Upshot) (attack defence : ℕ) where
-  need-attack : o .stage ≡ 2 → o .attackers ≡ 0 → needOf o attack defence ≡ attack
-  unfolding needOf
-  need-attack e f = simp (eq-eqb (o .stage) 2 e, eq-eqb (o .attackers) lost f)
-
-  need-defence : o .stage ≡ 2 → (o .attackers ≡ 0 → ⊥) → needOf o attack defence ≡ defence
-  unfolding needOf
-  need-defence e f = simp (eq-eqb (o .stage) 2 e, ne-eqb (o .attackers) lost f)
-
-  need-none : (o .stage ≡ 2 → ⊥) → needOf o attack defence ≡ 0
-  unfolding needOf
-  need-none e = simp (ne-eqb (o .stage) 2 e)
-
   pub need-fits : In 1 attack 1080 → In 1 defence 1080 → NeedOk o (needOf o attack defence)
   need-fits a d =
       record {
-        exact = λ e. same-or (o .attackers) 0 (λ z. rw (need-attack e z) a) (λ n. rw (need-defence e n) d);
-        none = need-none;
+        exact = λ e. same-or (o .attackers) 0 (λ z. rw (need-attackers o attack defence e z) a) (λ n. rw (need-defenders o attack defence e n) d);
+        none = need-none o attack defence;
       }
 
 -- the column is one of the table, and so its code is a result

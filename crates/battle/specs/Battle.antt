@@ -9,9 +9,10 @@ use Rattle.line.specs.Line.{fightingTotal, printedTotal}
 use Rattle.ruling.specs.Verdict.{Verdict, Judge, revealAll}
 use Rattle.ruling.specs.Verdict.Judge.{rule}
 use Rattle.ruling.specs.Verdict.Verdict.{refuseIf, judge}
-use Rattle.battle.specs.Line.{participants, attackLine, defenceLine}
-use Rattle.battle.specs.Odds.{multipleAt, column}
-use Rattle.battle.specs.Results.{upshot, needOf, battleChanges}
+use Rattle.results.specs.Participants.{participants}
+use Rattle.battle.specs.Line.{attackLine, defenceLine}
+use Rattle.odds.specs.Odds.{multipleAt, column}
+use Rattle.results.specs.Results.{upshot, needOf, battleChanges}
 use Rattle.battle.specs.Attack.{attackChecks}
 
 -- the column of a battle, counted from 0: "Defence is the sum times" the multiple

@@ -2,9 +2,5 @@ pub mod Attack
 pub mod Asked
 pub mod Line
 pub mod Mustered
-pub mod Odds
-pub mod Results
-pub mod Settled
 pub mod Battle
 pub mod Answers
-pub mod Rulings

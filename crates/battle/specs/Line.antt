@@ -1,23 +1,14 @@
--- The battle line: who takes part, and what each brings.
+-- The battle line: what each who takes part brings.
 -- Assumes nothing.
 use Prim.Native.Nat.{ℕ}
-use mathlib.Core.List.{List, [], _∷_, _++_}
+use mathlib.Core.List.{List, [], _∷_}
 use lib.ListN.{length, take, drop}
 use Rattle.position.specs.Board.{Board}
 use Rattle.line.specs.declared.Fighter.{Fighter}
 use Rattle.field.specs.Scene.{scene}
-use Rattle.field.specs.Zone.{standsOn}
 use Rattle.field.specs.Working.{working}
-use Rattle.field.specs.Listed.{sieve}
 use Rattle.supply.specs.Supply.{supplied}
-
--- the units in the target hex, in counter order
-unfoldable pub defenders : Board → ℕ → List ℕ
-defenders b target = sieve (standsOn (scene b) target) (b .units .count)
-
--- "All participants": the list, then every unit in the target hex
-unfoldable pub participants : Board → ℕ → List ℕ → List ℕ
-participants b target units = units ++ defenders b target
+use Rattle.results.specs.Participants.{defenders}
 
 -- "Each strength out of supply at that instant is halved, fractions up, unit by unit.": each by its own nationality, as the call begins
 unfoldable pub strengthOf : Board → ℕ → ℕ → ℕ

@@ -11,7 +11,8 @@ use Rattle.position.specs.Board.{Board}
 use Rattle.position.specs.Layout.{strength}
 use Rattle.line.specs.Line.{fighterOf, places}
 use Rattle.line.specs.declared.Fighter.{Fighter}
-use Rattle.battle.specs.Line.{defenders, participants, strengthOf}
+use Rattle.results.specs.Participants.{defenders, participants}
+use Rattle.battle.specs.Line.{strengthOf}
 
 -- the first of the array are these units
 pub record Enlists (units who : List ℕ) : Type 0 where

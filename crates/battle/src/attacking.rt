@@ -10,12 +10,12 @@ ghost use Rattle.battle.specs.Battle.{battle, attackVerdict};
 ghost use Rattle.battle.specs.Answers.{foughtAs};
 use crate::Fought;
 use crate::asking;
-use crate::odds;
 use crate::ranks;
-use crate::results;
 use position::Checked;
 use position::View;
 use position::read;
+use results::codes;
+use results::settling;
 use ruling::Tested;
 
 // The battle of an attack that is let through.
@@ -44,9 +44,9 @@ fn fight(
     let defence = defenders.fighting * odds::multiple_at(p, v, target, units);
     let column = odds::column(p, v, attackers.fighting, defence);
     let code = read::code(p, v, column, die);
-    let o = results::upshot(code);
-    let need = results::need_of(o, attackers.printed, defenders.printed);
-    results::settle(p, v, target, units, &who[0..n], o, need);
+    let o = codes::upshot(code);
+    let need = codes::need_of(o, attackers.printed, defenders.printed);
+    settling::settle(p, v, target, units, &who[0..n], o, need);
     paint::clear(scratch);
     Fought::Done(column + 1, code)
 }

@@ -2,14 +2,14 @@
 use crate::answers;
 use crate::game;
 use crate::game::Game;
-use crate::number;
-use crate::reading::Line;
-use crate::rooms::NONE;
-use crate::rooms::Numbers;
 use battle::Fought;
 use march::Moved;
 use page::Output;
 use position::Checked;
+use reading::Line;
+use reading::number;
+use reading::rooms::NONE;
+use reading::rooms::Numbers;
 use ruling::Answer;
 use wording::Call;
 

@@ -1,10 +1,10 @@
 // The lines as they are read, where they are echoed. They are written byte by byte, so that a line may have any length.
 use crate::game;
 use crate::game::Game;
-use crate::orders::POSITION;
-use crate::reading::Line;
-use crate::reading::Stage;
 use page::Output;
+use reading::Line;
+use reading::Stage;
+use reading::words::POSITION;
 
 // Whether the line's first word is `position`, and over.
 fn in_digits(l: Line) -> bool {

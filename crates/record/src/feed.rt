@@ -3,14 +3,13 @@ use crate::echo;
 use crate::game;
 use crate::game::Game;
 use crate::orders;
-use crate::reading;
-use crate::reading::Line;
-use crate::reading::Stage;
-use crate::rooms::Numbers;
-use crate::rooms::Room;
-use crate::words;
 use libc::STDIN_FILENO;
 use page::Output;
+use reading::Line;
+use reading::Stage;
+use reading::rooms::Numbers;
+use reading::rooms::Room;
+use reading::words;
 
 // The game, the line that is being read, and whether the record has ended.
 struct State {

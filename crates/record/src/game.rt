@@ -1,6 +1,6 @@
 // What is kept from line to line, beside the position's bytes and those of the lent buffer.
-use crate::rooms::NONE;
 use page::Output;
+use reading::rooms::NONE;
 
 // The line's number from 1; the lengths of the position, of the buffer that the last call borrowed, and of the one
 // that the next call is to borrow, or `NONE`; how full the output is; and whether lines are echoed.

@@ -4,13 +4,8 @@ mod calls;
 mod echo;
 mod feed;
 mod game;
-mod hex;
 mod lines;
-mod number;
 mod orders;
-mod reading;
-mod rooms;
-mod words;
 
 // Plays the record on standard input.
 pub fn play() {

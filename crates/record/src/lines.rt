@@ -2,11 +2,11 @@
 ghost use Prim.Native.Nat.{_≤_};
 use crate::game;
 use crate::game::Game;
-use crate::number;
-use crate::reading::Line;
-use crate::rooms::Numbers;
-use crate::rooms::Room;
 use page::Output;
+use reading::Line;
+use reading::number;
+use reading::rooms::Numbers;
+use reading::rooms::Room;
 
 // The first `n` bytes of a room go into another.
 fn copy(from: &Room, to: &mut Room, n: usize)

@@ -3,16 +3,16 @@ use crate::calls;
 use crate::game;
 use crate::game::Game;
 use crate::lines;
-use crate::number;
-use crate::reading::Line;
-use crate::reading::Stage;
-use crate::rooms::Numbers;
-use crate::rooms::Room;
 use page::Output;
+use reading::Line;
+use reading::Stage;
+use reading::number;
+use reading::rooms::Numbers;
+use reading::rooms::Room;
+use reading::words::ECHO;
+use reading::words::POSITION;
 
 // The words as numbers of base 256.
-pub const POSITION: u64 = 0x706f736974696f6e;
-
 const BUFFER: u64 = 0x627566666572;
 
 const SHOW: u64 = 0x73686f77;
@@ -40,8 +40,6 @@ const ROSTER: u64 = 0x726f73746572;
 const MAP: u64 = 0x6d6170;
 
 const HELP: u64 = 0x68656c70;
-
-pub const ECHO: u64 = 0x6563686f;
 
 const ECHO_OFF: u64 = 0x6563686f206f6666;
 

@@ -2,12 +2,12 @@
 -- Assumes nothing.
 use mathlib.Core.Path.{refl}
 use Rattle.grid.specs.Rulings.{gridOpen}
-use Rattle.battle.specs.Rulings.{battleOpen}
+use Rattle.odds.specs.Rulings.{oddsOpen}
 use Rattle.routes.specs.Rulings.{routesOpen}
 use Rattle.aftermath.specs.Rulings.{aftermathOpen}
 use Rattle.rules.specs.Rulings.{SmallRulings}
 
 pub small-rulings : SmallRulings
-unfolding gridOpen battleOpen routesOpen aftermathOpen
+unfolding gridOpen oddsOpen routesOpen aftermathOpen
 small-rulings =
     (refl, (refl, (refl, (refl, (refl, (refl, (refl, (refl, (refl, (refl, (refl, (refl, (refl, (refl, tt))))))))))))))

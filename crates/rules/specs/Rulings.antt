@@ -3,13 +3,13 @@
 -- Assumes nothing.
 use mathlib.Core.List.{List, _++_}
 use Rattle.grid.specs.Rulings.{Row, Answered, gridRows}
-use Rattle.battle.specs.Rulings.{battleRows}
+use Rattle.odds.specs.Rulings.{oddsRows}
 use Rattle.routes.specs.Rulings.{routesRows}
 use Rattle.aftermath.specs.Rulings.{aftermathRows}
 
 -- neighbours; columns, halves and multiples; routes of a retreat; losses
 abbrev pub table : List Row
-table = gridRows ++ (battleRows ++ (routesRows ++ aftermathRows))
+table = gridRows ++ (oddsRows ++ (routesRows ++ aftermathRows))
 
 -- "Proved as one table, one statement"
 abbrev pub SmallRulings : Type 0

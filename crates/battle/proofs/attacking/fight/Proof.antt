@@ -11,11 +11,12 @@ use Rattle.position.specs.Change.{makes}
 use Rattle.position.specs.Layout.{strength}
 use Rattle.ruling.specs.Verdict.{turnedAll}
 use Rattle.line.specs.Line.{fightingTotal, printedTotal}
+use Rattle.battle.proofs.Asks.{all-beside}
 use Rattle.battle.proofs.Fights.{all-clear, all-standing, battled, decides, defence-fits, few-defend, lent-all, need-fits, sides}
-use Rattle.battle.proofs.Settles.{upshot-fits}
-use Rattle.battle.specs.Line.{participants}
-use Rattle.battle.specs.Results.{battleChanges, needOf}
-use Rattle.battle.specs.declared.Upshot.{Upshot}
+use Rattle.results.proofs.Settles.{upshot-fits}
+use Rattle.results.specs.Participants.{participants}
+use Rattle.results.specs.Results.{battleChanges, needOf}
+use Rattle.results.specs.declared.Upshot.{Upshot}
 use Rattle.battle.proofs.attacking.fight.Statement.{statement}
 use Rattle.battle.proofs.attacking.fight.Tie as tie
 
@@ -42,7 +43,7 @@ sum-up-requires-2 : tie.Need-sum-up-requires-2
 sum-up-requires-2 c κs = search needs
 
 multiple-at-requires : tie.Need-multiple-at-requires
-multiple-at-requires c κs = (c .before .before .before .before .before .before .before .before .before .before .before .before .before .before .before .before .before .before .before .before .before .before .before .before .before .pre .0, c .before .before .before .before .before .before .before .before .before .before .before .before .before .before .before .before .before .before .before .before .before .before .before .before .before .pre .2 .range .some, c .before .before .before .before .before .before .before .before .before .before .before .before .before .before .before .before .before .before .before .before .before .before .before .before .before .pre .2 .able)
+multiple-at-requires c κs = (c .before .before .before .before .before .before .before .before .before .before .before .before .before .before .before .before .before .before .before .before .before .before .before .before .before .pre .0, c .before .before .before .before .before .before .before .before .before .before .before .before .before .before .before .before .before .before .before .before .before .before .before .before .before .pre .2 .range .some, all-beside (c .before .before .before .before .before .before .before .before .before .before .before .before .before .before .before .before .before .before .before .before .before .before .before .before .before .pre .2))
 
 mul-defence : tie.Need-mul-defence
 mul-defence c = omega (arith, defence-fits (c .before .before .before .sum-up2 .ensures .fighting .small) (c .before .multiple-at .ensures .small))

@@ -12,7 +12,7 @@ use Rattle.field.specs.Scene.{scene}
 use Rattle.field.specs.Zone.{standsOn}
 use Rattle.battle.proofs.Lines.{Joining, joining-hit, joining-miss, joining-none, joining-room, joins-all}
 use Rattle.field.specs.Listed.{sieve}
-use Rattle.battle.specs.Line.{defenders}
+use Rattle.results.specs.Participants.{defenders}
 use Rattle.line.specs.Line.{places}
 use Rattle.battle.proofs.ranks.join.Statement.{statement}
 use Rattle.battle.proofs.ranks.join.Tie as tie

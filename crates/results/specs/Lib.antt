@@ -1,0 +1,3 @@
+pub mod Participants
+pub mod Results
+pub mod Settled
