@@ -22,7 +22,7 @@ use Rattle.field.specs.Listed.{andThen, named}
 use Rattle.field.specs.Phasing.{notPhasing}
 use Rattle.field.specs.Scene.{scene}
 use Rattle.field.specs.Zone.{holdsEnemy}
-use Rattle.odds.specs.Beside.{AllBeside}
+use Rattle.odds.specs.Adjacent.{AllAdjacent}
 use Rattle.battle.specs.Asked.{Able, Engaged}
 use Rattle.battle.specs.Attack.{attacker, cannotAttack, dieFits, foughtOn, mayAttackNow, noTarget, notBeside}
 
@@ -118,7 +118,7 @@ asked-more {p} {target} {units} {i} o l t =
       able = below-more (λ j. Able (board p) target (getD units j 0)) i (o .able) (t .1);
     }
 
--- past every question the attackers stand beside the target
-pub all-beside : {b : Board} {target : ℕ} {units : List ℕ} {long : ℕ} → Engaged b target units long → AllBeside b target units
+-- past every question the attackers are adjacent to the target
+pub all-adjacent : {b : Board} {target : ℕ} {units : List ℕ} {long : ℕ} → Engaged b target units long → AllAdjacent b target units
 unfolding notBeside
-all-beside {b} {target} {units} e i l = not-false (joined (b .map) (b .units .hex (getD units i 0)) target) (e .able i l .beside)
+all-adjacent {b} {target} {units} e i l = not-false (joined (b .map) (b .units .hex (getD units i 0)) target) (e .able i l .beside)

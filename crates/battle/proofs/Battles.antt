@@ -1,4 +1,4 @@
--- A battle on a lawful board leaves a lawful board: its changes, one list after another, come to what `Aftermath` tells.
+-- A battle on a lawful board leaves a lawful board: its changes, one list after another, come to what `LawfulAfter` tells.
 -- Assumes nothing.
 use Prim.Native.Nat.{ℕ, _+_, _≤_, _<_}
 use mathlib.Core.Path.{_≡_, refl, sym, ap, subst, _∙_}
@@ -35,7 +35,7 @@ use Rattle.field.proofs.Named.{each-then, each-map, named-each, named-then, sie
 use Rattle.battle.proofs.Onces.{once-each, once-once}
 use Rattle.battle.proofs.Striking.{Present, marked-all, routed-all, Footing, routes-all, Struck, struck}
 use Rattle.battle.proofs.Ring.{joined-one}
-use Rattle.battle.proofs.Upshots.{Sensible, NeedOk}
+use Rattle.results.proofs.Upshots.{Sensible, NeedOk}
 use Rattle.battle.proofs.LawfulAfter.{Attacker, Ready, attacker-of, attacker-off, Shown, Sides, Desked, lawful-after}
 
 -- the units in the target hex

@@ -33,7 +33,7 @@ use Rattle.field.proofs.Lists.{Passing, map-at, map-long, sieve-at, sieve-long}
 use Rattle.field.specs.Phasing.{notPhasing}
 use Rattle.field.specs.Scene.{scene}
 use Rattle.field.specs.Zone.{standsOn}
-use Rattle.results.proofs.Settles.{need-attackers, need-defenders, need-none}
+use Rattle.results.proofs.Upshots.{need-attackers, need-defenders, need-none}
 use Rattle.battle.specs.Asked.{Able, Engaged}
 use Rattle.battle.specs.Battle.{battle, codeOf, columnOf, needFor, ruled}
 use Rattle.results.specs.Participants.{defenders, participants}

@@ -1,6 +1,6 @@
 -- An accepted position stays accepted after an attack.
 -- Assumes nothing.
-use Prim.Native.Nat.{ℕ, _*_, _<_}
+use Prim.Native.Nat.{ℕ, _+_, _-_, _*_, _≤_, _<_}
 use mathlib.Core.Path.{_≡_, sym}
 use mathlib.Core.Bool.{true, false, not, _&&_}
 use mathlib.Core.List.{List, [], _∷_, map}
@@ -15,7 +15,7 @@ use Rattle.position.specs.Ground.{joined}
 use Rattle.position.specs.Shape.{In}
 use Rattle.position.proofs.Shapes.{hexes-most}
 use Rattle.position.proofs.Tallies.{both-yes, neither, any-some}
-use Rattle.acceptance.specs.Accepted.{Accepted}
+use Rattle.acceptance.specs.Accepted.{Accepted, Lawful}
 use Rattle.acceptance.specs.Broken.{broken}
 use Rattle.ruling.specs.Verdict.{turnedAll, outcome}
 use Rattle.ruling.specs.Secret.{Each}
@@ -31,11 +31,12 @@ use Rattle.battle.specs.Attack.{dieFits, mayAttackNow, foughtOn, noTarge
 use Rattle.results.specs.Participants.{defenders, participants}
 use Rattle.battle.specs.Line.{attackLine, defenceLine}
 use Rattle.line.specs.Line.{fightingTotal, printedTotal}
-use Rattle.odds.specs.Odds.{multipleAt}
+use Rattle.odds.specs.Odds.{multipleAt, reached, last, column}
 use Rattle.results.specs.Results.{upshot, battleChanges}
 use Rattle.battle.specs.Battle.{columnOf, codeOf, needFor, ruled, battle, attackRule, attackVerdict}
 use Rattle.ruling.proofs.Secrets.{each-by}
-use Rattle.battle.proofs.Upshots.{sensible, NeedOk, need-fits, code-fits}
+use Rattle.odds.proofs.Columns.{last-small}
+use Rattle.results.proofs.Upshots.{sensible, NeedOk, need-ok}
 use Rattle.battle.proofs.Totals.{attack-total, defence-total}
 use Rattle.battle.proofs.LawfulAfter.{Held, Ready, crowd-there, crowd-some}
 use Rattle.battle.proofs.Battles.{defenders-each, defenders-long, stands-is, attackers-below, lawful-battle}
@@ -53,6 +54,20 @@ unfolding dieFits
 die-in die e =
     let h = both-yes (leb 1 die) (leb die 6) (not-false (leb 1 die && leb die 6) e) in
     record { low = leb-true 1 die (h .0); high = leb-true die 6 (h .1) }
+
+-- the column is one of the table, and so its code is a result
+code-fits :
+    {b : Board} → Lawful b → 1 ≤ b .results .columns → (attack defence die : ℕ) → 1 ≤ die → die ≤ 6
+    → In 1 (b .results .code (column (b .results) attack defence) die) 10
+unfolding column
+code-fits {b} o l attack defence die h k =
+    let e : die - 1 + 1 ≡ die = omega arith in
+    rw e at
+    (o .results .columns (last (reached (b .results) attack defence) (b .results .columns))
+    (last-small (reached (b .results) attack defence) (b .results .columns) l)
+    .codes
+    (die - 1)
+    (omega arith))
 
 module _ (b : Board) where
   now : not (mayAttackNow b) ≡ false → (b .desk .stage ≡ 0) × (b .desk .phase ≡ 1)
@@ -134,7 +149,7 @@ module _ {p : List ℕ} (a : Accepted p) {target : ℕ} {units : List ℕ} (g : 
   need-in : NeedOk result (needFor (board p) target units die told)
   unfolding needFor
   need-in =
-      need-fits result (printedTotal (attackLine (board p) units told)) (printedTotal (defenceLine (board p) target units told))
+      need-ok result (printedTotal (attackLine (board p) units told)) (printedTotal (defenceLine (board p) target units told))
       attack-in
       defence-in
 

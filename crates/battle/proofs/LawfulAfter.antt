@@ -30,7 +30,7 @@ use Rattle.results.specs.declared.Upshot.{Upshot}
 use Rattle.field.proofs.Lists.{named-at}
 use Rattle.field.proofs.Named.{named-each, tally-named}
 use Rattle.battle.proofs.Ring.{joined-other, joined-one}
-use Rattle.battle.proofs.Upshots.{Sensible}
+use Rattle.results.proofs.Upshots.{Sensible}
 
 -- an attacker as the questions leave it
 pub record Attacker (b : Board) (target u : ℕ) : Type 0 where

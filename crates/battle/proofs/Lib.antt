@@ -3,7 +3,6 @@ pub mod Lines
 pub mod Fights
 pub mod Onces
 pub mod Ring
-pub mod Upshots
 pub mod Totals
 pub mod Striking
 pub mod LawfulAfter

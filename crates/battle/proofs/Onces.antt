@@ -1,7 +1,6 @@
 -- The numbers of a list once each, by first naming: what holds of each, and that none comes twice.
 -- Assumes nothing.
 use Prim.Native.Nat.{ℕ}
-use mathlib.Core.Path.{_≡_}
 use mathlib.Core.List.{List, [], _∷_, _++_}
 use Rattle.position.proofs.Tallies.{either}
 use Rattle.ruling.specs.Secret.{Each}

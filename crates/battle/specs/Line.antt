@@ -1,4 +1,4 @@
--- The battle line: what each who takes part brings.
+-- The battle line: what each participant brings.
 -- Assumes nothing.
 use Prim.Native.Nat.{ℕ}
 use mathlib.Core.List.{List, [], _∷_}

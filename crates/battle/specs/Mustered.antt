@@ -3,7 +3,7 @@
 -- Assumes nothing.
 use Prim.Native.Nat.{_+_, _<_, _≤_, ℕ}
 use mathlib.Core.Bool.{Bool}
-use mathlib.Core.List.{List, [], _++_, _∷_, map}
+use mathlib.Core.List.{List, _++_, map}
 use mathlib.Core.Path.{_≡_}
 use lib.Dec.{eqb}
 use lib.ListN.{getD, length, take}

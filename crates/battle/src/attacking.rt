@@ -1,5 +1,4 @@
 // The attack: its questions, and then the battle.
-ghost use mathlib.Core.Path.{_≡_};
 ghost use lib.ListN.{length};
 ghost use Rattle.position.specs.Board.{board};
 ghost use Rattle.acceptance.specs.Accepted.{Accepted};

@@ -2,7 +2,7 @@
 --     cut, glue            a row is its first k and the others
 --     lies-in, lies-out    the local's one machine value is a row, and back
 -- Assumes `Given`.
-use mathlib.Core.Path.{_≡_, refl}
+use mathlib.Core.Path.{_≡_}
 use Prim.Native.Nat.{ℕ, zero, suc, _+_, _*_, _<_, _≤_, _^_}
 use native.Mathlib.Omega.{arith}
 use mathlib.Core.List.{List, [], _∷_}
@@ -15,7 +15,7 @@ use base.Logic.{ent, sep}
 use base.Fml.{fsep, fat, ftrue}
 use prog.Wp.{Heap}
 use ghost.Atoms.{Atoms, sem}
-use types.Kit.{Given, ‵, _⊛_, _$_, _∵_, !, qed, move, use1, use2, drop, split, fsplit, fjoin, fpick, fpack, feqI, frame, done}
+use types.Kit.{Given, ‵, _⊛_, _$_, _∵_, !, qed, move, use1, use2, drop, split, fsplit, fjoin, fpick, fpack, feqI, done}
 use types.Share.{arr-parts}
 use denote.RattleType.{RattleType}
 use denote.Laws.{Is, shows}

@@ -1,10 +1,10 @@
 -- Laws of the totals of a line: of its first fighters, one more, and all.
 -- Assumes nothing.
 use mathlib.Core.Path.{_≡_, refl, sym, _∙_, ap}
-use Prim.Native.Nat.{ℕ, zero, suc, _+_, _*_, _<_, _≤_}
-use native.Mathlib.Nat.{zero-mul, suc-mul, add-comm, not-suc-le-zero, le-of-suc-le-suc, add-assoc, add-zero, zero-add}
+use Prim.Native.Nat.{ℕ, zero, suc, _+_, _<_}
+use native.Mathlib.Nat.{not-suc-le-zero, le-of-suc-le-suc, add-assoc, add-zero, zero-add}
 use mathlib.Core.List.{List, [], _∷_}
-use lib.ListN.{length, getD, replicate, take}
+use lib.ListN.{length, getD, take}
 use Rattle.line.specs.Line.{totalBy}
 use Rattle.line.specs.declared.Fighter.{Fighter}
 

@@ -9,13 +9,11 @@ use native.Mathlib.Numerals.{add-one}
 use lib.ListN.{length, replicate}
 use lib.Dec.{eqb}
 use borrow.Author.Tests.{eqb-true, eq-eqb, ne-eqb}
-use Rattle.position.specs.declared.View.{View}
 use Rattle.position.specs.Bits.{with, without, supplied, moved, fought, faced}
 use Rattle.position.specs.Layout as Layout
 use Rattle.position.specs.Board.{Board, board, nowhere}
 use Rattle.position.specs.Shape.{Shaped}
 use Rattle.acceptance.specs.Accepted.{Lawful, Accepted}
-use Rattle.position.specs.Laid.{Laid}
 use Rattle.position.specs.Change.{Change, make, makes}
 use Rattle.position.specs.Change.Change.{marked, timed}
 use Rattle.position.specs.Effect.{change, changes}
@@ -33,6 +31,7 @@ use Rattle.supply.specs.Supply as Supply
 use Rattle.supply.specs.Supply.{supplyMap}
 use Rattle.clock.specs.declared.Clock.{Clock}
 use Rattle.clock.specs.Clock.{nextClock, judgesSupply}
+use Rattle.clock.proofs.Turns.{next-by}
 use Rattle.march.specs.EndPhase.{clock, rested, restAll, judgedMarks, mappedOf, judgeAll, judgeForce, supplyChanges, endChanges}
 use Rattle.march.specs.Ending.{Waits, Since, JudgesUnit, JudgesAll, JudgesForce, JudgesPhase}
 use Rattle.acceptance.proofs.Carries.{changes-then}
@@ -349,14 +348,11 @@ pub record Bytes (c : Clock) : Type 0 where
   pub phase : c .phase < 256
 
 pub next-bytes : {b : Board} → Lawful b → Bytes (nextClock (clock b))
-unfolding nextClock
 next-bytes {b} l =
-    bytes (eqb (b .desk .phase) 2) (eqb (b .desk .force) 3)
-  where
-    bytes : (s t : Bool) → Bytes (cond s (cond t (record { turn = b .desk .turn + 1; force = 0; phase = 0 }) (record { turn = b .desk .turn; force = b .desk .force + 1; phase = 0 })) (record { turn = b .desk .turn; force = b .desk .force; phase = b .desk .phase + 1 }))
-    bytes true true = record { turn = omega (arith, l .clock .turn .high); force = omega arith; phase = omega arith }
-    bytes true false = record { turn = omega (arith, l .clock .turn .high); force = omega (arith, l .clock .force); phase = omega arith }
-    bytes false t = record { turn = omega (arith, l .clock .turn .high); force = omega (arith, l .clock .force); phase = omega (arith, l .clock .phase) }
+    next-by Bytes (clock b)
+    (λ _ _. record { turn = omega (arith, l .clock .turn .high); force = omega arith; phase = omega arith })
+    (λ _ _. record { turn = omega (arith, l .clock .turn .high); force = omega (arith, l .clock .force); phase = omega arith })
+    (λ _. record { turn = omega (arith, l .clock .turn .high); force = omega (arith, l .clock .force); phase = omega (arith, l .clock .phase) })
 
 -- marks, clock and supply, one after the other
 pub all-ended :

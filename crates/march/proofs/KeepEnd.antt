@@ -7,7 +7,7 @@ use mathlib.Core.List.{List, [], _∷_, _++_}
 use native.Mathlib.Omega.{arith}
 use lib.ListN.{length}
 use lib.Dec.{eqb}
-use borrow.Author.Tests.{eqb-true, eqb-false, eq-eqb, ne-eqb, not-true, not-false}
+use borrow.Author.Tests.{eqb-true, eqb-false, not-true, not-false}
 use Rattle.position.specs.Bits.{with, without, tried, supplied}
 use Rattle.position.specs.Board.{Board, board, nowhere}
 use Rattle.position.specs.Shape.{In}
@@ -16,12 +16,12 @@ use Rattle.acceptance.specs.Broken.{broken}
 use Rattle.position.specs.Change.{Change}
 use Rattle.position.specs.Change.Change.{marked, timed}
 use Rattle.position.specs.Effect.{change, changes}
-use Rattle.position.proofs.Tallies.{same-or}
 use Rattle.ruling.specs.Verdict.{outcome}
 use Rattle.field.specs.Scene.{scene}
 use Rattle.supply.specs.Supply as Supply
 use Rattle.clock.specs.declared.Clock.{Clock}
 use Rattle.clock.specs.Clock.{nextClock, isLast, judgesSupply}
+use Rattle.clock.proofs.Turns.{next-by, not-last}
 use Rattle.march.specs.EndPhase.{
   clock,
   rested,
@@ -133,27 +133,14 @@ record Within (last : ℕ) (c : Clock) : Type 0 where
   force : c .force ≤ 3
   phase : c .phase ≤ 2
 
-module _ (last : ℕ) (c : Clock) where
-  not-last : isLast c last ≡ false → c .phase ≡ 2 → c .force ≡ 3 → c .turn ≡ last → ⊥
-  unfolding isLast
-  not-last e ph f = eqb-false (c .turn) last (simp (eq-eqb (c .phase) 2 ph, eq-eqb (c .force) 3 f) at e)
-
-  within-next : last ≤ 60 → Within last c → isLast c last ≡ false → Within last (nextClock c)
-  unfolding nextClock
-  within-next m k e =
-      same-or (c .phase) 2
-      (λ ph.
-      same-or (c .force) 3
-      (λ f.
-      let n = not-last e ph f in
-      simp (eq-eqb (c .phase) 2 ph, eq-eqb (c .force) 3 f)
-      (record { turn = record { low = omega arith; high = omega arith }; late = omega arith; force = omega arith; phase = omega arith }))
-      (λ f.
-      simp (eq-eqb (c .phase) 2 ph, ne-eqb (c .force) 3 f)
-      (record { turn = k .turn; late = k .late; force = omega arith; phase = omega arith })))
-      (λ ph.
-      simp (ne-eqb (c .phase) 2 ph)
-      (record { turn = k .turn; late = k .late; force = k .force; phase = omega arith }))
+within-next : (last : ℕ) (c : Clock) → last ≤ 60 → Within last c → isLast c last ≡ false → Within last (nextClock c)
+within-next last c m k e =
+    next-by (Within last) c
+    (λ ph f.
+    let n = not-last last c e ph f in
+    record { turn = record { low = omega arith; high = omega arith }; late = omega arith; force = omega arith; phase = omega arith })
+    (λ ph f. record { turn = k .turn; late = k .late; force = omega arith; phase = omega arith })
+    (λ ph. record { turn = k .turn; late = k .late; force = k .force; phase = omega arith })
 
 module _ {b : Board} (l : Lawful b) where
   next-within : isLast (clock b) (b .desk .lastTurn) ≡ false → Within (b .desk .lastTurn) (nextClock (clock b))

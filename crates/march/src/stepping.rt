@@ -1,7 +1,7 @@
 // One step of a move: what it costs, and its questions in their order.
 ghost use mathlib.Core.Path.{_≡_};
 ghost use mathlib.Core.Bool.{true};
-ghost use Prim.Native.Nat.{_+_, _<_, _≤_};
+ghost use Prim.Native.Nat.{_+_, _<_};
 ghost use Rattle.position.specs.Board.{board, ground};
 ghost use Rattle.position.specs.Ground.{joined};
 ghost use Rattle.position.specs.Laid.{Laid, Read};

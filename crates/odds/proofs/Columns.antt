@@ -1,6 +1,6 @@
 -- Laws of the odds: the smaller and the larger, what an attacker crosses, the smallest of a list, and the last column reached.
 -- Assumes nothing.
-use Prim.Native.Nat.{_*_, _+_, _<_, _≤_, ℕ}
+use Prim.Native.Nat.{_*_, _+_, _<_, _≤_, suc, zero, ℕ}
 use mathlib.Core.Bool.{Bool, false, true}
 use mathlib.Core.List.{List, [], _++_, _∷_, map}
 use mathlib.Core.Path.{_∙_, _≡_, ap, ap₂, refl, sym}
@@ -137,6 +137,18 @@ module _ {t : ℕ → Bool} {n : ℕ} where
 
   pub highest-all : {i k m : ℕ} → Highest t i n k → n ≤ i → n ≡ m → k ≡ last t m
   highest-all {i} {k} {m} o l e = let f : i ≡ m = omega (arith, o .most) in o .is ∙ ap (last t) f
+
+-- the last of some numbers is one of them
+last-below : (t : ℕ → Bool) (n : ℕ) → last t (suc n) < suc n
+unfolding last
+last-below t zero = either (t 0) (λ e. simp e (omega arith)) (λ e. simp e (omega arith))
+last-below t (suc n) =
+    let h = last-below t n in
+    either (t (suc n)) (λ e. simp e (omega arith)) (λ e. simp e (omega arith))
+
+pub last-small : (t : ℕ → Bool) (n : ℕ) → 1 ≤ n → last t n < n
+last-small t zero l = absurd (omega arith)
+last-small t (suc n) l = last-below t n
 
 -- products of odds and strengths fit
 pub product-fits : {m n : ℕ} → m < 256 → n < 16777216 → m * n < 18446744073709551616

@@ -6,9 +6,9 @@ use Rattle.grid.specs.Rulings.{Answered}
 use Rattle.position.specs.Ground.{riverSide, majorRiverSide}
 use Rattle.odds.specs.Rulings.{oddsOpen, plainSide, multipleFor, oddsRows}
 
-pub battle-rulings : Answered oddsRows
+pub odds-rulings : Answered oddsRows
 unfolding oddsOpen
-battle-rulings = (refl, (refl, (refl, (refl, (refl, (refl, tt))))))
+odds-rulings = (refl, (refl, (refl, (refl, (refl, (refl, tt))))))
 
 -- where one attacker crosses a plain side, the rivers of the others are left out
 pub one-plain : multipleFor 1 (riverSide ∷ plainSide ∷ majorRiverSide ∷ []) ≡ 1

@@ -1,3 +1,3 @@
-pub mod Beside
+pub mod Adjacent
 pub mod Odds
 pub mod Rulings

@@ -1,13 +1,12 @@
 // The odds: what multiplies the defence, and the column of the results.
 ghost use mathlib.Core.Path.{_≡_};
-ghost use mathlib.Core.Bool.{true};
 ghost use mathlib.Core.List.{map};
 ghost use Prim.Native.Nat.{_<_, _≤_};
 ghost use lib.ListN.{length};
 ghost use Rattle.position.specs.Board.{board, chart, results, ground};
 ghost use Rattle.position.specs.Laid.{Laid, Read};
 ghost use Rattle.odds.specs.Odds.{smaller, larger, sideMultiple, crossed, smallest, multipleAt, reached, column};
-ghost use Rattle.odds.specs.Beside.{Beside, AllBeside};
+ghost use Rattle.odds.specs.Adjacent.{Adjacent, AllAdjacent};
 use field::bearing;
 use position::View;
 use position::ground;
@@ -54,7 +53,7 @@ fn side_multiple(p: &[u8], v: View, s: usize) -> usize
 
 // The multiple that unit `u`, which stands beside the target, crosses to it.
 fn crossed(p: &[u8], v: View, target: usize, u: usize) -> usize
-    requires { ⌜ Laid (now p) v × Beside (board (now p)) target u ⌝ }
+    requires { ⌜ Laid (now p) v × Adjacent (board (now p)) target u ⌝ }
     ensures { λ r. ⌜ Read (crossed (board (now (p .entry))) target u) 256 r ⌝ }
 {
     let h = read::hex(p, v, u);
@@ -64,7 +63,7 @@ fn crossed(p: &[u8], v: View, target: usize, u: usize) -> usize
 
 // The smallest multiple that the attackers cross.
 fn smallest(p: &[u8], v: View, target: usize, units: &[u16]) -> usize
-    requires { ⌜ Laid (now p) v × (1 ≤ length (now units)) × AllBeside (board (now p)) target (now units) ⌝ }
+    requires { ⌜ Laid (now p) v × (1 ≤ length (now units)) × AllAdjacent (board (now p)) target (now units) ⌝ }
     ensures { λ r. ⌜ Read (smallest (map (crossed (board (now (p .entry))) target) (now (units .entry)))) 256 r ⌝ }
 {
     let mut low = crossed(p, v, target, units[0] as usize);
@@ -76,7 +75,7 @@ fn smallest(p: &[u8], v: View, target: usize, units: &[u16]) -> usize
 
 // What multiplies the defence: the larger of the terrain's multiple and the smallest that the attackers cross.
 pub fn multiple_at(p: &[u8], v: View, target: usize, units: &[u16]) -> usize
-    requires { ⌜ Laid (now p) v × (1 ≤ length (now units)) × AllBeside (board (now p)) target (now units) ⌝ }
+    requires { ⌜ Laid (now p) v × (1 ≤ length (now units)) × AllAdjacent (board (now p)) target (now units) ⌝ }
     ensures { λ r. ⌜ Read (multipleAt (board (now (p .entry))) target (now (units .entry))) 256 r ⌝ }
 {
     let terrain = read::multiple(p, v, read::terrain(p, v, target));

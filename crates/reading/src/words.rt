@@ -6,7 +6,7 @@ use crate::number;
 use crate::rooms::Numbers;
 use crate::rooms::Room;
 
-// The two words that are not followed by numbers, as numbers of base 256.
+// Two words, as numbers of base 256: hex digits follow the first, `off` may follow the second, and neither is followed by numbers.
 pub const POSITION: u64 = 0x706f736974696f6e;
 
 pub const ECHO: u64 = 0x6563686f;

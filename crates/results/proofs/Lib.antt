@@ -1,1 +1,2 @@
+pub mod Upshots
 pub mod Settles

@@ -1,12 +1,12 @@
--- Laws of what a battle writes: what a code does, units turned over and marked, routes written once each, sides that suffer; and all together.
+-- Laws of what a battle writes: units turned over and marked, routes written once each, sides that suffer; and all together.
 -- Assumes nothing.
 use Prim.Native.Nat.{_%_, _*_, _+_, _-_, _/_, _<_, _≤_, suc, ℕ}
 use mathlib.Core.Bool.{Bool, _||_, cond, false, or-false, or-true, true}
 use mathlib.Core.List.{List, [], _++_, _∷_, map}
 use mathlib.Core.Path.{_∙_, _≡_, ap, ap₂, refl, sym}
 use native.Mathlib.Omega.{arith}
-use borrow.Author.Tests.{eq-eqb, eqb-true, le-leb, leb-false, leb-true, lt-leb, ne-eqb}
-use lib.Dec.{eqb, leb}
+use borrow.Author.Tests.{eq-eqb, eqb-true, ne-eqb}
+use lib.Dec.{eqb}
 use lib.ListN.{drop, getD, length, length-append, length-drop, take}
 use lib.Seq.{drop-append-seam, take-all}
 use Rattle.position.proofs.Answers.{all}
@@ -21,7 +21,7 @@ use Rattle.position.specs.Change.{Change, make, makes, turned}
 use Rattle.position.specs.Change.Change.{assigned, destroyed, marked, routed, staged}
 use Rattle.position.specs.Laid.{Laid}
 use Rattle.position.specs.Effect.{change, changes, turnedUp}
-use Rattle.position.specs.Layout.{code, hex, marks, need, setMarks, strength}
+use Rattle.position.specs.Layout.{hex, marks, setMarks, strength}
 use Rattle.position.specs.declared.View.{View}
 use Rattle.ruling.proofs.Meets.{seen}
 use Rattle.ruling.specs.Verdict.{turnedAll}
@@ -31,88 +31,10 @@ use Rattle.field.proofs.Lists.{map-last, named-last, take-more}
 use Rattle.field.proofs.Making.{makes-more}
 use Rattle.field.specs.Listed.{named}
 use Rattle.results.specs.Participants.{defenders, participants}
-use Rattle.results.specs.Results.{addOnce, battleChanges, foughtBy, lost, needOf, onceEach, routedFrom, routesWritten, sufferedBy, suffers, upshot}
-use Rattle.results.specs.Settled.{Fitting, Likened, MarksAll, RoutesOnce}
+use Rattle.results.specs.Results.{addOnce, battleChanges, foughtBy, lost, onceEach, routedFrom, routesWritten, sufferedBy, suffers}
+use Rattle.results.specs.Settled.{Likened, MarksAll, RoutesOnce}
 use Rattle.results.specs.declared.Upshot.{Upshot}
 use Rattle.field.proofs.Scenes.Still.{marks as still}
-
--- the rows of the table of codes
-module _ (code : ℕ) where
-  pub upshot-d : code ≤ 3 → upshot code ≡ record { attackers = 2; defenders = 1; stage = 1; owed = code }
-  unfolding upshot
-  upshot-d l = simp (le-leb code 3 l)
-
-  module _ (k : 3 < code) where
-    pub upshot-a : code ≤ 6 → upshot code ≡ record { attackers = 1; defenders = 2; stage = 1; owed = code - 3 }
-    unfolding upshot
-    upshot-a l = simp (lt-leb code 3 k, le-leb code 6 l)
-
-    module _ (m : 6 < code) where
-      pub upshot-ae : code ≡ 7 → upshot code ≡ record { attackers = lost; defenders = 2; stage = 3; owed = 0 }
-      unfolding upshot
-      upshot-ae e = simp (lt-leb code 3 k, lt-leb code 6 m, eq-eqb code 7 e)
-
-      module _ (d : code ≡ 7 → ⊥) where
-        pub upshot-de : code ≡ 8 → upshot code ≡ record { attackers = 2; defenders = lost; stage = 3; owed = 0 }
-        unfolding upshot
-        upshot-de e = simp (lt-leb code 3 k, lt-leb code 6 m, ne-eqb code 7 d, eq-eqb code 8 e)
-
-        module _ (f : code ≡ 8 → ⊥) where
-          pub upshot-dx : code ≡ 9 → upshot code ≡ record { attackers = 1; defenders = lost; stage = 2; owed = 0 }
-          unfolding upshot
-          upshot-dx e = simp (lt-leb code 3 k, lt-leb code 6 m, ne-eqb code 7 d, ne-eqb code 8 f, eq-eqb code 9 e)
-
-          pub upshot-ax : (code ≡ 9 → ⊥) → upshot code ≡ record { attackers = lost; defenders = 1; stage = 2; owed = 0 }
-          unfolding upshot
-          upshot-ax g = simp (lt-leb code 3 k, lt-leb code 6 m, ne-eqb code 7 d, ne-eqb code 8 f, ne-eqb code 9 g)
-
--- a table of six rows, gone through
-pub each-row :
-    (P : Upshot → Type 0) (code : ℕ)
-    → (code ≤ 3 → P (record { attackers = 2; defenders = 1; stage = 1; owed = code }))
-    → (3 < code → code ≤ 6 → P (record { attackers = 1; defenders = 2; stage = 1; owed = code - 3 }))
-    → P (record { attackers = lost; defenders = 2; stage = 3; owed = 0 }) → P (record { attackers = 2; defenders = lost; stage = 3; owed = 0 })
-    → P (record { attackers = 1; defenders = lost; stage = 2; owed = 0 }) → P (record { attackers = lost; defenders = 1; stage = 2; owed = 0 })
-    → P (upshot code)
-unfolding upshot
-each-row P code d a ae de dx ax =
-    either (leb code 3)
-    (λ e. simp e (d (leb-true code 3 e)))
-    (λ e.
-    either (leb code 6)
-    (λ f. simp (e, f) (a (leb-false code 3 e) (leb-true code 6 f)))
-    (λ f.
-    either (eqb code 7)
-    (λ g. simp (e, f, g) ae)
-    (λ g.
-    either (eqb code 8)
-    (λ h. simp (e, f, g, h) de)
-    (λ h. either (eqb code 9) (λ i. simp (e, f, g, h, i) dx) (λ i. simp (e, f, g, h, i) ax)))))
-
-pub upshot-fits : (code : ℕ) → code < 256 → Fitting (upshot code)
-upshot-fits code l =
-    each-row Fitting code
-    (λ k. record { attackers = omega arith; defenders = omega arith; stage = omega arith; owed = l })
-    (λ k m. record { attackers = omega arith; defenders = omega arith; stage = omega arith; owed = omega arith })
-    (record { attackers = omega arith; defenders = omega arith; stage = omega arith; owed = omega arith })
-    (record { attackers = omega arith; defenders = omega arith; stage = omega arith; owed = omega arith })
-    (record { attackers = omega arith; defenders = omega arith; stage = omega arith; owed = omega arith })
-    (record { attackers = omega arith; defenders = omega arith; stage = omega arith; owed = omega arith })
-
--- no exchange, the attackers destroyed, the defenders destroyed
-module _ (o : Upshot) (attack defence : ℕ) where
-  pub need-none : (o .stage ≡ 2 → ⊥) → needOf o attack defence ≡ 0
-  unfolding needOf
-  need-none d = simp (ne-eqb (o .stage) 2 d)
-
-  module _ (e : o .stage ≡ 2) where
-    pub need-attackers : o .attackers ≡ lost → needOf o attack defence ≡ attack
-    unfolding needOf
-    need-attackers f = simp (eq-eqb (o .stage) 2 e, eq-eqb (o .attackers) lost f)
-
-    pub need-defenders : (o .attackers ≡ lost → ⊥) → needOf o attack defence ≡ defence
-    unfolding needOf
-    need-defenders d = simp (eq-eqb (o .stage) 2 e, ne-eqb (o .attackers) lost d)
 
 -- units turned over, one after another
 turned-last : (p xs : List ℕ) (x : ℕ) → turnedAll p (xs ++ (x ∷ [])) ≡ turned (turnedAll p xs) x

@@ -1,7 +1,7 @@
 -- What a result does: who is destroyed, who owes, who may advance, and what is written on the desk.
 -- Assumes nothing.
 use Prim.Native.Nat.{ℕ, _+_, _-_}
-use mathlib.Core.Bool.{Bool, cond}
+use mathlib.Core.Bool.{cond}
 use mathlib.Core.List.{List, [], _∷_, _++_, map}
 use lib.Dec.{leb, eqb}
 use Rattle.position.specs.Bits.{with, fought}

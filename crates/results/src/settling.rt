@@ -6,7 +6,7 @@ ghost use lib.ListN.{length, take, getD};
 ghost use Rattle.position.specs.Board.{board};
 ghost use Rattle.position.specs.Layout.{hex};
 ghost use Rattle.position.specs.Change.{make, makes};
-ghost use Rattle.position.specs.Laid.{Laid, Read};
+ghost use Rattle.position.specs.Laid.{Laid};
 ghost use Rattle.ruling.specs.Verdict.{turnedAll};
 ghost use Rattle.field.specs.Listed.{named};
 ghost use Rattle.results.specs.Participants.{participants};

@@ -16,7 +16,6 @@ use Rattle.acceptance.specs.Accepted.{Accepted}
 use Rattle.position.specs.Effect.{changes}
 use Rattle.ruling.specs.Verdict.{outcome, Met}
 use Rattle.ruling.specs.Verdict.Ruling.{accepted}
-use Rattle.ruling.specs.Secret.{Sent}
 use Rattle.ruling.proofs.Meets.{pass, ruled, only, untouched}
 use Rattle.ruling.proofs.Kept.{Kept, kept-past, kept-ruled}
 use Rattle.ruling.proofs.Secrets.{secret-runs}

@@ -3,9 +3,9 @@
 use Prim.Native.Nat.{ℕ}
 use mathlib.Core.Path.{_≡_, refl, sym, ap, ap₂, _∙_}
 use mathlib.Core.List.{List, [], _∷_}
-use Rattle.ruling.specs.Verdict.{Ruling, Outcome, Met}
+use Rattle.ruling.specs.Verdict.{Ruling, Outcome}
 use Rattle.ruling.specs.Secret.{Sent, Referee}
-use Rattle.rules.specs.Order.{Order, verdict, step}
+use Rattle.rules.specs.Order.{Order, step}
 use Rattle.rules.specs.Referee.{Meets, runOf, Agree}
 
 -- the parts of an outcome make it up

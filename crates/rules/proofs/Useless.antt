@@ -6,7 +6,6 @@ use mathlib.Core.List.{List, [], _∷_}
 use native.Mathlib.Omega.{arith}
 use lib.ListN.{replicate, set}
 use Rattle.position.specs.Layout.{byte, hex}
-use Rattle.acceptance.specs.Alike.{Alike}
 use Rattle.acceptance.specs.Examples.{roster}
 use Rattle.ruling.specs.Verdict.{Ruling, Outcome}
 use Rattle.ruling.specs.Verdict.Ruling.{refused, accepted}

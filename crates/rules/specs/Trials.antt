@@ -7,7 +7,7 @@ use Rattle.position.specs.Bits.{with, without, faced}
 use Rattle.position.specs.Layout.{setUnit, setDesk, setHex, setMarks, setRole, setClock, setStage, setRouteHex, setRoute, clearRoutes}
 use Rattle.position.specs.Change.{make, makes}
 use Rattle.position.specs.Effect.{upd, reroute, unfilled, change, changes}
-use Rattle.acceptance.specs.Examples.{computing, roster}
+use Rattle.acceptance.specs.Examples.{computing}
 use Rattle.ruling.specs.Verdict.{judged, outcome, along}
 use Rattle.ruling.specs.Secret.{Sent}
 use Rattle.field.specs.Listed.{offMap, onMapAll, sieve}

@@ -1,6 +1,6 @@
 // The map as text. Odd columns lie half a hex lower: each row of hexes takes two lines, its even columns and then its odd ones.
 ghost use mathlib.Core.Path.{_≡_};
-ghost use Prim.Native.Nat.{_<_, _≤_};
+ghost use Prim.Native.Nat.{_<_};
 ghost use lib.ListN.{length};
 ghost use Rattle.position.specs.Laid.{Laid};
 use crate::tiles;

@@ -47,7 +47,7 @@ use denote.Triple.Spec.{Meets, tripleOf}
 use denote.Triple.Table.{entered, cited}
 use denote.Triple.Walked.{says, needs, Stays, stay-none, walkOf, goes-none, Walks, ends-at, walked, walk-meets}
 use denote.Exit.{yes}
-use Rattle.line.specs.Line.{Comes, Sums, fightingTotal, printedTotal}
+use Rattle.line.specs.Line.{Comes, fightingTotal, printedTotal}
 use Rattle.line.specs.declared.Fighter.{Fighter}
 use Rattle.line.specs.declared.Totals.{Totals}
 use Rattle.line.proofs.Rows.{Arr, arr-vals, arr-val, arr-ty, room-for, cut, glue, lies-in, lies-out}

@@ -1,7 +1,6 @@
 -- `page::trimmed` is safe and ends: the count goes down from within the buffer.
 -- Assumes nothing.
 use Prim.Native.Nat.{_≤_}
-use native.Mathlib.Omega.{arith}
 use lib.ListN.{length}
 use borrow.Author.Needs.{needs}
 use Rattle.page.proofs.trimmed.Statement.{statement}

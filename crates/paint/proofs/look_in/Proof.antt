@@ -2,7 +2,6 @@
 -- Assumes nothing.
 use native.Mathlib.Omega.{arith}
 use Rattle.position.specs.Board.{board}
-use Rattle.position.specs.Layout.{byte}
 use Rattle.position.proofs.Sides.{on-view}
 use Rattle.paint.proofs.Frames.{one-size, one-ok, one-inside, one-place}
 use Rattle.paint.proofs.Units.{one-marked}

@@ -11,9 +11,9 @@ use Rattle.position.specs.Change.{makes}
 use Rattle.position.specs.Layout.{strength}
 use Rattle.ruling.specs.Verdict.{turnedAll}
 use Rattle.line.specs.Line.{fightingTotal, printedTotal}
-use Rattle.battle.proofs.Asks.{all-beside}
+use Rattle.battle.proofs.Asks.{all-adjacent}
 use Rattle.battle.proofs.Fights.{all-clear, all-standing, battled, decides, defence-fits, few-defend, lent-all, need-fits, sides}
-use Rattle.results.proofs.Settles.{upshot-fits}
+use Rattle.results.proofs.Upshots.{upshot-fits}
 use Rattle.results.specs.Participants.{participants}
 use Rattle.results.specs.Results.{battleChanges, needOf}
 use Rattle.results.specs.declared.Upshot.{Upshot}
@@ -43,7 +43,7 @@ sum-up-requires-2 : tie.Need-sum-up-requires-2
 sum-up-requires-2 c κs = search needs
 
 multiple-at-requires : tie.Need-multiple-at-requires
-multiple-at-requires c κs = (c .before .before .before .before .before .before .before .before .before .before .before .before .before .before .before .before .before .before .before .before .before .before .before .before .before .pre .0, c .before .before .before .before .before .before .before .before .before .before .before .before .before .before .before .before .before .before .before .before .before .before .before .before .before .pre .2 .range .some, all-beside (c .before .before .before .before .before .before .before .before .before .before .before .before .before .before .before .before .before .before .before .before .before .before .before .before .before .pre .2))
+multiple-at-requires c κs = (c .before .before .before .before .before .before .before .before .before .before .before .before .before .before .before .before .before .before .before .before .before .before .before .before .before .pre .0, c .before .before .before .before .before .before .before .before .before .before .before .before .before .before .before .before .before .before .before .before .before .before .before .before .before .pre .2 .range .some, all-adjacent (c .before .before .before .before .before .before .before .before .before .before .before .before .before .before .before .before .before .before .before .before .before .before .before .before .before .pre .2))
 
 mul-defence : tie.Need-mul-defence
 mul-defence c = omega (arith, defence-fits (c .before .before .before .sum-up2 .ensures .fighting .small) (c .before .multiple-at .ensures .small))

@@ -1,7 +1,7 @@
 -- `codes::need_of` meets its contract: no exchange, the attackers destroyed, the defenders destroyed.
 -- Assumes nothing.
 use mathlib.Core.Path.{sym}
-use Rattle.results.proofs.Settles.{need-attackers, need-defenders, need-none}
+use Rattle.results.proofs.Upshots.{need-attackers, need-defenders, need-none}
 use Rattle.results.proofs.codes.need_of.Statement.{statement}
 use Rattle.results.proofs.codes.need_of.Tie as tie
 

@@ -3,7 +3,7 @@
 use mathlib.Core.Path.{_∙_, sym}
 use native.Mathlib.Omega.{arith}
 use borrow.Author.Needs.{needs}
-use Rattle.results.proofs.Settles.{upshot-a, upshot-ae, upshot-ax, upshot-d, upshot-de, upshot-dx}
+use Rattle.results.proofs.Upshots.{upshot-a, upshot-ae, upshot-ax, upshot-d, upshot-de, upshot-dx}
 use Rattle.results.proofs.codes.upshot.Statement.{statement}
 use Rattle.results.proofs.codes.upshot.Tie as tie
 

@@ -1,6 +1,6 @@
 -- `story::rows::rows` is safe and ends: each row begins a width later, and the width is 1 to 64.
 -- Assumes nothing.
-use Prim.Native.Nat.{_-_, _≤_}
+use Prim.Native.Nat.{_-_}
 use native.Mathlib.Omega.{arith}
 use Rattle.story.proofs.Widths.{at-least-1, at-most-64}
 use borrow.Author.Needs.{needs}
