@@ -1,11 +1,9 @@
 // Where a unit casts its zone.
 ghost use mathlib.Core.Path.{_≡_};
 ghost use Prim.Native.Nat.{_<_};
-ghost use Rattle.grid.specs.declared.Beside.the-variants.{At};
 ghost use Rattle.grid.specs.Spot.{SpotOf};
 ghost use Rattle.position.specs.Board.{board, ground};
-ghost use Rattle.position.specs.Ground.{beside, side};
-ghost use Rattle.position.specs.Laid.{Laid, Read};
+ghost use Rattle.position.specs.Laid.{Laid};
 ghost use Rattle.field.specs.Scene.{scene};
 ghost use Rattle.paint.specs.Frame.{Room, StandsAt};
 ghost use Rattle.paint.specs.Paint.{inZone, castsAgainst, Adds, reach, reaches, part};
@@ -24,17 +22,6 @@ const FORCES: usize = 4;
 
 const ALL_SEA: usize = 2;
 
-// The side between hex `h` and its neighbour `n` in direction `d`.
-fn between(p: &[u8], v: View, h: usize, n: usize, d: usize) -> usize
-    requires { ⌜ Laid (now p) v × (d < 6) × (beside (ground (now p)) h d ≡ At n) ⌝ }
-    ensures { λ r. ⌜ Read (side (ground (now (p .entry))) h d) 4 r ⌝ }
-{
-    if d < 3 {
-        return ground::stored(p, v, h, d);
-    }
-    ground::stored(p, v, n, d - 3)
-}
-
 // The zone of a caster on the spot over the hex in direction `d`.
 fn over(p: &[u8], v: View, at: Frame, s: Spot, d: usize, buf: &mut [u8])
     requires { ⌜ Laid (now p) v × Room v at (now buf) × SpotOf (v .width) (v .height) s × (d < 6) ⌝ }
@@ -43,7 +30,7 @@ fn over(p: &[u8], v: View, at: Frame, s: Spot, d: usize, buf: &mut [u8])
     let Nearby::At(t) = near::near(v.width, v.height, s, d) else {
         return;
     };
-    if ground::MAJOR_RIVER <= between(p, v, s.hex, t.hex, d) {
+    if ground::MAJOR_RIVER <= ground::between(p, v, s.hex, t.hex, d) {
         return;
     }
     if read::surface(p, v, t.hex) == ALL_SEA {

@@ -1,8 +1,9 @@
 // The ground: sides between hexes, steps over unblocked sides, and where a unit may stand.
 ghost use mathlib.Core.Path.{_≡_};
-ghost use Prim.Native.Nat.{_<_, _≤_};
+ghost use Prim.Native.Nat.{_<_};
+ghost use Rattle.grid.specs.declared.Beside.the-variants.{At};
 ghost use Rattle.position.specs.Board.{board, ground};
-ghost use Rattle.position.specs.Ground.{stored, side, next, isAt, joined, standable};
+ghost use Rattle.position.specs.Ground.{beside, stored, side, next, isAt, joined, standable};
 ghost use Rattle.position.specs.Laid.{Laid, Read};
 use crate::View;
 use crate::read;
@@ -42,6 +43,17 @@ pub fn side(p: &[u8], v: View, h: usize, d: usize) -> usize
     let Beside::At(n) = grid::neighbour(v.width, v.height, h, d) else {
         return PLAIN;
     };
+    stored(p, v, n, d - 3)
+}
+
+// The side between hex `h` and its neighbour `n` in direction `d`, for one who knows the neighbour.
+pub fn between(p: &[u8], v: View, h: usize, n: usize, d: usize) -> usize
+    requires { ⌜ Laid (now p) v × (d < 6) × (beside (ground (now p)) h d ≡ At n) ⌝ }
+    ensures { λ r. ⌜ Read (side (ground (now (p .entry))) h d) 4 r ⌝ }
+{
+    if d < 3 {
+        return stored(p, v, h, d);
+    }
     stored(p, v, n, d - 3)
 }
 

@@ -2,10 +2,9 @@
 ghost use mathlib.Core.Path.{_≡_};
 ghost use Prim.Native.Nat.{_<_};
 ghost use lib.ListN.{length};
-ghost use Rattle.grid.specs.declared.Beside.the-variants.{At};
 ghost use Rattle.grid.specs.Spot.{SpotOf, NearOf};
 ghost use Rattle.position.specs.Board.{ground};
-ghost use Rattle.position.specs.Ground.{beside, side, next};
+ghost use Rattle.position.specs.Ground.{next};
 ghost use Rattle.position.specs.Laid.{Laid};
 ghost use Rattle.walk.specs.Chain.{mark};
 ghost use Rattle.walk.specs.Trail.{FreshOf, First};
@@ -14,17 +13,6 @@ use grid::Spot;
 use grid::near;
 use position::View;
 use position::ground;
-
-// The side of hex `at` in direction `dir`, beyond which hex `n` lies: the one or the other keeps it.
-fn side(p: &[u8], v: View, at: usize, dir: usize, n: usize) -> usize
-    requires { ⌜ Laid (now p) v × (dir < 6) × (beside (ground (now p)) at dir ≡ At n) ⌝ }
-    ensures { λ r. ⌜ r ≡ side (ground (now (p .entry))) at dir ⌝ }
-{
-    if dir < 3 {
-        return ground::stored(p, v, at, dir);
-    }
-    ground::stored(p, v, n, dir - 3)
-}
 
 // Whether a step from spot `s` in direction `dir`, where `b` lies, enters a hex: an open one that was not entered yet. Its mark is looked
 // at first, as most are of no use.
@@ -40,7 +28,7 @@ fn fresh(p: &[u8], v: View, buf: &[u8], s: Spot, dir: usize, b: Nearby) -> bool
     if buf[n] != 1 {
         return false;
     }
-    if side(p, v, s.hex, dir, n) == ground::BLOCKED {
+    if ground::between(p, v, s.hex, n, dir) == ground::BLOCKED {
         return false;
     }
     true

@@ -39,18 +39,18 @@ returns-2 : tie.Need-returns-2
 unfolding mark
 returns-2 c = shut-seen _ _ _ _ _ (there (c .before .before)) (c .if1 .taken)
 
-side-requires : tie.Need-side-requires
-side-requires c κs =
+between-requires : tie.Need-between-requires
+between-requires c κs =
     let s = c .before .before .before .before .before .before .before in
     (s .pre .0 .0, s .pre .0 .1, there (c .before .before))
 
 returns-3 : tie.Need-returns-3
-returns-3 c = shut-blocked _ _ _ _ (sym (c .before .side .ensures) ∙ c .if2 .taken)
+returns-3 c = shut-blocked _ _ _ _ (sym (c .before .between .ensures .is) ∙ c .if2 .taken)
 
 returns-4 : tie.Need-returns-4
 unfolding mark
 returns-4 c =
-    opens _ _ _ _ _ (there (c .before .before .before .before)) (λ q. c .if2 .left (c .before .side .ensures ∙ q)) (c .before .before .if1 .left)
+    opens _ _ _ _ _ (there (c .before .before .before .before)) (λ q. c .if2 .left (c .before .between .ensures .is ∙ q)) (c .before .before .if1 .left)
 
 pub fresh-spec : {M : Type 1} → statement M
 fresh-spec =
@@ -61,6 +61,6 @@ fresh-spec =
     returns
     shared-slice-read-if1
     returns-2
-    side-requires
+    between-requires
     returns-3
     returns-4)

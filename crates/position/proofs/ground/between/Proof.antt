@@ -1,12 +1,12 @@
--- `cast::between` meets its contract: the hex keeps the side, or the neighbour does.
+-- `ground::between` meets its contract: the hex keeps the side, or the neighbour does.
 -- Assumes nothing.
 use mathlib.Core.Path.{sym, _∙_}
 use native.Mathlib.Omega.{arith}
 use Rattle.position.specs.Board.{ground}
 use Rattle.position.proofs.Sides.{side-own, side-beyond}
 use borrow.Author.Needs.{needs}
-use Rattle.paint.proofs.cast.between.Statement.{statement}
-use Rattle.paint.proofs.cast.between.Tie as tie
+use Rattle.position.proofs.ground.between.Statement.{statement}
+use Rattle.position.proofs.ground.between.Tie as tie
 
 stored-requires : tie.Need-stored-requires
 stored-requires c κs = search needs
