@@ -1,0 +1,5 @@
+pub mod Stand
+pub mod Chain
+pub mod Series
+pub mod Follows
+pub mod Serves

@@ -1,0 +1,41 @@
+-- A series of pushes: the steps of a retreat, each with its chain.
+-- Assumes nothing.
+use Prim.Native.Nat.{ℕ, zero, suc, _<_}
+use mathlib.Core.Path.{_≡_}
+use mathlib.Core.List.{List, [], _∷_, _++_}
+use lib.ListN.{length}
+use Rattle.grid.specs.declared.Beside.the-variants.{At}
+use Rattle.position.specs.Board.{Board}
+use Rattle.chains.specs.declared.Stand.the-variants.{Free, Loose}
+use Rattle.chains.specs.Stand.{stand}
+use Rattle.chains.specs.Chain.{Land, landOf, Stands, Chain, most, after}
+
+-- after i steps the group stands in hex x, having gone in direction d from hex a over an unblocked side, at distance i
+pub record Onto (g : Land) (i a d x : ℕ) : Type 0 where
+  pub dir : d < 6
+  pub leads : g .next a d ≡ At x
+  pub away : g .far x ≡ i
+
+-- the hexes that the group enters from hex a on, after i steps, and the hexes that pushed stacks go to
+pub data Series (g : Land) : Stands → ℕ → ℕ → List ℕ → List ℕ → Type 0 where
+  stay : {s : Stands} {i a : ℕ} → Series g s i a [] []
+  -- "A step into a vacant hex takes none."
+  walk :
+      {s : Stands} {i a x : ℕ} {route pushes : List ℕ} (d : ℕ) → Onto g (suc i) a d x → s x ≡ Free
+      → Series g s (suc i) x route pushes → Series g s i a (x ∷ route) pushes
+  -- "Each step's chain is done before the next step."
+  shove :
+      {s : Stands} {i a x y : ℕ} {route chain pushes : List ℕ} (d : ℕ) → Onto g (suc i) a d x → s x ≡ Loose
+      → Chain g s (a ∷ []) most x chain y → Series g (after s x y) (suc i) x route pushes
+      → Series g s i a (x ∷ route) (chain ++ pushes)
+
+-- route and pushes are legal for a group of force f in hex `start` that owes n hexes
+pub record LegalSeries (b : Board) (f start n : ℕ) (route pushes : List ℕ) : Type 0 where
+  pub long : length route ≡ n
+  pub series : Series (landOf b start) (stand b f start) 0 start route pushes
+
+-- "such a series of pushes exists"
+pub record SeriesExists (b : Board) (f start n : ℕ) : Type 0 where
+  pub route : List ℕ
+  pub pushes : List ℕ
+  pub legal : LegalSeries b f start n route pushes
