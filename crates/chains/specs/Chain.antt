@@ -7,23 +7,16 @@ use mathlib.Core.List.{List, [], _∷_}
 use lib.Dec.{eqb}
 use Rattle.grid.specs.declared.Beside.{Beside}
 use Rattle.grid.specs.declared.Beside.the-variants.{At, Off}
-use Rattle.grid.specs.Walk.{distanceOf}
 use Rattle.position.specs.Tally.{any}
-use Rattle.position.specs.Board.{Board}
-use Rattle.position.specs.Ground.{next, isAt}
+use Rattle.position.specs.Ground.{isAt}
 use Rattle.field.specs.Listed.{named}
 use Rattle.chains.specs.declared.Stand.{Stand}
 use Rattle.chains.specs.declared.Stand.the-variants.{Free, Loose}
 use Rattle.chains.specs.Stand.{isFree, isLoose}
 
--- what chains run over: so many hexes, where a step over an unblocked side leads, and how far a hex lies from where the retreat started
-pub record Land : Type 0 where
-  pub hexes : ℕ
-  pub next : ℕ → ℕ → Beside
-  pub far : ℕ → ℕ
-
-unfoldable pub landOf : Board → ℕ → Land
-landOf b start = record { hexes = b .map .hexes; next = next (b .map); far = distanceOf (b .map .width) start }
+-- where a step over an unblocked side leads, from a hex in a direction
+abbrev pub Ways : Type 0
+Ways = ℕ → ℕ → Beside
 
 -- what each hex is to those who move
 abbrev pub Stands : Type 0
@@ -43,24 +36,24 @@ leadsTo t (At z) = t z
 leadsTo t Off = false
 
 -- hex z is next to hex h over an unblocked side
-unfoldable pub leads : Land → ℕ → ℕ → Bool
-leads g h z = any (λ d. isAt (g .next h d) z) 6
+unfoldable pub leads : Ways → ℕ → ℕ → Bool
+leads next h z = any (λ d. isAt (next h d) z) 6
 
 -- "A pushed stack uses a vacant hex if it has one": the stack in hex h has one
-unfoldable pub hasRest : Land → Stands → List ℕ → ℕ → Bool
-hasRest g s used h = any (λ d. leadsTo (rests s used) (g .next h d)) 6
+unfoldable pub hasRest : Ways → Stands → List ℕ → ℕ → Bool
+hasRest next s used h = any (λ d. leadsTo (rests s used) (next h d)) 6
 
 -- the hexes that pushed stacks go to, from the stack in hex h on, and the last of them, which is vacant. `used` are the hexes of the chain
 -- before h, "which begins with the group's own hex"; `left` is how many stacks may still be pushed: "at most three"
-pub data Chain (g : Land) (s : Stands) : List ℕ → ℕ → ℕ → List ℕ → ℕ → Type 0 where
+pub data Chain (next : Ways) (s : Stands) : List ℕ → ℕ → ℕ → List ℕ → ℕ → Type 0 where
   -- "uses a vacant hex if it has one"
   rest :
-      {used : List ℕ} {left h z : ℕ} (d : ℕ) → d < 6 → g .next h d ≡ At z → rests s (h ∷ used) z ≡ true
-      → Chain g s used (suc left) h (z ∷ []) z
+      {used : List ℕ} {left h z : ℕ} (d : ℕ) → d < 6 → next h d ≡ At z → rests s (h ∷ used) z ≡ true
+      → Chain next s used (suc left) h (z ∷ []) z
   -- "else pushes in its turn"
   push :
-      {used : List ℕ} {left h z last : ℕ} {zs : List ℕ} (d : ℕ) → d < 6 → g .next h d ≡ At z → hasRest g s (h ∷ used) h ≡ false
-      → yields s (h ∷ used) z ≡ true → Chain g s (h ∷ used) left z zs last → Chain g s used (suc left) h (z ∷ zs) last
+      {used : List ℕ} {left h z last : ℕ} {zs : List ℕ} (d : ℕ) → d < 6 → next h d ≡ At z → hasRest next s (h ∷ used) h ≡ false
+      → yields s (h ∷ used) z ≡ true → Chain next s (h ∷ used) left z zs last → Chain next s used (suc left) h (z ∷ zs) last
 
 -- "A chain .. pushes at most three stacks"
 abbrev pub most : ℕ

@@ -11,8 +11,8 @@ use Rattle.position.specs.Board.{Board}
 use Rattle.chains.specs.declared.Stand.{Stand}
 use Rattle.chains.specs.declared.Stand.the-variants.{Shut, Free, Loose}
 use Rattle.chains.specs.Stand.{stand}
-use Rattle.chains.specs.Chain.{Land, landOf, Stands, rests, yields, leads, hasRest, most, after}
-use Rattle.chains.specs.Series.{LegalSeries}
+use Rattle.chains.specs.Chain.{Ways, Stands, rests, yields, leads, hasRest, most, after}
+use Rattle.chains.specs.Series.{Land, landOf, LegalSeries}
 
 -- what a chain takes off the pushes that were sent: it comes to its last hex and leaves the rest of them, or it is wrong
 pub data Taken : Type 0 where
@@ -20,13 +20,13 @@ pub data Taken : Type 0 where
   wrong : Taken
 
 -- the pushes "delimit themselves": the chain ends at the first vacant hex
-unfoldable pub takes : Land → Stands → List ℕ → ℕ → ℕ → List ℕ → Taken
-takes g s used left h [] = wrong
-takes g s used zero h (z ∷ zs) = wrong
-takes g s used (suc left) h (z ∷ zs) =
-    cond (leads g h z)
+unfoldable pub takes : Ways → Stands → List ℕ → ℕ → ℕ → List ℕ → Taken
+takes next s used left h [] = wrong
+takes next s used zero h (z ∷ zs) = wrong
+takes next s used (suc left) h (z ∷ zs) =
+    cond (leads next h z)
     (cond (rests s (h ∷ used) z) (upTo z zs)
-    (cond (hasRest g s (h ∷ used) h) wrong (cond (yields s (h ∷ used) z) (takes g s (h ∷ used) left z zs) wrong)))
+    (cond (hasRest next s (h ∷ used) h) wrong (cond (yields s (h ∷ used) z) (takes next s (h ∷ used) left z zs) wrong)))
     wrong
 
 abbrev pub none : List ℕ → Bool
@@ -49,10 +49,10 @@ byTaken on (upTo y ps) = on y ps
 unfoldable pub follows : Land → Stands → ℕ → ℕ → List ℕ → List ℕ → Bool
 follows g s i a [] ps = none ps
 follows g s i a (x ∷ route) ps =
-    leads g a x
+    leads (g .next) a x
     && (eqb (g .far x) (suc i)
     && byStand (follows g s (suc i) x route ps)
-    (byTaken (λ y qs. follows g (after s x y) (suc i) x route qs) (takes g s (a ∷ []) most x ps))
+    (byTaken (λ y qs. follows g (after s x y) (suc i) x route qs) (takes (g .next) s (a ∷ []) most x ps))
     (s x))
 
 -- route and pushes are legal: this is asked where "only pushes serve and route or pushes are not legal" is refused

@@ -9,21 +9,21 @@ use lib.Dec.{eqb}
 use Rattle.position.specs.Tally.{any}
 use Rattle.position.specs.Board.{Board}
 use Rattle.chains.specs.Stand.{stand}
-use Rattle.chains.specs.Chain.{Land, landOf, Stands, rests, yields, leadsTo, leads, hasRest, most, after}
-use Rattle.chains.specs.Series.{SeriesExists}
+use Rattle.chains.specs.Chain.{Ways, Stands, rests, yields, leadsTo, leads, hasRest, most, after}
+use Rattle.chains.specs.Series.{Land, landOf, SeriesExists}
 use Rattle.chains.specs.Follows.{byStand}
 
 -- a chain from the stack in hex h on may end in hex y. It grows by a hex each time, so those not used become fewer
-unfoldable pub endsIn : Land → Stands → List ℕ → ℕ → ℕ → ℕ → Bool
-endsIn g s used zero h y = false
-endsIn g s used (suc left) h y =
-    cond (hasRest g s (h ∷ used) h)
-    (leads g h y && rests s (h ∷ used) y)
-    (any (λ d. leadsTo (λ z. yields s (h ∷ used) z && endsIn g s (h ∷ used) left z y) (g .next h d)) 6)
+unfoldable pub endsIn : Ways → Stands → List ℕ → ℕ → ℕ → ℕ → Bool
+endsIn next s used zero h y = false
+endsIn next s used (suc left) h y =
+    cond (hasRest next s (h ∷ used) h)
+    (leads next h y && rests s (h ∷ used) y)
+    (any (λ d. leadsTo (λ z. yields s (h ∷ used) z && endsIn next s (h ∷ used) left z y) (next h d)) 6)
 
 -- the group, gone from hex a into hex x, can be brought further, if `on` says how from there: with the chain that ends in hex y,
 unfoldable pub onWith : Land → (Stands → ℕ → Bool) → Stands → ℕ → ℕ → ℕ → Bool
-onWith g on s a x y = endsIn g s (a ∷ []) most x y && on (after s x y) x
+onWith g on s a x y = endsIn (g .next) s (a ∷ []) most x y && on (after s x y) x
 
 -- or with no chain or any, after i steps
 unfoldable pub onOver : Land → (Stands → ℕ → Bool) → Stands → ℕ → ℕ → ℕ → Bool
