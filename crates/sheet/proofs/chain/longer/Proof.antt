@@ -1,0 +1,11 @@
+use Rattle.sheet.proofs.chain.longer.Statement.{statement}
+use Rattle.sheet.proofs.chain.longer.Tie as tie
+use Rattle.sheet.proofs.chain.longer.Reads as reads
+use Rattle.sheet.proofs.chain.longer.Lts as lts
+
+-- src/chain.rt:44:1
+returns : tie.Need-returns
+returns c = ?
+
+pub longer-spec : {M : Type 1} → statement M
+longer-spec = tie.close (tie.spec returns)

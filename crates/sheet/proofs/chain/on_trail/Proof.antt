@@ -1,0 +1,19 @@
+use Rattle.sheet.proofs.chain.on_trail.Statement.{statement}
+use Rattle.sheet.proofs.chain.on_trail.Tie as tie
+use Rattle.sheet.proofs.chain.on_trail.Reads as reads
+use Rattle.sheet.proofs.chain.on_trail.Lts as lts
+
+-- src/chain.rt:35:9
+returns : tie.Need-returns
+returns c = ?
+
+-- src/chain.rt:38:9
+returns-2 : tie.Need-returns-2
+returns-2 c = ?
+
+-- src/chain.rt:30:1
+returns-3 : tie.Need-returns-3
+returns-3 c = ?
+
+pub on-trail-spec : {M : Type 1} → statement M
+on-trail-spec = tie.close (tie.spec returns returns-2 returns-3)

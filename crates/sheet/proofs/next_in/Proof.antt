@@ -1,0 +1,49 @@
+use borrow.Author.Needs.{needs}
+use Rattle.sheet.proofs.next_in.Statement.{statement}
+use Rattle.sheet.proofs.next_in.Tie as tie
+use Rattle.sheet.proofs.next_in.Reads as reads
+use Rattle.sheet.proofs.next_in.Lts as lts
+use Rattle.grid.proofs.neighbour.Reads as neighbour-reads
+use Rattle.position.proofs.bits.has.Reads as has-reads
+use Rattle.position.proofs.layout.wide.Reads as wide-reads
+use Rattle.sheet.proofs.side_bit.Reads as side-bit-reads
+
+-- src/lib.rt:58:18
+side-bit-requires : tie.Need-side-bit-requires
+side-bit-requires c κs = search needs
+
+-- src/lib.rt:58:44
+shared-slice-read-wide : tie.Need-shared-slice-read-wide
+shared-slice-read-wide c = search needs
+
+-- src/lib.rt:58:31
+wide-requires : tie.Need-wide-requires
+wide-requires c κs = search needs
+
+-- src/lib.rt:58:8
+has-requires : tie.Need-has-requires
+has-requires c κs = search needs
+
+-- src/lib.rt:59:9
+neighbour-requires : tie.Need-neighbour-requires
+neighbour-requires c κs = search needs
+
+-- src/lib.rt:59:9
+returns : tie.Need-returns
+returns c = ?
+
+-- src/lib.rt:54:1
+returns-2 : tie.Need-returns-2
+returns-2 c = ?
+
+pub next-in-spec : {M : Type 1} → statement M
+next-in-spec =
+    tie.close
+    (tie.spec
+    side-bit-requires
+    shared-slice-read-wide
+    wide-requires
+    has-requires
+    neighbour-requires
+    returns
+    returns-2)

@@ -1,0 +1,20 @@
+use borrow.Author.Needs.{needs}
+use Rattle.sheet.proofs.restood.Statement.{statement}
+use Rattle.sheet.proofs.restood.Tie as tie
+use Rattle.sheet.proofs.restood.Reads as reads
+use Rattle.sheet.proofs.restood.Lts as lts
+
+-- src/lib.rt:69:5
+sub-result : tie.Need-sub-result
+sub-result c = search needs
+
+-- src/lib.rt:69:5
+add-result : tie.Need-add-result
+add-result c = search needs
+
+-- src/lib.rt:65:1
+returns : tie.Need-returns
+returns c = ?
+
+pub restood-spec : {M : Type 1} → statement M
+restood-spec = tie.close (tie.spec sub-result add-result returns)

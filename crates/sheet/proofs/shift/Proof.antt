@@ -1,0 +1,72 @@
+use borrow.Author.Needs.{needs}
+use Rattle.sheet.proofs.shift.Statement.{statement}
+use Rattle.sheet.proofs.shift.Tie as tie
+use Rattle.sheet.proofs.shift.Reads as reads
+use Rattle.sheet.proofs.shift.Lts as lts
+use Rattle.position.proofs.layout.wide.Reads as wide-reads
+use Rattle.sheet.proofs.restood.Reads as restood-reads
+
+-- src/lib.rt:77:37
+slice-read-wide : tie.Need-slice-read-wide
+slice-read-wide c = search needs
+
+-- src/lib.rt:77:24
+wide-requires : tie.Need-wide-requires
+wide-requires c κs = search needs
+
+-- src/lib.rt:77:16
+restood-requires : tie.Need-restood-requires
+restood-requires c κs = search needs
+
+-- src/lib.rt:77:16
+cast-sheet : tie.Need-cast-sheet
+cast-sheet c = search needs
+
+-- src/lib.rt:77:5
+slice-write-sheet : tie.Need-slice-write-sheet
+slice-write-sheet c = search needs
+
+-- src/lib.rt:78:37
+slice-read-wide-2 : tie.Need-slice-read-wide-2
+slice-read-wide-2 c = search needs
+
+-- src/lib.rt:78:24
+wide-requires-2 : tie.Need-wide-requires-2
+wide-requires-2 c κs = search needs
+
+-- src/lib.rt:78:16
+restood-requires-2 : tie.Need-restood-requires-2
+restood-requires-2 c κs = search needs
+
+-- src/lib.rt:78:16
+cast-sheet-2 : tie.Need-cast-sheet-2
+cast-sheet-2 c = search needs
+
+-- src/lib.rt:78:5
+slice-write-sheet-2 : tie.Need-slice-write-sheet-2
+slice-write-sheet-2 c = search needs
+
+-- src/lib.rt:73:1
+same-length : tie.Need-same-length
+same-length c = search needs
+
+-- src/lib.rt:73:1
+returns : tie.Need-returns
+returns c = ?
+
+pub shift-spec : {M : Type 1} → statement M
+shift-spec =
+    tie.close
+    (tie.spec
+    slice-read-wide
+    wide-requires
+    restood-requires
+    cast-sheet
+    slice-write-sheet
+    slice-read-wide-2
+    wide-requires-2
+    restood-requires-2
+    cast-sheet-2
+    slice-write-sheet-2
+    same-length
+    returns)

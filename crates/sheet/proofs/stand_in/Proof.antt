@@ -1,0 +1,30 @@
+use borrow.Author.Needs.{needs}
+use Rattle.sheet.proofs.stand_in.Statement.{statement}
+use Rattle.sheet.proofs.stand_in.Tie as tie
+use Rattle.sheet.proofs.stand_in.Reads as reads
+use Rattle.sheet.proofs.stand_in.Lts as lts
+use Rattle.position.proofs.layout.wide.Reads as wide-reads
+
+-- src/lib.rt:28:26
+shared-slice-read-wide : tie.Need-shared-slice-read-wide
+shared-slice-read-wide c = search needs
+
+-- src/lib.rt:28:13
+wide-requires : tie.Need-wide-requires
+wide-requires c κs = search needs
+
+-- src/lib.rt:30:9
+returns : tie.Need-returns
+returns c = ?
+
+-- src/lib.rt:33:9
+returns-2 : tie.Need-returns-2
+returns-2 c = ?
+
+-- src/lib.rt:24:1
+returns-3 : tie.Need-returns-3
+returns-3 c = ?
+
+pub stand-in-spec : {M : Type 1} → statement M
+stand-in-spec =
+    tie.close (tie.spec shared-slice-read-wide wide-requires returns returns-2 returns-3)

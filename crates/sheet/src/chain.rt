@@ -1,0 +1,150 @@
+// Chains of pushes: where each may end, by recursion over the places that it has not used.
+ghost use mathlib.Core.Path.{_≡_};
+ghost use mathlib.Core.List.{_∷_};
+ghost use Prim.Native.Nat.{_-_, _<_, _≤_};
+ghost use lib.ListN.{length};
+ghost use Rattle.field.specs.Listed.{named};
+ghost use Rattle.chains.specs.Chain.{rests, yields, hasRest};
+ghost use Rattle.chains.specs.Serves.{endsIn};
+ghost use Rattle.sheet.specs.Sheet.{standIn, nextIn};
+ghost use Rattle.sheet.specs.Trail.{trailOf, TrailOk};
+ghost use Rattle.sheet.specs.Ends.{Close, Marks, restsBeside, endMarked};
+use chains::Stand;
+use grid::Beside;
+use position::layout;
+
+// A place that is none.
+pub const NONE: usize = 182;
+
+// How far before and after the place of its first stack a chain may end.
+const REACH: usize = 45;
+
+// The places of a chain before the stack at hand, the last first, NONE where it has fewer. The group's own is one of them.
+pub struct Trail {
+    pub first: usize,
+    pub second: usize,
+    pub third: usize,
+}
+
+// Whether place `z` is one of them.
+fn on_trail(t: Trail, z: usize) -> bool
+    requires { ⌜ z < 182 ⌝ }
+    ensures { λ r. ⌜ r ≡ named (trailOf t) z ⌝ }
+{
+    if t.first == z {
+        return true;
+    }
+    if t.second == z {
+        return true;
+    }
+    t.third == z
+}
+
+// The trail with place `h` before it.
+pub fn longer(t: Trail, h: usize, left: usize) -> Trail
+    requires { ⌜ TrailOk t left × (2 ≤ left) × (h < 182) ⌝ }
+    ensures { λ r. ⌜ (trailOf r ≡ h ∷ trailOf t) × TrailOk r (left - 1) ⌝ }
+{
+    Trail {
+        first: h,
+        second: t.first,
+        third: t.second,
+    }
+}
+
+// Whether a stack in place `h` may go into place `z`: it is vacant, and not of the chain yet.
+pub fn rests(sheet: &[u8], t: Trail, h: usize, z: usize) -> bool
+    requires { ⌜ (length (now sheet) ≡ 182) × (z < 182) ⌝ }
+    ensures { λ r. ⌜ r ≡ rests (standIn (now (sheet .entry))) (h ∷ trailOf t) z ⌝ }
+{
+    let Stand::Free = crate::stand_in(sheet, z) else {
+        return false;
+    };
+    if h == z {
+        return false;
+    }
+    !on_trail(t, z)
+}
+
+// Whether it may push the stack there.
+pub fn yields(sheet: &[u8], t: Trail, h: usize, z: usize) -> bool
+    requires { ⌜ (length (now sheet) ≡ 182) × (z < 182) ⌝ }
+    ensures { λ r. ⌜ r ≡ yields (standIn (now (sheet .entry))) (h ∷ trailOf t) z ⌝ }
+{
+    let Stand::Loose = crate::stand_in(sheet, z) else {
+        return false;
+    };
+    if h == z {
+        return false;
+    }
+    !on_trail(t, z)
+}
+
+// Whether the stack in place `h` has a vacant one beside it.
+pub fn has_rest(sheet: &[u8], t: Trail, h: usize) -> bool
+    requires { ⌜ (length (now sheet) ≡ 182) × (h < 182) ⌝ }
+    ensures { λ r. ⌜ r ≡ hasRest (nextIn (now (sheet .entry))) (standIn (now (sheet .entry))) (h ∷ trailOf t) h ⌝ }
+{
+    for d in 0..6 {
+        let Beside::At(z) = crate::next_in(sheet, h, d) else {
+            continue;
+        };
+        if rests(sheet, t, h, z) {
+            return true;
+        }
+    }
+    false
+}
+
+// Marks the places beside place `h` into which its stack may go.
+fn mark_rests(sheet: &[u8], ends: &mut [u8], x: usize, t: Trail, h: usize)
+    requires { ⌜ (length (now sheet) ≡ 182) × (length (now ends) ≡ 91) × (x < 182) × Close x h 2 ⌝ }
+    ensures { λ _. ⌜ Marks x (restsBeside (nextIn (now (sheet .entry))) (standIn (now (sheet .entry))) (h ∷ trailOf t) h) (now (ends .entry)) (now (ends .exit)) ⌝ }
+{
+    for d in 0..6 {
+        let Beside::At(z) = crate::next_in(sheet, h, d) else {
+            continue;
+        };
+        if rests(sheet, t, h, z) {
+            ends[REACH + z - x] = 1;
+        }
+    }
+}
+
+// Marks the places in which a chain from the stack in place `h` on may end, where `left` stacks may still be pushed. Each turn uses a place
+// more, and so those not used become fewer.
+pub fn gather(sheet: &[u8], ends: &mut [u8], x: usize, t: Trail, left: usize, h: usize)
+    requires { ⌜ (length (now sheet) ≡ 182) × (length (now ends) ≡ 91) × (x < 182) × (1 ≤ left) × TrailOk t left × Close x h (3 - left) ⌝ }
+    ensures { λ _. ⌜ Marks x (endsIn (nextIn (now (sheet .entry))) (standIn (now (sheet .entry))) (trailOf t) left h) (now (ends .entry)) (now (ends .exit)) ⌝ }
+{
+    if has_rest(sheet, t, h) {
+        mark_rests(sheet, ends, x, t, h);
+        return;
+    }
+    if left < 2 {
+        return;
+    }
+    let used = longer(t, h, left);
+    for d in 0..6 {
+        let Beside::At(z) = crate::next_in(sheet, h, d) else {
+            continue;
+        };
+        if yields(sheet, t, h, z) {
+            gather(sheet, ends, x, used, left - 1, z);
+        }
+    }
+}
+
+// Whether a chain from place `x` on ends in place `y`, by the marks that `gather` has left.
+pub fn ends_in(ends: &[u8], x: usize, y: usize) -> bool
+    requires { ⌜ (length (now ends) ≡ 91) × (x < 182) × (y < 182) ⌝ }
+    ensures { λ r. ⌜ r ≡ endMarked (now (ends .entry)) x y ⌝ }
+{
+    if y + REACH < x {
+        return false;
+    }
+    if x + REACH < y {
+        return false;
+    }
+    layout::wide(ends[REACH + y - x]) == 1
+}
