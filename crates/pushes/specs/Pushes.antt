@@ -1,0 +1,16 @@
+-- What comes of an order where no vacant route exists.
+-- Assumes nothing.
+use Prim.Native.Nat.{ℕ}
+use mathlib.Core.Bool.{cond}
+use mathlib.Core.List.{List}
+use Rattle.position.specs.Board.{Board}
+use Rattle.chains.specs.Follows.{legalPushes}
+use Rattle.chains.specs.Serves.{pushesServe}
+use Rattle.pushes.specs.declared.Served.{Served}
+use Rattle.pushes.specs.declared.Served.the-variants.{None, Wrong, Right}
+
+-- "The group is destroyed exactly if neither a vacant route nor such a series of pushes exists"; where only pushes serve, "route and pushes
+-- must be legal together"
+unfoldable pub served : Board → ℕ → ℕ → ℕ → List ℕ → List ℕ → Served
+served b f start n route pushes =
+    cond (pushesServe b f start n) (cond (legalPushes b f start n route pushes) Right Wrong) None
