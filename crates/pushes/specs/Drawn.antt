@@ -24,13 +24,13 @@ standNumber Free = 1
 standNumber Loose = 2
 
 -- a step from hex x in direction d leads to a hex
-unfoldable pub open : Map → ℕ → ℕ → Bool
-open m x d = leadsTo (λ z. true) (next m x d)
+unfoldable pub opens : Map → ℕ → ℕ → Bool
+opens m x d = leadsTo (λ z. true) (next m x d)
 
 -- the bits of the directions before d in which one does
 unfoldable pub openBits : Map → ℕ → ℕ → ℕ
 openBits m x zero = 0
-openBits m x (suc d) = cond (open m x d) (sideBit d) 0 + openBits m x d
+openBits m x (suc d) = cond (opens m x d) (sideBit d) 0 + openBits m x d
 
 -- the byte of a place, by the hex that has it
 unfoldable pub byteOn : Board → ℕ → ℕ → Beside → ℕ
