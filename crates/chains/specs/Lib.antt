@@ -3,3 +3,4 @@ pub mod Chain
 pub mod Series
 pub mod Follows
 pub mod Serves
+pub mod Fold
