@@ -4,3 +4,4 @@ pub mod Series
 pub mod Follows
 pub mod Serves
 pub mod Fold
+pub mod Examples
