@@ -72,6 +72,7 @@ module _ {g g′ : Land} {at : ℕ → ℕ} {Near : ℕ → ℕ → Type 0} (f :
         (λ e. eq-eqb (at z) (at x) (ap at e) ∙ sym (eq-eqb z x e))
         (λ h. ne-eqb (at z) (at x) (λ e. h (f .one x z n e)) ∙ sym (ne-eqb z x h))
 
+  -- a copy is named among the copies exactly if the hex is named
   named-at : (used : List ℕ) (x : ℕ) → Near 6 x → named (map at used) (at x) ≡ named used x
   unfolding named
   named-at [] x n = refl
@@ -146,6 +147,7 @@ module _ {g g′ : Land} {at : ℕ → ℕ} {Near : ℕ → ℕ → Type 0} (f :
         (takes (g .next) s (h ∷ used) left z zs)))
         (λ e. simp (leads-at k h (omega arith) n z, e))
 
+  -- pushes are left over exactly if their copies are
   none-at : (ps : List ℕ) → none (map at ps) ≡ none ps
   none-at [] = refl
   none-at (p ∷ ps) = refl
