@@ -5,23 +5,14 @@ use mathlib.Core.Path.{_≡_, refl, ap}
 use mathlib.Core.Bool.{Bool, true, false, cond}
 use mathlib.Core.List.{List, [], _∷_, _++_}
 use native.Mathlib.Omega.{arith}
-use borrow.Author.Tests.{eqb-true, eq-eqb}
 use Rattle.grid.specs.declared.Beside.{Beside}
 use Rattle.grid.specs.declared.Beside.the-variants.{At, Off}
 use Rattle.position.specs.Tally.{any}
 use Rattle.position.specs.Ground.{isAt}
 use Rattle.position.proofs.Tallies.{not-both, either, any-some, any-true}
+use Rattle.routes.proofs.Steps.{is-at, at-is}
 use Rattle.chains.specs.Chain.{Ways, Stands, rests, yields, leadsTo, leads, hasRest, Chain, rest, push}
 use Rattle.chains.specs.Follows.{Taken, upTo, wrong, takes}
-
-is-at : (r : Beside) (z : ℕ) → isAt r z ≡ true → r ≡ At z
-unfolding isAt
-is-at (At y) z e = ap At (eqb-true y z e)
-is-at Off z e = not-both false e refl
-
-at-is : {r : Beside} {z : ℕ} → r ≡ At z → isAt r z ≡ true
-unfolding isAt
-at-is {z = z} e = rw e (eq-eqb z z refl)
 
 -- a step leads from hex h to hex z
 pub record Steps (next : Ways) (h z : ℕ) : Type 0 where
