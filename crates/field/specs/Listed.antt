@@ -31,6 +31,10 @@ offMap b s x k rest = refuseIf (leb (b .map .hexes) x) 3 k rest
 unfoldable pub onMapAll : Board → List ℕ → Verdict → Verdict
 onMapAll b path rest = along (offMap b) (λ s x. s) 0 path 1 (λ s. rest)
 
+-- the same for a list whose places are counted from k on
+unfoldable pub onMapFrom : Board → List ℕ → ℕ → Verdict → Verdict
+onMapFrom b path k rest = along (offMap b) (λ s x. s) 0 path k (λ s. rest)
+
 -- every number of the path is a hex of the map
 abbrev pub Charted : Board → List ℕ → Type 0
 Charted b path = (i : ℕ) → i < length path → getD path i 0 < b .map .hexes

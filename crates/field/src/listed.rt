@@ -5,7 +5,7 @@ ghost use lib.ListN.{length, take};
 ghost use Rattle.position.specs.Board.{board};
 ghost use Rattle.position.specs.Laid.{Laid};
 ghost use Rattle.ruling.specs.Judged.{TestedOf};
-ghost use Rattle.field.specs.Listed.{allThere, Counted, onMapAll, Charted, named};
+ghost use Rattle.field.specs.Listed.{allThere, Counted, onMapAll, onMapFrom, Charted, named};
 use position::View;
 use ruling::Tested;
 
@@ -23,18 +23,26 @@ pub fn all_there(p: &[u8], v: View, units: &[u16]) -> Tested
     Tested::Passed
 }
 
-// Refusal 3 along the path: every number is a hex of the map.
-pub fn on_map_all(p: &[u8], v: View, path: &[u16]) -> Tested
-    requires { ⌜ Laid (now p) v × (length (now path) < 31) ⌝ }
-    ensures { λ r. ⌜ TestedOf (now (p .entry)) (onMapAll (board (now (p .entry))) (now (path .entry))) (Charted (board (now (p .entry))) (now (path .entry))) r ⌝ }
+// Refusal 3 along a list of hexes whose places are counted from `k` on: every number is a hex of the map.
+pub fn on_map_from(p: &[u8], v: View, path: &[u16], k: usize) -> Tested
+    requires { ⌜ Laid (now p) v × (length (now path) < 31) × (k < 65536) ⌝ }
+    ensures { λ r. ⌜ TestedOf (now (p .entry)) (onMapFrom (board (now (p .entry))) (now (path .entry)) k) (Charted (board (now (p .entry))) (now (path .entry))) r ⌝ }
 {
     let hexes = v.hexes;
     for i in 0..path.len() {
         if hexes <= path[i] as usize {
-            return Tested::Stopped(3, i + 1);
+            return Tested::Stopped(3, k + i);
         }
     }
     Tested::Passed
+}
+
+// The same for a path, whose first place is 1.
+pub fn on_map_all(p: &[u8], v: View, path: &[u16]) -> Tested
+    requires { ⌜ Laid (now p) v × (length (now path) < 31) ⌝ }
+    ensures { λ r. ⌜ TestedOf (now (p .entry)) (onMapAll (board (now (p .entry))) (now (path .entry))) (Charted (board (now (p .entry))) (now (path .entry))) r ⌝ }
+{
+    on_map_from(p, v, path, 1)
 }
 
 // Whether unit `u` is among the first `n` of the list.

@@ -1,3 +1,4 @@
 pub mod Retreat
+pub mod Fate
 pub mod Answers
 pub mod Words

@@ -1,6 +1,6 @@
 -- Retreat: its refusals in their order, and what it changes.
 -- Assumes nothing.
-use Prim.Native.Nat.{ℕ, _-_, _<_}
+use Prim.Native.Nat.{ℕ, _+_, _-_, _<_}
 use mathlib.Core.Path.{_≡_}
 use mathlib.Core.Bool.{Bool, not, cond, _&&_, _||_}
 use mathlib.Core.List.{List, [], _∷_, _++_, map}
@@ -8,38 +8,49 @@ use lib.ListN.{length, getD}
 use lib.Dec.{leb, ltb, eqb}
 use Rattle.position.specs.Tally.{any}
 use Rattle.position.specs.Kind.{supplyKind}
-use Rattle.position.specs.Board.{Board, board, nowhere, forceOf}
+use Rattle.position.specs.Board.{Board, board, nowhere}
 use Rattle.position.specs.Crowd.{owesAt, routes}
 use Rattle.position.specs.Change.{Change}
 use Rattle.position.specs.Change.Change.{placed, destroyed, assigned, routed}
+use Rattle.position.specs.Effect.{change}
 use Rattle.acceptance.specs.Broken.{broken}
 use Rattle.ruling.specs.Verdict.{Verdict}
 use Rattle.ruling.specs.Verdict.Judge.{rule}
 use Rattle.ruling.specs.Verdict.Verdict.{refuseIf, judge}
-use Rattle.field.specs.Listed.{sieve, onMapAll}
+use Rattle.field.specs.Listed.{onMapAll, onMapFrom}
 use Rattle.routes.specs.Legal.{legal}
 use Rattle.routes.specs.Search.{firstRoute, found}
+use Rattle.chains.specs.Follows.{none, legalPushes}
+use Rattle.chains.specs.Serves.{pushesServe}
+use Rattle.shoves.specs.Group.{group, groupForce}
+use Rattle.shoves.specs.Shoves.{marches}
 use Rattle.aftermath.specs.Stage.{thenOn}
-
--- "Its role 1 units go together": the units that owe in hex h, in counter order
-unfoldable pub group : Board → ℕ → List ℕ
-group b h = sieve (owesAt b h) (b .units .count)
-
--- the force that owes there
-unfoldable pub groupForce : Board → ℕ → ℕ
-groupForce b h = forceOf b (getD (group b h) 0 0)
 
 -- a unit owes in hex h that is no supply unit
 unfoldable pub walksFrom : Board → ℕ → ℕ → Bool
 walksFrom b h u = owesAt b h u && not (eqb (b .units .kind u) supplyKind)
 
--- "If none exists, or only supply units owe, the group is destroyed"
-unfoldable pub doomed : Board → ℕ → Bool
-doomed b h = not (any (walksFrom b h) (b .units .count)) || not (found (firstRoute b (groupForce b h) h (b .desk .owed)))
+-- a vacant route exists for the group in hex h
+unfoldable pub hasRoute : Board → ℕ → Bool
+hasRoute b h = found (firstRoute b (groupForce b h) h (b .desk .owed))
 
--- "route not legal though one exists"
-unfoldable pub notLegal : Board → ℕ → List ℕ → Bool
-notLegal b h route = not (doomed b h) && not (legal b (groupForce b h) h (b .desk .owed) route)
+-- "such a series of pushes exists"
+unfoldable pub hasSeries : Board → ℕ → Bool
+hasSeries b h = pushesServe b (groupForce b h) h (b .desk .owed)
+
+-- "The group is destroyed exactly if neither a vacant route nor such a series of pushes exists", or if "only supply units owe"
+unfoldable pub doomed : Board → ℕ → Bool
+doomed b h = not (any (walksFrom b h) (b .units .count)) || not (hasRoute b h || hasSeries b h)
+
+-- "If a vacant route exists, the route must be one and the pushes empty, else 14"
+unfoldable pub notVacant : Board → ℕ → List ℕ → List ℕ → Bool
+notVacant b h route pushes =
+    not (doomed b h) && (hasRoute b h && not (legal b (groupForce b h) h (b .desk .owed) route && none pushes))
+
+-- "If only pushes serve, route and pushes must be legal together, else 17"
+unfoldable pub notPushed : Board → ℕ → List ℕ → List ℕ → Bool
+notPushed b h route pushes =
+    not (doomed b h) && (not (hasRoute b h) && not (legalPushes b (groupForce b h) h (b .desk .owed) route pushes))
 
 -- where the route ends
 unfoldable pub endOf : Board → List ℕ → ℕ
@@ -54,9 +65,15 @@ goesOff b end [] = []
 goesOff b end (u ∷ us) = leaves b end u ++ goesOff b end us
 
 -- "Else start and route are written."
+unfoldable pub noteOf : Board → ℕ → List ℕ → Change
+noteOf b h route = routed (routes b) h (getD route 0 nowhere) (getD route 1 nowhere) (getD route 2 nowhere)
+
 unfoldable pub retreatChanges : Board → ℕ → List ℕ → List Change
-retreatChanges b h route =
-    routed (routes b) h (getD route 0 nowhere) (getD route 1 nowhere) (getD route 2 nowhere) ∷ goesOff b (endOf b route) (group b h)
+retreatChanges b h route = noteOf b h route ∷ goesOff b (endOf b route) (group b h)
+
+-- the same with pushes: "Routes written are the group's own: start and route"
+unfoldable pub pushChanges : Board → ℕ → List ℕ → List ℕ → List Change
+pushChanges b h route pushes = noteOf b h route ∷ marches (change b (noteOf b h route)) h route pushes
 
 -- "the group is destroyed whatever route was sent, and the starting hex alone is written as the route"
 unfoldable pub doomChanges : Board → ℕ → List Change
@@ -71,21 +88,30 @@ pub record Owing (b : Board) (h : ℕ) : Type 0 where
   pub there : h < b .map .hexes
   pub now : b .desk .stage ≡ 1
 
--- a hex and a route of 0..3; "wrong stage (.. retreat 1 ..)", then 4: "hex lacks the role asked"
-abbrev pub groupChecks : Board → ℕ → List ℕ → Verdict → Verdict
-groupChecks b h route rest =
+-- a hex, a route of 0..3 and "pushes, a list of 0..9 hexes", places counted on through both; "wrong stage (.. retreat 1 ..)", then 4: "hex
+-- lacks the role asked"
+abbrev pub groupChecks : Board → ℕ → List ℕ → List ℕ → Verdict → Verdict
+groupChecks b h route pushes rest =
     refuseIf (ltb 3 (length route)) 3 0
+    (refuseIf (ltb 9 (length pushes)) 3 0
     (refuseIf (leb (b .map .hexes) h) 3 0
     (onMapAll b route
-    (refuseIf (not (eqb (b .desk .stage) 1)) 2 0 (refuseIf (not (any (owesAt b h) (b .units .count))) 4 0 rest))))
+    (onMapFrom b pushes (length route + 1)
+    (refuseIf (not (eqb (b .desk .stage) 1)) 2 0 (refuseIf (not (any (owesAt b h) (b .units .count))) 4 0 rest))))))
 
--- all the questions of a retreat, "retreat 4, 14", and what follows
-unfoldable pub retreatRule : Board → ℕ → List ℕ → Verdict
-retreatRule b h route =
-    groupChecks b h route
-    (refuseIf (notLegal b h route) 14 0
-    (judge (rule (retreatValues b h route) (thenOn b (cond (doomed b h) (doomChanges b h) (retreatChanges b h route))) [])))
+-- what the group does: it is destroyed, goes along a vacant route, or pushes
+unfoldable pub leaveChanges : Board → ℕ → List ℕ → List ℕ → List Change
+leaveChanges b h route pushes =
+    cond (doomed b h) (doomChanges b h) (cond (hasRoute b h) (retreatChanges b h route) (pushChanges b h route pushes))
+
+-- all the questions of a retreat, "retreat 4, 14", with 17 "in place of 14 where only pushes serve", and what follows
+unfoldable pub retreatRule : Board → ℕ → List ℕ → List ℕ → Verdict
+retreatRule b h route pushes =
+    groupChecks b h route pushes
+    (refuseIf (notVacant b h route pushes) 14 0
+    (refuseIf (notPushed b h route pushes) 17 0
+    (judge (rule (retreatValues b h route) (thenOn b (leaveChanges b h route pushes)) []))))
 
 -- the ruling on a retreat: refusal 1 unless the position is accepted
-unfoldable pub retreatVerdict : List ℕ → ℕ → List ℕ → Verdict
-retreatVerdict p h route = refuseIf (broken p) 1 0 (retreatRule (board p) h route)
+unfoldable pub retreatVerdict : List ℕ → ℕ → List ℕ → List ℕ → Verdict
+retreatVerdict p h route pushes = refuseIf (broken p) 1 0 (retreatRule (board p) h route pushes)

@@ -6,18 +6,19 @@ ghost use Prim.Native.Nat.{_<_, _≤_};
 ghost use lib.ListN.{getD};
 ghost use Rattle.position.specs.Board.{board, nowhere};
 ghost use Rattle.position.specs.Crowd.{owesAt};
-ghost use Rattle.position.specs.Change.{makes};
+ghost use Rattle.position.specs.Change.{make, makes};
 ghost use Rattle.position.specs.Change.Change.{destroyed};
 ghost use Rattle.position.specs.Laid.{Laid, Read};
 ghost use Rattle.aftermath.specs.Stage.{thenOn};
-ghost use Rattle.retreat.specs.Retreat.{group, leaves, goesOff, endOf, retreatChanges, doomChanges};
-use crate::asking;
+ghost use Rattle.shoves.specs.Group.{group};
+ghost use Rattle.retreat.specs.Retreat.{leaves, goesOff, endOf, noteOf, retreatChanges, pushChanges, doomChanges};
 use aftermath::stage;
 use position::View;
 use position::crowd;
 use position::kind::Kind;
 use position::read;
 use position::write;
+use shoves::group;
 
 // Number `i` of the route, 65535 if it has no more.
 fn hex_at(route: &[u16], i: usize) -> usize
@@ -47,7 +48,7 @@ fn leave_one(p: &mut [u8], v: View, h: usize, end: usize, u: usize)
     requires { ⌜ Laid (now p) v ⌝ }
     ensures { λ _. ⌜ now (p .exit) ≡ makes (now (p .entry)) (cond (owesAt (board (now (p .entry))) h u) (leaves (board (now (p .entry))) end u) []) ⌝ }
 {
-    if !asking::owes_at(p, v, h, u) {
+    if !group::owes_at(p, v, h, u) {
         return;
     }
     leave(p, v, end, u);
@@ -69,7 +70,7 @@ fn fall_one(p: &mut [u8], v: View, h: usize, u: usize)
     requires { ⌜ Laid (now p) v ⌝ }
     ensures { λ _. ⌜ now (p .exit) ≡ makes (now (p .entry)) (cond (owesAt (board (now (p .entry))) h u) (destroyed u ∷ []) []) ⌝ }
 {
-    if !asking::owes_at(p, v, h, u) {
+    if !group::owes_at(p, v, h, u) {
         return;
     }
     write::destroy(p, v, u);
@@ -86,10 +87,10 @@ fn fall_all(p: &mut [u8], v: View, h: usize)
     }
 }
 
-// The group in hex `h` goes off along the route; the answer is where it ends.
-pub fn go_off(p: &mut [u8], v: View, h: usize, route: &[u16]) -> usize
+// Start and route are written as the next route; the answer is where the route ends.
+fn note(p: &mut [u8], v: View, h: usize, route: &[u16]) -> usize
     requires { ⌜ Laid (now p) v × (h < 65536) × (1 ≤ board (now p) .desk .owed) ⌝ }
-    ensures { λ r. ⌜ (r ≡ endOf (board (now (p .entry))) (now (route .entry))) × (now (p .exit) ≡ makes (now (p .entry)) (thenOn (board (now (p .entry))) (retreatChanges (board (now (p .entry))) h (now (route .entry))))) ⌝ }
+    ensures { λ r. ⌜ (r ≡ endOf (board (now (p .entry))) (now (route .entry))) × (now (p .exit) ≡ make (now (p .entry)) (noteOf (board (now (p .entry))) h (now (route .entry)))) ⌝ }
 {
     let end = hex_at(route, read::owed(p, v) - 1);
     let r = crowd::routes(p, v);
@@ -102,7 +103,27 @@ pub fn go_off(p: &mut [u8], v: View, h: usize, route: &[u16]) -> usize
         hex_at(route, 1),
         hex_at(route, 2),
     );
+    end
+}
+
+// The group in hex `h` goes off along the vacant route; the answer is where it ends.
+pub fn go_off(p: &mut [u8], v: View, h: usize, route: &[u16]) -> usize
+    requires { ⌜ Laid (now p) v × (h < 65536) × (1 ≤ board (now p) .desk .owed) ⌝ }
+    ensures { λ r. ⌜ (r ≡ endOf (board (now (p .entry))) (now (route .entry))) × (now (p .exit) ≡ makes (now (p .entry)) (thenOn (board (now (p .entry))) (retreatChanges (board (now (p .entry))) h (now (route .entry))))) ⌝ }
+{
+    let end = note(p, v, h, route);
     leave_all(p, v, h, end);
+    stage::pass_on(p, v);
+    end
+}
+
+// The group in hex `h` goes off along the route and pushes friends out of it; the answer is where it ends.
+pub fn push_off(p: &mut [u8], v: View, h: usize, route: &[u16], pushes: &[u16]) -> usize
+    requires { ⌜ Laid (now p) v × (h < 65536) × (1 ≤ board (now p) .desk .owed) ⌝ }
+    ensures { λ r. ⌜ (r ≡ endOf (board (now (p .entry))) (now (route .entry))) × (now (p .exit) ≡ makes (now (p .entry)) (thenOn (board (now (p .entry))) (pushChanges (board (now (p .entry))) h (now (route .entry)) (now (pushes .entry))))) ⌝ }
+{
+    let end = note(p, v, h, route);
+    shoves::march_off(p, v, h, route, pushes);
     stage::pass_on(p, v);
     end
 }

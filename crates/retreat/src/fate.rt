@@ -1,0 +1,139 @@
+// What comes of a group that owes: it is lost, goes along a vacant route, pushes friends, or what was sent is refused.
+ghost use mathlib.Core.Path.{_≡_};
+ghost use Prim.Native.Nat.{_<_, _≤_};
+ghost use lib.ListN.{getD};
+ghost use Rattle.position.specs.Tally.{any};
+ghost use Rattle.position.specs.Board.{board};
+ghost use Rattle.position.specs.Laid.{Laid};
+ghost use Rattle.routes.specs.Legal.{legal};
+ghost use Rattle.pushes.specs.Pushes.{served};
+ghost use Rattle.shoves.specs.Group.{group, groupForce};
+ghost use Rattle.retreat.specs.Retreat.{walksFrom, hasRoute};
+ghost use Rattle.retreat.specs.Fate.{fateOf, servedFate};
+use position::View;
+use position::forces;
+use position::kind::Kind;
+use position::read;
+use pushes::Served;
+use routes::Found;
+use shoves::group;
+
+// Lost: destroyed whatever was sent. NoRoute and NoPushes: refused, since a vacant route exists or only pushes serve and what was sent is
+// none. Vacant and Pushing: it goes.
+pub enum Fate {
+    Lost,
+    NoRoute,
+    NoPushes,
+    Vacant,
+    Pushing,
+}
+
+// Whether unit `u` owes in hex `h` and is no supply unit.
+fn walks_from(p: &[u8], v: View, h: usize, u: usize) -> bool
+    requires { ⌜ Laid (now p) v ⌝ }
+    ensures { λ r. ⌜ r ≡ walksFrom (board (now (p .entry))) h u ⌝ }
+{
+    if !group::owes_at(p, v, h, u) {
+        return false;
+    }
+    read::kind(p, v, u) != Kind::SUPPLY
+}
+
+// Whether others than supply units owe in hex `h`.
+fn any_walks(p: &[u8], v: View, h: usize) -> bool
+    requires { ⌜ Laid (now p) v ⌝ }
+    ensures { λ r. ⌜ r ≡ any (walksFrom (board (now (p .entry))) h) (board (now (p .entry)) .units .count) ⌝ }
+{
+    let count = v.count;
+    let mut u = 0;
+    while u < count {
+        if walks_from(p, v, h, u) {
+            return true;
+        }
+        u += 1;
+    }
+    false
+}
+
+// The first unit that owes in hex `h`, 0 if none does.
+fn leader(p: &[u8], v: View, h: usize) -> usize
+    requires { ⌜ Laid (now p) v ⌝ }
+    ensures { λ r. ⌜ r ≡ getD (group (board (now (p .entry))) h) 0 0 ⌝ }
+{
+    let count = v.count;
+    let mut u = 0;
+    while u < count {
+        if group::owes_at(p, v, h, u) {
+            return u;
+        }
+        u += 1;
+    }
+    0
+}
+
+// The force that owes in hex `h`.
+fn group_force(p: &[u8], v: View, h: usize) -> usize
+    requires { ⌜ Laid (now p) v ⌝ }
+    ensures { λ r. ⌜ r ≡ groupForce (board (now (p .entry))) h ⌝ }
+{
+    forces::force_of(p, v, leader(p, v, h))
+}
+
+// Whether a legal route exists.
+fn has_route(p: &[u8], v: View, h: usize) -> bool
+    requires { ⌜ Laid (now p) v × (h < v .hexes) × (1 ≤ board (now p) .desk .owed) × (board (now p) .desk .owed ≤ 3) ⌝ }
+    ensures { λ r. ⌜ r ≡ hasRoute (board (now (p .entry))) h ⌝ }
+{
+    if let Found::Route(_, _, _) = routes::search(p, v, group_force(p, v, h), h, read::owed(p, v)) {
+        return true;
+    }
+    false
+}
+
+// Whether the route sent is legal for the group in hex `h`.
+fn may_go(p: &[u8], v: View, h: usize, route: &[u16]) -> bool
+    requires { ⌜ Laid (now p) v × (h < v .hexes) × (board (now p) .desk .owed ≤ 3) ⌝ }
+    ensures { λ r. ⌜ r ≡ legal (board (now (p .entry))) (groupForce (board (now (p .entry))) h) h (board (now (p .entry)) .desk .owed) (now (route .entry)) ⌝ }
+{
+    routes::is_legal(p, v, group_force(p, v, h), h, read::owed(p, v), route)
+}
+
+// What comes of it where no vacant route exists.
+fn by_pushes(p: &[u8], v: View, h: usize, route: &[u16], pushes: &[u16]) -> Fate
+    requires { ⌜ Laid (now p) v × (h < v .hexes) × (board (now p) .desk .owed ≤ 3) ⌝ }
+    ensures { λ r. ⌜ r ≡ servedFate (served (board (now (p .entry))) (groupForce (board (now (p .entry))) h) h (board (now (p .entry)) .desk .owed) (now (route .entry)) (now (pushes .entry))) ⌝ }
+{
+    match pushes::judge(
+        p,
+        v,
+        group_force(p, v, h),
+        h,
+        read::owed(p, v),
+        route,
+        pushes,
+    ) {
+        Served::None => Fate::Lost,
+        Served::Wrong => Fate::NoPushes,
+        Served::Right => Fate::Pushing,
+    }
+}
+
+// What comes of the group in hex `h`, which was sent this route and these pushes.
+pub fn fate(p: &[u8], v: View, h: usize, route: &[u16], pushes: &[u16]) -> Fate
+    requires { ⌜ Laid (now p) v × (h < v .hexes) × (1 ≤ board (now p) .desk .owed) × (board (now p) .desk .owed ≤ 3) ⌝ }
+    ensures { λ r. ⌜ r ≡ fateOf (board (now (p .entry))) h (now (route .entry)) (now (pushes .entry)) ⌝ }
+{
+    if !any_walks(p, v, h) {
+        return Fate::Lost;
+    }
+    if !has_route(p, v, h) {
+        return by_pushes(p, v, h, route, pushes);
+    }
+    if 0 < pushes.len() {
+        return Fate::NoRoute;
+    }
+    if may_go(p, v, h, route) {
+        return Fate::Vacant;
+    }
+    Fate::NoRoute
+}
