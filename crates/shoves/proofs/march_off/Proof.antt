@@ -1,64 +1,55 @@
+-- `march_off` meets its contract. The loop's invariant: the steps and pushes that are left, done to the position as it is, make what the
+-- whole march makes. The measure is how many steps are left.
+-- Assumes nothing.
+use Prim.Native.Nat.{_-_}
+use native.Mathlib.Omega.{arith}
+use borrow.Author.Needs.{needs}
+use Rattle.position.proofs.Changes.{laid-makes}
+use Rattle.shoves.proofs.Marching.{March, march-all, march-more, march-none}
 use Rattle.shoves.proofs.march_off.Statement.{statement}
 use Rattle.shoves.proofs.march_off.Tie as tie
-use Rattle.shoves.proofs.march_off.Reads as reads
-use Rattle.shoves.proofs.march_off.Lts as lts
-use Rattle.shoves.proofs.clear.clear.Reads as clear-reads
-use Rattle.shoves.proofs.group.free_all.Reads as free-all-reads
-use Rattle.shoves.proofs.group.step_all.Reads as step-all-reads
 
 abbrev Inv-loop : tie.InvT-loop
-Inv-loop p₀ v h route pushes a₀ k₀ i₀ i-end p a k i = ?
+Inv-loop p₀ v h route pushes a₀ k₀ i₀ i-end p a k i = March p₀ v h route pushes p a k i
 
 abbrev μ-loop : tie.MeasureT-loop
-μ-loop p₀ v h route pushes a₀ k₀ i₀ i-end p a k i = ?
+μ-loop p₀ v h route pushes a₀ k₀ i₀ i-end p a k i = i-end - i
 
--- src/lib.rt:20:5
 loop-holds : tie.Need-loop-holds Inv-loop μ-loop
-loop-holds c = ?
+loop-holds c = march-none (c .before .before .before .pre)
 
--- src/lib.rt:21:17
 mul-x : tie.Need-mul-x Inv-loop μ-loop
-mul-x c = ?
+mul-x c = search needs
 
--- src/lib.rt:21:17
 shared-slice-read-x : tie.Need-shared-slice-read-x Inv-loop μ-loop
-shared-slice-read-x c = ?
+shared-slice-read-x c = search needs
 
--- src/lib.rt:21:17
 cast-x : tie.Need-cast-x Inv-loop μ-loop
-cast-x c = ?
+cast-x c = omega (arith, c .shared-slice-known3 .given (c .before .before .loop .i))
 
--- src/lib.rt:22:9
 clear-requires : tie.Need-clear-requires Inv-loop μ-loop
-clear-requires c κs = ?
+clear-requires c κs = (c .before .before .before .loop .inv .laid, c .before .before .before .loop .inv .used)
 
--- src/lib.rt:23:9
 step-all-requires : tie.Need-step-all-requires Inv-loop μ-loop
-step-all-requires c κs = ?
+step-all-requires c κs = laid-makes _ (c .before .before .before .before .before .before .before .loop .inv .laid) (c .before .before .before .clear .ensures .2)
 
--- src/lib.rt:20:9
 add-i : tie.Need-add-i Inv-loop μ-loop
-add-i c = ?
+add-i c = search needs
 
--- src/lib.rt:20:5
 loop-less : tie.Need-loop-less Inv-loop μ-loop
-loop-less c = ?
+loop-less c = search needs
 
--- src/lib.rt:20:5
 loop-again : tie.Need-loop-again Inv-loop μ-loop
-loop-again c = ?
+loop-again c = march-more (c .before .before .before .before .before .before .before .before .before .before .loop .inv) (omega arith) (c .before .before .before .before .before .before .clear .ensures) (c .before .before .step-all .ensures)
 
--- src/lib.rt:26:5
 free-all-requires : tie.Need-free-all-requires Inv-loop μ-loop
-free-all-requires c κs = ?
+free-all-requires c κs = c .before .before .loop .inv .laid
 
--- src/lib.rt:14:1
 same-length : tie.Need-same-length Inv-loop μ-loop
-same-length c = ?
+same-length c = search needs
 
--- src/lib.rt:14:1
 returns : tie.Need-returns Inv-loop μ-loop
-returns c = ?
+returns c = march-all (c .before .before .before .before .before .loop .inv) (omega arith) (c .before .before .free-all .ensures)
 
 pub march-off-spec : {M : Type 1} → statement M
 march-off-spec =
