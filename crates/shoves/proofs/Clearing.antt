@@ -8,7 +8,7 @@ use native.Mathlib.Numerals.{add-one}
 use lib.ListN.{length, getD, drop, drop-of-length-le}
 use lib.Seq.{drop-cons}
 use Rattle.position.specs.Board.{Board, board}
-use Rattle.position.specs.Change.{Change, makes}
+use Rattle.position.specs.Change.{makes}
 use Rattle.position.specs.Effect.{changes}
 use Rattle.position.specs.Shape.{Shaped}
 use Rattle.position.proofs.Changes.{board-makes, makes-then}

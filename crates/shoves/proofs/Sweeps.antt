@@ -39,7 +39,8 @@ pub record Alike (t : Board → ℕ → Bool) : Type 0 where
 pub record Own (g : ℕ → List Change) : Type 0 where
   pub off : (b : Board) (u w : ℕ) → (w ≡ u → ⊥) → Same (b .units) (changes b (g u) .units) w
 
--- position q of a sweep over p: the units below u that passed have been dealt with, those from u on pass as they did, and no kind is another
+-- how far a sweep over p has come with q: the units below u that passed have been dealt with, those from u on pass as they did, and all
+-- kinds are the same
 pub record Sweep (t : Board → ℕ → Bool) (g : ℕ → List Change) (p : List ℕ) (v : View) (u : ℕ) (q : List ℕ) : Type 0 where
   pub most : u ≤ v .count
   pub laid : Laid q v

@@ -31,7 +31,9 @@ clear-requires : tie.Need-clear-requires Inv-loop μ-loop
 clear-requires c κs = (c .before .before .before .loop .inv .laid, c .before .before .before .loop .inv .used)
 
 step-all-requires : tie.Need-step-all-requires Inv-loop μ-loop
-step-all-requires c κs = laid-makes _ (c .before .before .before .before .before .before .before .loop .inv .laid) (c .before .before .before .clear .ensures .2)
+step-all-requires c κs =
+    let s = c .before .before .before .before .before .before .before in
+    laid-makes _ (s .loop .inv .laid) (c .before .before .before .clear .ensures .2)
 
 add-i : tie.Need-add-i Inv-loop μ-loop
 add-i c = search needs
@@ -40,7 +42,10 @@ loop-less : tie.Need-loop-less Inv-loop μ-loop
 loop-less c = search needs
 
 loop-again : tie.Need-loop-again Inv-loop μ-loop
-loop-again c = march-more (c .before .before .before .before .before .before .before .before .before .before .loop .inv) (omega arith) (c .before .before .before .before .before .before .clear .ensures) (c .before .before .step-all .ensures)
+loop-again c =
+    let s = c .before .before .before .before .before .before .before .before .before .before in
+    march-more (s .loop .inv) (omega arith) (c .before .before .before .before .before .before .clear .ensures)
+    (c .before .before .step-all .ensures)
 
 free-all-requires : tie.Need-free-all-requires Inv-loop μ-loop
 free-all-requires c κs = c .before .before .loop .inv .laid

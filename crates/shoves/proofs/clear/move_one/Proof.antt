@@ -24,8 +24,8 @@ same-length-2 c = search needs
 
 returns-2 : tie.Need-returns-2
 returns-2 c =
-    let e = sym (c .before .before .before .before .before .hex .ensures .is) ∙ c .before .before .before .before .if1 .left in
-    dealt-with _ _ _ (stands-here _ _ _ e) (shifts-there _ _ _ (c .before .before .place .ensures))
+    let n = c .before .before .before .before in
+    dealt-with _ _ _ (stands-here _ _ _ (sym (n .before .hex .ensures .is) ∙ n .if1 .left)) (shifts-there _ _ _ (c .before .before .place .ensures))
 
 pub move-one-spec : {M : Type 1} → statement M
 move-one-spec = tie.close (tie.spec hex-requires same-length returns place-requires same-length-2 returns-2)

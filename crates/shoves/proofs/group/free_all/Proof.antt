@@ -1,5 +1,5 @@
--- `group::free_all` meets its contract. The loop's invariant: the units passed that owed there have no role any more, the others are as they were.
--- The measure is how many are left.
+-- `group::free_all` meets its contract. The loop's invariant: the units passed that owed there have no role any more, the others are
+-- as they were. The measure is how many are left.
 -- Assumes nothing.
 use Prim.Native.Nat.{_-_}
 use native.Mathlib.Omega.{arith}

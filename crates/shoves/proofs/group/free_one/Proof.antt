@@ -24,8 +24,8 @@ same-length-2 c = search needs
 
 returns-2 : tie.Need-returns-2
 returns-2 c =
-    let e = sym (c .before .before .before .before .before .owes-at .ensures) ∙ not-false _ (c .before .before .before .before .if1 .left) in
-    dealt-with _ _ _ e (frees-it _ _ (c .before .before .assign .ensures))
+    let n = c .before .before .before .before in
+    dealt-with _ _ _ (sym (n .before .owes-at .ensures) ∙ not-false _ (n .if1 .left)) (frees-it _ _ (c .before .before .assign .ensures))
 
 pub free-one-spec : {M : Type 1} → statement M
 free-one-spec = tie.close (tie.spec owes-at-requires same-length returns assign-requires same-length-2 returns-2)

@@ -17,8 +17,8 @@ same-length c = search needs
 
 returns : tie.Need-returns
 returns c =
-    goes-supply _ _ _ (sym (c .before .before .before .before .before .kind .ensures .is) ∙ c .before .before .before .before .if1 .taken)
-    (c .before .before .destroy .ensures)
+    let n = c .before .before .before .before in
+    goes-supply _ _ _ (sym (n .before .kind .ensures .is) ∙ n .if1 .taken) (c .before .before .destroy .ensures)
 
 place-requires : tie.Need-place-requires
 place-requires c κs = search needs
@@ -28,8 +28,8 @@ same-length-2 c = search needs
 
 returns-2 : tie.Need-returns-2
 returns-2 c =
-    goes-there _ _ _ (λ e. c .before .before .before .before .if1 .left (c .before .before .before .before .before .kind .ensures .is ∙ e))
-    (c .before .before .place .ensures)
+    let n = c .before .before .before .before in
+    goes-there _ _ _ (λ e. n .if1 .left (n .before .kind .ensures .is ∙ e)) (c .before .before .place .ensures)
 
 pub go-spec : {M : Type 1} → statement M
 go-spec = tie.close (tie.spec kind-requires destroy-requires same-length returns place-requires same-length-2 returns-2)

@@ -24,8 +24,8 @@ same-length-2 c = search needs
 
 returns-2 : tie.Need-returns-2
 returns-2 c =
-    let e = sym (c .before .before .before .before .before .owes-at .ensures) ∙ not-false _ (c .before .before .before .before .if1 .left) in
-    dealt-with _ _ _ e (c .before .before .go .ensures)
+    let n = c .before .before .before .before in
+    dealt-with _ _ _ (sym (n .before .owes-at .ensures) ∙ not-false _ (n .if1 .left)) (c .before .before .go .ensures)
 
 pub step-one-spec : {M : Type 1} → statement M
 step-one-spec = tie.close (tie.spec owes-at-requires same-length returns go-requires same-length-2 returns-2)
