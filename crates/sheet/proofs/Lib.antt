@@ -1,2 +1,4 @@
 pub mod Given
 pub mod Searching
+pub mod Taking
+pub mod Following

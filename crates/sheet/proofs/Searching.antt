@@ -24,7 +24,7 @@ use Rattle.sheet.specs.Ends.{Blank, Close, Marks, endMarked, room}
 use Rattle.sheet.specs.declared.chain.Trail.{Trail}
 use Rattle.sheet.specs.Trail.{TrailOk, before, trailOf}
 use Rattle.sheet.specs.Search.{further, servesIn, overIn, withIn, shovesIn}
-use Rattle.sheet.proofs.Given.{ended, shifted-stands, shifted-ways}
+use Rattle.sheet.proofs.Given.{ended, shifted-back, shifted-stands, shifted-ways}
 
 -- a place of the sheet is a hex of its map
 pub on-sheet : (i : ℕ) → i < places → On wide high i
@@ -163,25 +163,9 @@ module _ {home : ℕ} {l ends : List ℕ} {k i a x : ℕ} {m : List ℕ} {y : �
   unfolding shovesIn
   unended b = let e : places ≡ y = omega (arith, u .most) in ap (any (withIn home l k i a x)) e ∙ u .none
 
--- the bytes of two places are written back
-pub restored :
-    (l : List ℕ) (x y : ℕ) → set (set (shifted l x y) y (getD l y 0)) x (getD l x 0) ≡ l
-unfolding shifted
-restored l x y =
-    let u : ℕ = restood (byte l x) 1 in
-    let v : ℕ = restood (byte (set l x u) y) 2 in
-    same-or x y
-    (λ e. rw e (rw (set-set) (rw set-set (rw set-set (set-getD l y 0)))))
-    (λ h.
-    ap (λ (m : List ℕ). set m x (getD l x 0))
-    (set-set (set l x u) y v (getD l y 0) ∙ set-comm l x y u (getD l y 0) h ∙ ap (λ (m : List ℕ). set m x u) (set-getD l y 0))
-    ∙ set-set l x u (getD l x 0) ∙ set-getD l x 0)
-
--- what is said of a sheet after a chain, where it is the same list
-pub shifted-back :
-    {l m n : List ℕ} (x y : ℕ) → m ≡ shifted l x y → n ≡ m → set (set n y (getD l y 0)) x (getD l x 0) ≡ l
-shifted-back {l} x y e f =
-    ap (λ (q : List ℕ). set (set q y (getD l y 0)) x (getD l x 0)) (f ∙ e) ∙ restored l x y
+-- the bytes of the two places that a chain changed are put back
+pub put-back : {l m n : List ℕ} (x y : ℕ) → m ≡ shifted l x y → n ≡ m → set (set n y (byte l y)) x (byte l x) ≡ l
+put-back {l} x y e f = ap (λ (q : List ℕ). set (set q y (byte l y)) x (byte l x)) (f ∙ e) ∙ shifted-back l x y
 
 -- a trail of one place
 pub own-trail : (t : Trail) → t .first < places → t .second ≡ places → t .third ≡ places → trailOf t ≡ t .first ∷ []

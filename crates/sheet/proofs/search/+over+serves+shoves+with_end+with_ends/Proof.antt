@@ -12,7 +12,7 @@ use lib.ListN.{length, length-set}
 use Rattle.position.proofs.Tallies.{any-zero}
 use Rattle.sheet.proofs.Given.{next-below}
 use Rattle.sheet.proofs.Searching.{Unserved, Unended, blank, close-self, gathered, on-sheet, own-ok}
-use Rattle.sheet.proofs.Searching.{over-far, over-free, over-loose, over-shut, served, serves-done, shifted-back, shoved}
+use Rattle.sheet.proofs.Searching.{over-far, over-free, over-loose, over-shut, served, serves-done, put-back, shoved}
 use Rattle.sheet.proofs.Searching.{unended, unended-not, unended-with, unserved, unserved-off, unserved-over}
 use Rattle.sheet.proofs.search.over.Reads as over
 use Rattle.sheet.proofs.search.over.Kinds as over-kinds
@@ -176,7 +176,7 @@ serves-over-requires t c κs = let p = c .before .before .before .before .before
     ap length (c .before .before .before .before .before .before .before .loop .inv .same) ∙ p .0,
     p .1,
     p .2,
-    next-below _ _ _ _ (p .2) (sym (c .before .before .before .before .next-in .ensures) ∙ c .before .before .x .given .1),
+    next-below _ _ _ _ (sym (c .before .before .before .before .next-in .ensures) ∙ c .before .before .x .given .1),
     omega arith,
   ),
 )
@@ -242,13 +242,13 @@ with-end-slice-write-sheet-2 t c = simp length-set (omega (
 ))
 
 with-end-same-length : (t : ℕ) → with-end-lts.Need-same-length (with-end-claims t) (with-end-at t) with-end.Post
-with-end-same-length t c = ap length (shifted-back _ _ (c .before .before .before .before .before .before .shift .ensures)
+with-end-same-length t c = ap length (put-back _ _ (c .before .before .before .before .before .before .shift .ensures)
     (c .before .before .serves .ensures .1))
 
 with-end-returns : (t : ℕ) → with-end-lts.Need-returns (with-end-claims t) (with-end-at t) with-end.Post
 with-end-returns t c = (
   c .before .before .serves .ensures .0 ∙ rw (c .before .before .before .before .before .before .shift .ensures),
-  shifted-back _ _ (c .before .before .before .before .before .before .shift .ensures) (c .before .before .serves .ensures .1),
+  put-back _ _ (c .before .before .before .before .before .before .shift .ensures) (c .before .before .serves .ensures .1),
 )
 
 abbrev with-ends-Inv-loop : with-ends-lts.InvT-loop
