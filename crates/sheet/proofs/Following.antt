@@ -50,6 +50,11 @@ on-shifted home l x y b p q i a rest ps =
     ap₂ (λ (g : Land) (s : Stands). follows g s i a rest ps)
     (sym (shifted-land l x y b p q home)) (sym (shifted-stands l x y b p q))
 
+-- how far a place lies from the start
+pub far-off :
+    {r home : ℕ} (w start x : ℕ) → r ≡ distanceOf wide home x → home ≡ homeFor w start → distanceOf wide (homeFor w start) x ≡ r
+far-off w start x e f = sym (e ∙ ap (λ (h : ℕ). distanceOf wide h x) f)
+
 module _ {w start : ℕ} {l : List ℕ} {i a x k : ℕ} {pushes : List ℕ} where
   pub stepped-apart : leads (nextIn l) a x ≡ false → Stepped w start l l i a x k pushes T.Wrong
   unfolding landIn
@@ -102,7 +107,8 @@ module _ {w start : ℕ} {l : List ℕ} {i a x k : ℕ} {pushes : List ℕ} wher
           used = λ y' j' g. let t = same-took y j y' j' g in (n, omega (arith, q .2, t .1));
           onward = λ rest.
               follows-by (landIn (homeFor w start) l) (standIn l) i a x rest (placesFrom w start k pushes) e (f ∙ add-one i)
-              ∙ rw s (rw (sym (p .took)) (rw (q .0) (on-shifted (homeFor w start) l x y b n (q .1) (suc i) x rest (placesFrom w start j pushes))));
+              ∙ rw s (rw (sym (p .took)) (rw (q .0) (on-shifted (homeFor w start) l x y b n (q .1) (suc i) x rest
+              (placesFrom w start j pushes))));
         }
 
 -- the group has come to place a by i steps of the route and the pushes before number k: the sheet was l and is m, and the answer is what

@@ -122,7 +122,11 @@ fn enter(
     if !leads(sheet, a, x) {
         return Took::Wrong;
     }
-    if grid::distance(crate::WIDE, crate::HIGH, spot::home_for(w, start), x) != i + 1 {
+    let far = grid::distance(crate::WIDE, crate::HIGH, spot::home_for(w, start), x);
+    if far == 0 {
+        return Took::Wrong;
+    }
+    if far - 1 != i {
         return Took::Wrong;
     }
     match crate::stand_in(sheet, x) {
