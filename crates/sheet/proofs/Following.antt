@@ -20,7 +20,7 @@ use Rattle.sheet.specs.Sheet.{places, wide, standIn, nextIn, landIn, shi
 use Rattle.sheet.specs.Places.{placeFor, homeFor}
 use Rattle.sheet.specs.Follow.{placesFrom, followsIn, goesOn, Stepped, PushedOut}
 use Rattle.sheet.proofs.Taking.{led-below, never-took, none-left, places-next, places-none, same-took}
-use Rattle.sheet.proofs.Given.{shifted-land, shifted-long, shifted-stands}
+use Rattle.sheet.proofs.Sheets.{shifted-land, shifted-long, shifted-stands}
 
 -- a step of the group, by what it finds
 module _ (g : Land) (s : Stands) (i a x : ℕ) (rest ps : List ℕ) where

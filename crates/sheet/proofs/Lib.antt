@@ -1,3 +1,4 @@
+pub mod Sheets
 pub mod Given
 pub mod Searching
 pub mod Taking

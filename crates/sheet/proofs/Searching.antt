@@ -24,7 +24,8 @@ use Rattle.sheet.specs.Ends.{Blank, Close, Marks, endMarked, room}
 use Rattle.sheet.specs.declared.chain.Trail.{Trail}
 use Rattle.sheet.specs.Trail.{TrailOk, before, trailOf}
 use Rattle.sheet.specs.Search.{further, servesIn, overIn, withIn, shovesIn}
-use Rattle.sheet.proofs.Given.{ended, shifted-back, shifted-stands, shifted-ways}
+use Rattle.sheet.proofs.Given.{ended}
+use Rattle.sheet.proofs.Sheets.{shifted-back, shifted-stands, shifted-ways}
 
 -- a place of the sheet is a hex of its map
 pub on-sheet : (i : ℕ) → i < places → On wide high i

@@ -22,7 +22,7 @@ use Rattle.sheet.specs.declared.follow.Took.the-variants as T
 use Rattle.sheet.specs.Sheet.{places, standIn, nextIn, shifted}
 use Rattle.sheet.specs.Places.{placeFor}
 use Rattle.sheet.specs.Follow.{placesFrom, tookOf, TookIn, PushedOut}
-use Rattle.sheet.proofs.Given.{next-below}
+use Rattle.sheet.proofs.Sheets.{next-below}
 
 -- a step from place h in direction d leads to place z
 unfoldable pub ledBy : Ways → ℕ → ℕ → ℕ → Bool

@@ -10,7 +10,7 @@ use borrow.Author.Needs.{needs}
 use borrow.Author.Tests.{not-false, not-true}
 use lib.ListN.{length, length-set}
 use Rattle.position.proofs.Tallies.{any-zero}
-use Rattle.sheet.proofs.Given.{next-below}
+use Rattle.sheet.proofs.Sheets.{next-below}
 use Rattle.sheet.proofs.Searching.{Unserved, Unended, blank, close-self, gathered, on-sheet, own-ok}
 use Rattle.sheet.proofs.Searching.{over-far, over-free, over-loose, over-shut, served, serves-done, put-back, shoved}
 use Rattle.sheet.proofs.Searching.{unended, unended-not, unended-with, unserved, unserved-off, unserved-over}
