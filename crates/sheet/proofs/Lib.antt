@@ -1,5 +1,5 @@
 pub mod Sheets
-pub mod Given
-pub mod Searching
 pub mod Taking
+pub mod Reached
+pub mod Searching
 pub mod Following

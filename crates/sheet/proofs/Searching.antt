@@ -7,24 +7,23 @@ use mathlib.Core.List.{List, [], _∷_}
 use native.Mathlib.Omega.{arith}
 use native.Mathlib.Numerals.{add-one}
 use borrow.Author.Tests.{eq-eqb, ne-eqb}
-use lib.ListN.{length, set, getD, replicate, length-replicate}
-use lib.Seq.{set-set, set-comm, set-getD}
+use lib.ListN.{length, set, replicate, length-replicate}
 use Rattle.grid.specs.declared.Beside.the-variants.{At, Off}
 use Rattle.grid.specs.Walk.{distanceOf}
 use Rattle.grid.specs.Map.{On}
 use Rattle.position.specs.Layout.{byte}
 use Rattle.position.specs.Tally.{any}
-use Rattle.position.proofs.Tallies.{any-miss, any-true, same-or}
+use Rattle.position.proofs.Tallies.{any-miss, any-true}
 use Rattle.chains.specs.declared.Stand.the-variants.{Shut, Free, Loose}
 use Rattle.chains.specs.Chain.{leadsTo, after, most}
 use Rattle.chains.specs.Follows.{byStand}
 use Rattle.chains.specs.Serves.{endsIn, onWith, onOver, serves}
-use Rattle.sheet.specs.Sheet.{places, standIn, nextIn, landIn, restood, shifted, wide, high}
+use Rattle.sheet.specs.Sheet.{places, standIn, nextIn, landIn, shifted, wide, high}
 use Rattle.sheet.specs.Ends.{Blank, Close, Marks, endMarked, room}
 use Rattle.sheet.specs.declared.chain.Trail.{Trail}
 use Rattle.sheet.specs.Trail.{TrailOk, before, trailOf}
 use Rattle.sheet.specs.Search.{further, servesIn, overIn, withIn, shovesIn}
-use Rattle.sheet.proofs.Given.{ended}
+use Rattle.sheet.proofs.Reached.{ended}
 use Rattle.sheet.proofs.Sheets.{shifted-back, shifted-stands, shifted-ways}
 
 -- a place of the sheet is a hex of its map
@@ -189,7 +188,7 @@ pub gathered :
     → Marks x (endsIn (nextIn l) (standIn l) (trailOf t) 3 x) m n → Blank m → x < places → (z : ℕ) → z < places
     → endMarked n x z ≡ endsIn (nextIn l) (standIn l) (t .first ∷ []) 3 x z
 gathered t l {m} {n} {x} long a b c k e p z q =
-    ended l m n (t .first) x z long (rw (own-trail t a b c) at k) e p q
+    ended l m n (t .first) x z (rw (own-trail t a b c) at k) e q
 
 pub own-ok : (t : Trail) → t .second ≡ places → t .third ≡ places → TrailOk t 3
 own-ok t b c = record { few = omega arith; two = λ _. c; three = λ _. b }

@@ -41,17 +41,21 @@ module _ (next : Ways) (h z d : ℕ) where
   unfolding ledBy isAt
   led-at x e = rw e
 
+-- a step that leads to place x
 is-at : (s : Beside) (x : ℕ) → isAt s x ≡ true → s ≡ At x
 unfolding isAt
 is-at (At n) x e = ap At (eqb-true n x e)
 is-at Off x e = not-both false e refl
 
--- what a step leads to is a place of the sheet
-pub led-below : (l : List ℕ) (h z : ℕ) → leads (nextIn l) h z ≡ true → z < places
+-- what leads there is a step, and it is a place of the sheet
+pub led-by : (l : List ℕ) (h z : ℕ) → leads (nextIn l) h z ≡ true → (d : ℕ) × (nextIn l h d ≡ At z)
 unfolding ledBy
-led-below l h z e =
+led-by l h z e =
     let s = any-some (ledBy (nextIn l) h z) 6 (sym (leads-by (nextIn l) h z 0) ∙ e) in
-    next-below l h (s .at) z (is-at (nextIn l h (s .at)) z (s .passes))
+    (s .at, is-at (nextIn l h (s .at)) z (s .passes))
+
+pub led-below : (l : List ℕ) (h z : ℕ) → leads (nextIn l) h z ≡ true → z < places
+led-below l h z e = let s = led-by l h z e in next-below l h (s .0) z (s .1)
 
 -- no step in the directions before d leads from place h to place z
 pub record Unled (l : List ℕ) (h z d : ℕ) : Type 0 where
@@ -138,6 +142,7 @@ module _ (next : Ways) (s : Stands) (used : List ℕ) (h z : ℕ) (zs : List ℕ
       let q : left ≡ suc (left - 1) = omega arith in
       ap (λ (n : ℕ). takes next s used n h (z ∷ zs)) q ∙ more (left - 1) e f g y
 
+-- where none may be pushed, no chain is right
 takes-zero : (next : Ways) (s : Stands) (used : List ℕ) (h : ℕ) (ps : List ℕ) → takes next s used 0 h ps ≡ wrong
 unfolding takes
 takes-zero next s used h [] = refl
@@ -165,6 +170,7 @@ same-took y j z k e = (cc, cc)
 pub never-took : {A : Type 0} (y j : ℕ) → T.Wrong ≡ T.UpTo y j → A
 never-took y j e = let z : _≡_ {A = ℕ} 0 1 = cc in absurd (omega arith)
 
+-- the next push is the place z
 along :
     (w start : ℕ) (l used : List ℕ) (left h k : ℕ) (pushes : List ℕ) (z : ℕ) → k < length pushes → z ≡ placeFor w start (getD pushes k 0)
     → takes (nextIn l) (standIn l) used left h (placesFrom w start k pushes)

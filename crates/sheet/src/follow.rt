@@ -1,6 +1,6 @@
 // The test of an order: its route step by step, each with the pushes that its chain takes.
 ghost use mathlib.Core.Path.{_≡_};
-ghost use Prim.Native.Nat.{_+_, _<_, _≤_};
+ghost use Prim.Native.Nat.{_<_, _≤_};
 ghost use lib.ListN.{length};
 ghost use Rattle.chains.specs.Chain.{leads};
 ghost use Rattle.sheet.specs.Sheet.{nextIn};
