@@ -1,0 +1,5 @@
+pub mod Sheets
+pub mod Taking
+pub mod Reached
+pub mod Searching
+pub mod Following
