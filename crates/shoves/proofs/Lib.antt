@@ -2,3 +2,10 @@ pub mod Clearing
 pub mod Marching
 pub mod Sweeps
 pub mod Turns
+pub mod KeepZone
+pub mod KeepMove
+pub mod KeepEnds
+pub mod Standing
+pub mod KeepChain
+pub mod KeepStep
+pub mod KeepSeries
