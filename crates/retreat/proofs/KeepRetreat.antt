@@ -1,80 +1,112 @@
 -- An accepted position stays accepted after a retreat.
 -- Assumes nothing.
 use Prim.Native.Nat.{ℕ, _+_, _-_, _≤_, _<_}
-use mathlib.Core.Path.{_≡_, refl, ap, _∙_}
-use mathlib.Core.Bool.{false, true, not, cond}
+use mathlib.Core.Path.{_≡_, refl, sym, ap, fun-ext, _∙_}
+use mathlib.Core.Bool.{false, true, not, cond, _&&_}
 use mathlib.Core.List.{List, []}
 use native.Mathlib.Omega.{arith}
 use lib.Dec.{eqb, leb, ltb}
 use lib.ListN.{getD, length}
 use borrow.Author.Tests.{eqb-true, not-false}
-use Rattle.position.specs.Board.{Board, Desk, board, nowhere}
+use Rattle.grid.proofs.Walks.{same-zero}
+use Rattle.position.specs.Board.{Board, Desk, board, forceOf, nowhere}
 use Rattle.position.specs.Crowd.{filled, holders, owesAt, owingHexes, routes}
 use Rattle.position.specs.Ground.{standable}
 use Rattle.position.specs.Tally.{any, tally}
 use Rattle.position.specs.Change.Change.{routed}
 use Rattle.position.specs.Effect.{change, changes}
 use Rattle.position.proofs.Shapes.{hexes-most}
-use Rattle.position.proofs.Tallies.{any-some, either, not-both, tally-some}
+use Rattle.position.proofs.Tallies.{any-some, both-yes, either, not-both, tally-some}
 use Rattle.acceptance.specs.Accepted.{Accepted, Lawful, StageOk}
 use Rattle.acceptance.specs.Broken.{broken}
-use Rattle.acceptance.proofs.Carries.{changes-then}
+use Rattle.acceptance.proofs.Carries.{changes-then, fixed-change, standable-by}
 use Rattle.acceptance.proofs.Owings.{owing-some}
 use Rattle.acceptance.proofs.Routings.{routes-empty, routes-more}
 use Rattle.acceptance.proofs.Since.{Since, lawful-since}
 use Rattle.acceptance.proofs.Stages.{stage-retreats}
-use Rattle.ruling.specs.Secret.{Each}
 use Rattle.ruling.specs.Verdict.{outcome}
 use Rattle.ruling.proofs.Kept.{Kept, kept-along, kept-past, kept-ruled}
-use Rattle.field.specs.Listed.{named, offMap, onMapAll}
-use Rattle.field.proofs.Named.{sieve-each, sieve-names}
+use Rattle.field.specs.Listed.{offMap, onMapAll, onMapFrom}
+use Rattle.field.specs.Scene.{scene}
+use Rattle.field.specs.Zone.{standsOn, vacant}
 use Rattle.routes.specs.Legal.{legal}
 use Rattle.routes.specs.Run.{LegalRoute}
 use Rattle.routes.proofs.Legal.{legal-right}
+use Rattle.chains.specs.Stand.{stand}
+use Rattle.chains.specs.Series.{LegalSeries, landOf}
+use Rattle.chains.specs.Follows.{none, legalPushes}
+use Rattle.chains.proofs.Follows.{legal-pushes-right}
+use Rattle.shoves.specs.Group.{group, groupForce}
+use Rattle.shoves.proofs.KeepChain.{bears-stands}
+use Rattle.shoves.proofs.KeepEnds.{Left}
+use Rattle.shoves.proofs.KeepSeries.{series-left}
+use Rattle.shoves.proofs.KeepStep.{OwnGroup}
+use Rattle.shoves.proofs.KeepZone.{bears-same}
+use Rattle.shoves.proofs.Standing.{apart-same, not-shut, stand-same}
 use Rattle.aftermath.specs.Stage.{passesOn, thenOn}
 use Rattle.aftermath.proofs.KeepStage.{lawful-passed}
 use Rattle.retreat.specs.Retreat.{
   doomChanges,
   doomed,
   endOf,
-  group,
-  groupForce,
-  notLegal,
+  hasRoute,
+  leaveChanges,
+  noteOf,
+  notPushed,
+  notVacant,
+  pushChanges,
   retreatChanges,
   retreatRule,
   retreatVerdict,
 }
-use Rattle.retreat.proofs.KeepRoute.{refuge-stands, refuge-vacant, routes-room, run-follows, run-refuge, since-written, standable-where}
-use Rattle.retreat.proofs.KeepGroup.{Leaving, Owes, all-doomed, all-off, left-holders, left-owing, start-stands}
+use Rattle.retreat.proofs.KeepRoute.{
+  refuge-stands,
+  refuge-vacant,
+  routes-room,
+  run-follows,
+  run-refuge,
+  series-follows,
+  since-written,
+  standable-where,
+}
+use Rattle.retreat.proofs.KeepGroup.{Owes, doomed-left, group-own, left-holders, left-owing, off-left, start-stands}
 
--- the units of the group owe, and all that owe there are in it
-module _ (b : Board) (h : ℕ) where
-  group-each : Each (Owes b h) (group b h)
-  unfolding group
-  group-each = sieve-each (owesAt b h) (b .units .count)
-
-  group-names : (w : ℕ) → w < b .units .count → owesAt b h w ≡ true → named (group b h) w ≡ true
-  unfolding group
-  group-names w l e = sieve-names (owesAt b h) (b .units .count) w l e
-
--- the desk on which the next route is written, and the group before the first unit goes
+-- the board on which the next route is written: units and map are as they were
 module _ (b : Board) (h x y z : ℕ) where
   abbrev noted : Board
   noted = change b (routed (routes b) h x y z)
 
-  leaving-none : Since b noted → Leaving b h (noted .desk) (group b h) noted
-  unfolding change
-  leaving-none s =
-      record {
-        since = s;
-        desk = refl;
-        gone = λ w l e f. not-both (named (group b h) w) (group-names b h w l e) f;
-        kept = λ w e. record { hex = refl; marks = refl; role = refl };
-      }
-
   noted-stage : (noted .desk .stage ≡ b .desk .stage) × (noted .desk .owed ≡ b .desk .owed) × (noted .desk .need ≡ b .desk .need)
   unfolding change
   noted-stage = (refl, refl, refl)
+
+  noted-owes : (w : ℕ) → owesAt noted h w ≡ owesAt b h w
+  unfolding change owesAt
+  noted-owes w = refl
+
+  noted-group : group noted h ≡ group b h
+  unfolding change group owesAt
+  noted-group = refl
+
+  noted-holders : (holders noted 1 ≡ holders b 1) × (owingHexes noted ≡ owingHexes b)
+  unfolding change holders owingHexes owesAt
+  noted-holders = (refl, refl)
+
+  noted-vacant : (w : ℕ) → vacant (scene noted) w ≡ vacant (scene b) w
+  unfolding change vacant standsOn
+  noted-vacant w = refl
+
+  noted-stand : (f : ℕ) → stand noted f h ≡ stand b f h
+  unfolding change
+  noted-stand f =
+      let k = fixed-change b (routed (routes b) h x y z) in
+      fun-ext
+      (λ w.
+      stand-same f h h w k (bears-same f k (λ u l n. refl) w) (λ u l. apart-same b noted h w u refl refl) (λ u l e. refl))
+
+  noted-own : (f : ℕ) → OwnGroup b f h → OwnGroup noted f h
+  unfolding change forceOf
+  noted-own f o w l e = o w l (sym (noted-owes w) ∙ e)
 
 -- routes are counted on the desk
 routes-desk : (b c : Board) → c .desk ≡ b .desk → routes c ≡ routes b
@@ -88,6 +120,11 @@ holds-some b n =
     let s = tally-some (λ u. eqb (b .units .role u) 1) (b .units .count) (omega arith) in
     owing-some b (s .at) (s .below) (eqb-true (b .units .role (s .at)) 1 (s .passes))
 
+-- a retreat starts at no distance
+far-start : (b : Board) (h : ℕ) → landOf b h .far h ≡ 0
+unfolding landOf
+far-start b h = same-zero (b .map .width) h
+
 -- board c since board b, the retreats not over and fewer units owing
 pub record Lighter (b c : Board) : Type 0 where
   pub since : Since b c
@@ -96,14 +133,21 @@ pub record Lighter (b c : Board) : Type 0 where
 
 module _ {b : Board} (l : Lawful b) (most : b .map .hexes ≤ nowhere) (e : b .desk .stage ≡ 1) (h u : ℕ) (m : Owes b h u) where
   stands : standable b h ≡ true
-  stands = start-stands l h u (m .0) (m .1)
+  stands = start-stands l h u m
+
+  real : h ≡ nowhere → ⊥
+  real = standable-where b h most stands
 
   -- the group is gone and its route is written: the retreats go on, or the stage passes on
-  module _ (x y z : ℕ) {c : Board} (o : Leaving b h (noted b h x y z .desk) [] c) where
+  module _ (x y z : ℕ) {c : Board} (o : Left b (noted b h x y z) h c) where
+    still-owes : Owes (noted b h x y z) h u
+    unfolding change
+    still-owes = (m .0, noted-owes b h x y z u ∙ m .1)
+
     one-more : routes c ≡ routes b + 1
     one-more =
         routes-desk (noted b h x y z) c (o .desk)
-        ∙ routes-more b (routes b) h x y z (routes-room l e) (standable-where b h most stands)
+        ∙ routes-more b (routes b) h x y z (routes-room l e) real
         (routes-empty (l .routes) (routes b) (omega arith) (routes-room l e))
 
     as-before : (c .desk .stage ≡ 1) × (c .desk .owed ≡ b .desk .owed) × (c .desk .need ≡ 0)
@@ -115,7 +159,12 @@ module _ {b : Board} (l : Lawful b) (most : b .map .hexes ≤ nowhere) (e : b .d
         )
 
     lighter : Lighter b c
-    lighter = record { since = o .since; stage = as-before .0; fewer = left-holders o u m }
+    lighter =
+        record {
+          since = o .since;
+          stage = as-before .0;
+          fewer = omega (arith, left-holders o u still-owes, noted-holders b h x y z .0);
+        }
 
     goes-on : (holders c 1 ≡ 0 → ⊥) → StageOk c
     goes-on n =
@@ -124,7 +173,7 @@ module _ {b : Board} (l : Lawful b) (most : b .map .hexes ≤ nowhere) (e : b .d
         (record {
           owed = rw (as-before .1) (k .owed);
           some = holds-some c n;
-          room = omega (arith, k .room, one-more, left-owing o u m);
+          room = omega (arith, k .room, one-more, left-owing o u still-owes, noted-holders b h x y z .1);
         })
 
     lawful-left : Lawful (changes c (passesOn c))
@@ -132,98 +181,139 @@ module _ {b : Board} (l : Lawful b) (most : b .map .hexes ≤ nowhere) (e : b .d
         lawful-passed l most (λ i. omega arith) (o .since)
         (λ n. lawful-since l (o .since) (omega (arith, as-before .0)) (λ _. l .clock .combat (λ i. omega arith)) (goes-on n))
 
-  doomed-left :
-      Leaving b h (noted b h nowhere nowhere nowhere .desk) [] (changes b (doomChanges b h))
+  -- the group is destroyed
+  doom : Left b (noted b h nowhere nowhere nowhere) h (changes b (doomChanges b h))
   unfolding doomChanges changes
-  doomed-left =
-      all-doomed l most h (group b h) (group-each b h)
-      (leaving-none b h nowhere nowhere nowhere
-      (since-written l most e h nowhere nowhere nowhere stands (λ n. absurd (n refl)) (λ n. absurd (n refl)) (λ n. absurd (n refl))))
+  doom =
+      rw (sym (noted-group b h nowhere nowhere nowhere))
+      (doomed-left
+      (since-written l most e h nowhere nowhere nowhere stands (λ n. absurd (n refl)) (λ n. absurd (n refl)) (λ n. absurd (n refl)))
+      most h)
 
+  -- it goes along a vacant route
   module _ (f : ℕ) (route : List ℕ) (r : LegalRoute b f h (b .desk .owed) route) where
-    off-left :
-        Leaving b h (noted b h (getD route 0 nowhere) (getD route 1 nowhere) (getD route 2 nowhere) .desk) []
-        (changes b (retreatChanges b h route))
-    unfolding retreatChanges changes endOf
-    off-left =
-        let n = standable-where b h most stands in
-        let k = run-follows most n (r .run) in
+    off : Left b (noted b h (getD route 0 nowhere) (getD route 1 nowhere) (getD route 2 nowhere)) h (changes b (retreatChanges b h route))
+    unfolding retreatChanges noteOf changes endOf
+    off =
+        let x = getD route 0 nowhere in
+        let y = getD route 1 nowhere in
+        let z = getD route 2 nowhere in
+        let k = run-follows most real (r .run) in
         let w = l .stage .during .retreats e .owed in
         let i = b .desk .owed - 1 in
         let v = run-refuge most (r .run) i (omega (arith, r .long, w .low)) in
         let end = getD route i nowhere in
-        all-off l most h end (refuge-stands b f end v) (refuge-vacant b f end v) (group b h) (group-each b h)
-        (leaving-none b h (getD route 0 nowhere) (getD route 1 nowhere) (getD route 2 nowhere)
-        (since-written l most e h (getD route 0 nowhere) (getD route 1 nowhere) (getD route 2 nowhere) stands (k 0) (k 1) (k 2)))
+        rw (sym (noted-group b h x y z))
+        (off-left (since-written l most e h x y z stands (k 0) (k 1) (k 2)) most h b end real
+        (standable-by (fixed-change b (routed (routes b) h x y z)) end ∙ refuge-stands b f end v)
+        (noted-vacant b h x y z end ∙ refuge-vacant b f end v))
 
-    lawful-off : Lawful (changes b (thenOn b (retreatChanges b h route)))
-    unfolding thenOn
-    lawful-off =
-        let xs = retreatChanges b h route in
-        rw (changes-then xs (passesOn (changes b xs)) b)
-        (lawful-left (getD route 0 nowhere) (getD route 1 nowhere) (getD route 2 nowhere) off-left)
+  -- or pushes
+  module _ (f : ℕ) (own : OwnGroup b f h) (route pushes : List ℕ) (r : LegalSeries b f h (b .desk .owed) route pushes) where
+    pushed :
+        Left b (noted b h (getD route 0 nowhere) (getD route 1 nowhere) (getD route 2 nowhere)) h (changes b (pushChanges b h route pushes))
+    unfolding pushChanges noteOf changes
+    pushed =
+        let x = getD route 0 nowhere in
+        let y = getD route 1 nowhere in
+        let z = getD route 2 nowhere in
+        let k =
+        series-follows h most (λ w n. bears-stands b f w (not-shut b f h w n)) real (r .series)
+        in
+        series-left f most (since-written l most e h x y z stands (k 0) (k 1) (k 2)) real (noted-own b h x y z f own)
+        (far-start b h) (r .series) (noted-stand b h x y z f)
 
-  lawful-doomed : Lawful (changes b (thenOn b (doomChanges b h)))
-  unfolding thenOn
-  lawful-doomed =
-      let xs = doomChanges b h in
-      rw (changes-then xs (passesOn (changes b xs)) b) (lawful-left nowhere nowhere nowhere doomed-left)
-
-  -- what is not refused by 14 is doomed or has a legal route
-  is-legal : (route : List ℕ) → notLegal b h route ≡ false → doomed b h ≡ false → LegalRoute b (groupForce b h) h (b .desk .owed) route
-  unfolding notLegal
-  is-legal route n d =
+  -- what is not refused by 14 or 17 is doomed or legal
+  is-legal : (route pushes : List ℕ) → notVacant b h route pushes ≡ false → doomed b h ≡ false → hasRoute b h ≡ true
+      → LegalRoute b (groupForce b h) h (b .desk .owed) route
+  unfolding notVacant
+  is-legal route pushes n d s =
       let t = legal b (groupForce b h) h (b .desk .owed) route in
-      let q : not t ≡ false = simp d at n in
-      legal-right b (groupForce b h) h (b .desk .owed) route .0 (not-false t q)
+      let q : not (t && none pushes) ≡ false = simp (d, s) at n in
+      legal-right b (groupForce b h) h (b .desk .owed) route .0 (both-yes t (none pushes) (not-false (t && none pushes) q) .0)
 
-  -- an accepted retreat leaves fewer that owe
-  pub retreat-lightens :
-      (route : List ℕ) → notLegal b h route ≡ false
-      → Lighter b (changes b (cond (doomed b h) (doomChanges b h) (retreatChanges b h route)))
-  retreat-lightens route n =
-      either (doomed b h)
-      (λ d. simp d (lighter nowhere nowhere nowhere doomed-left))
-      (λ d.
-      simp d
-      (lighter (getD route 0 nowhere) (getD route 1 nowhere) (getD route 2 nowhere) (off-left (groupForce b h) route (is-legal route n d))))
+  is-pushed : (route pushes : List ℕ) → notPushed b h route pushes ≡ false → doomed b h ≡ false → hasRoute b h ≡ false
+      → LegalSeries b (groupForce b h) h (b .desk .owed) route pushes
+  unfolding notPushed
+  is-pushed route pushes n d s =
+      let t = legalPushes b (groupForce b h) h (b .desk .owed) route pushes in
+      let q : not t ≡ false = simp (d, s) at n in
+      legal-pushes-right b (groupForce b h) h (b .desk .owed) route pushes .0 (not-false t q)
 
-  lawful-retreat :
-      (route : List ℕ) → notLegal b h route ≡ false
-      → Lawful (changes b (thenOn b (cond (doomed b h) (doomChanges b h) (retreatChanges b h route))))
-  lawful-retreat route n =
-      either (doomed b h)
-      (λ d. simp d lawful-doomed)
-      (λ d. simp d (lawful-off (groupForce b h) route (is-legal route n d)))
+  module _ (route pushes : List ℕ) (vacant14 : notVacant b h route pushes ≡ false) (pushed17 : notPushed b h route pushes ≡ false) where
+    abbrev first : ℕ
+    first = getD route 0 nowhere
 
-module _ {p : List ℕ} (a : Accepted p) (h : ℕ) (route : List ℕ) where
-  kept-retreat : {l : List ℕ} → Kept p l (retreatVerdict p h route)
-  unfolding retreatVerdict retreatRule onMapAll offMap
+    abbrev second : ℕ
+    second = getD route 1 nowhere
+
+    abbrev third : ℕ
+    third = getD route 2 nowhere
+
+    -- however it leaves, by what is known of the board then
+    leaves-by :
+        {A : Board → Type 0}
+        → ((x y z : ℕ) (c : Board) → Left b (noted b h x y z) h c → A c)
+        → A (changes b (leaveChanges b h route pushes))
+    unfolding leaveChanges
+    leaves-by {A} k =
+        either (doomed b h)
+        (λ d. simp d (k nowhere nowhere nowhere (changes b (doomChanges b h)) doom))
+        (λ d.
+        either (hasRoute b h)
+        (λ s. simp (d, s) (k first second third (changes b (retreatChanges b h route)) (off (groupForce b h) route (is-legal route pushes vacant14 d s))))
+        (λ s.
+        simp (d, s)
+        (k first second third (changes b (pushChanges b h route pushes)) (pushed (groupForce b h) (group-own l h) route pushes (is-pushed route pushes pushed17 d s)))))
+
+    -- an accepted retreat leaves fewer that owe
+    pub retreat-lightens : Lighter b (changes b (leaveChanges b h route pushes))
+    retreat-lightens = leaves-by {A = Lighter b} (λ x y z c o. lighter x y z o)
+
+    lawful-retreat : Lawful (changes b (thenOn b (leaveChanges b h route pushes)))
+    unfolding thenOn
+    lawful-retreat =
+        let xs = leaveChanges b h route pushes in
+        rw (changes-then xs (passesOn (changes b xs)) b)
+        (leaves-by {A = λ c. Lawful (changes c (passesOn c))} (λ x y z c o. lawful-left x y z o))
+
+module _ {p : List ℕ} (a : Accepted p) (h : ℕ) (route pushes : List ℕ) where
+  kept-retreat : {l : List ℕ} → Kept p l (retreatVerdict p h route pushes)
+  unfolding retreatVerdict retreatRule onMapAll onMapFrom offMap
   kept-retreat =
       let b = board p in
       kept-past a (broken p)
       (λ _.
       kept-past a (ltb 3 (length route))
       (λ _.
+      kept-past a (ltb 9 (length pushes))
+      (λ _.
       kept-past a (leb (b .map .hexes) h)
       (λ _.
       kept-along a (λ _. Unit {0}) (λ s x k v _ f. kept-past a (leb (b .map .hexes) x) (λ _. f tt)) 0 tt route 1 _
+      (λ _ _.
+      kept-along a (λ _. Unit {0}) (λ s x k v _ f. kept-past a (leb (b .map .hexes) x) (λ _. f tt)) 0 tt pushes (length route + 1) _
       (λ _ _.
       kept-past a (not (eqb (b .desk .stage) 1))
       (λ e.
       kept-past a (not (any (owesAt b h) (b .units .count)))
       (λ f.
-      kept-past a (notLegal b h route)
+      kept-past a (notVacant b h route pushes)
       (λ g.
+      kept-past a (notPushed b h route pushes)
+      (λ i.
       let s = any-some (owesAt b h) (b .units .count) (not-false (any (owesAt b h) (b .units .count)) f) in
-      kept-ruled a (thenOn b (cond (doomed b h) (doomChanges b h) (retreatChanges b h route)))
+      kept-ruled a (thenOn b (leaveChanges b h route pushes))
       (lawful-retreat (a .lawful) (omega (arith, hexes-most (a .shaped)))
       (eqb-true (b .desk .stage) 1 (not-false (eqb (b .desk .stage) 1) e))
       h
       (s .at)
       (s .below, s .passes)
       route
-      g))))))))
+      pushes
+      g
+      i)))))))))))
 
-pub retreat-keeps : (p l : List ℕ) (h : ℕ) (route : List ℕ) → Accepted p → Accepted (outcome p l (retreatVerdict p h route) .position)
-retreat-keeps p l h route a = kept-retreat a h route .ok
+pub retreat-keeps :
+    (p l : List ℕ) (h : ℕ) (route pushes : List ℕ) → Accepted p → Accepted (outcome p l (retreatVerdict p h route pushes) .position)
+retreat-keeps p l h route pushes a = kept-retreat a h route pushes .ok

@@ -247,7 +247,7 @@ module _ (s : Stands) (used : List ℕ) (z : ℕ) where
       let i = both-yes (isLoose (s z)) (not (named used z)) e in (loose-from (s z) (i .0), not-true (named used z) (i .1))
 
 -- a chain's last hex is vacant
-chain-last : {next : Ways} {s : Stands} {used zs : List ℕ} {left h last : ℕ} → Chain next s used left h zs last → s last ≡ Free
+pub chain-last : {next : Ways} {s : Stands} {used zs : List ℕ} {left h last : ℕ} → Chain next s used left h zs last → s last ≡ Free
 chain-last {s = s} (rest {used} {left} {h} {z} d l e r) = rests-free s (h ∷ used) z r .0
 chain-last (push d l e n r k) = chain-last k
 

@@ -21,14 +21,13 @@ use Rattle.field.specs.Zone.{standsOn, vacant}
 use Rattle.field.proofs.Lists.{named-nil}
 use Rattle.field.proofs.Named.{sieve-each, sieve-names}
 use Rattle.routes.specs.Bears.{bears}
-use Rattle.chains.specs.declared.Stand.the-variants.{Shut}
 use Rattle.chains.specs.Stand.{apart, stand}
 use Rattle.shoves.specs.Group.{group, gather}
 use Rattle.shoves.specs.Shoves.{goesTo, groupTo}
 use Rattle.shoves.proofs.KeepZone.{bears-same}
 use Rattle.shoves.proofs.KeepMove.{Going, Goes, all-gone, vacant-none}
 use Rattle.shoves.proofs.KeepChain.{bears-stands, real-hex}
-use Rattle.shoves.proofs.Standing.{apart-else, apart-off, apart-owes, stand-same}
+use Rattle.shoves.proofs.Standing.{apart-else, apart-off, apart-owes, stand-same, stand-shut}
 
 -- all that owe in hex a are of force f
 abbrev pub OwnGroup : Board → ℕ → ℕ → Type 0
@@ -44,10 +43,6 @@ pub record Stepped (o b : Board) (f a x : ℕ) (c : Board) : Type 0 where
   pub gone : (w : ℕ) → w < b .units .count → owesAt b a w ≡ true → owesAt c x w ≡ false → c .units .role w ≡ 0
   pub own : OwnGroup c f x
   pub stands : stand c f x ≡ stand b f a
-
-shut : (b : Board) (f a h : ℕ) → bears b f h ≡ false → stand b f a h ≡ Shut
-unfolding stand
-shut b f a h e = simp e
 
 stands-by : (b c : Board) (h w : ℕ) → c .units .hex w ≡ b .units .hex w → standsOn (scene c) h w ≡ standsOn (scene b) h w
 unfolding standsOn
@@ -124,7 +119,7 @@ module _
       either (owesAt b a w)
       (λ z. not-both (apart b a y w) i (apart-owes b a y w z))
       (λ z. going .kept w z .role)))
-      (λ e. shut moved f x y (bear y ∙ e) ∙ sym (shut b f a y e))
+      (λ e. stand-shut moved f x y (bear y ∙ e) ∙ sym (stand-shut b f a y e))
 
   pub stepped : Stepped o b f a x moved
   stepped =

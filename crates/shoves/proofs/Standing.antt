@@ -161,6 +161,14 @@ module _ (b : Board) (f a h : ℕ) where
       (any-true (standsOn (scene b) h) (b .units .count) (i .unit) (i .counted)
       (stands-here (scene b) h (i .unit) (apart-stands b a h (i .unit) (i .there))))
 
+-- a hex that does not bear is shut
+pub stand-shut : (b : Board) (f a h : ℕ) → bears b f h ≡ false → stand b f a h ≡ Shut
+unfolding stand
+stand-shut b f a h e = simp e
+
+pub not-shut : (b : Board) (f a h : ℕ) → (stand b f a h ≡ Shut → ⊥) → bears b f h ≡ true
+not-shut b f a h n = either (bears b f h) (λ e. e) (λ e. absurd (n (stand-shut b f a h e)))
+
 -- two boards on which a hex is the same to two groups
 pub stand-same :
     {b c : Board} (f a e h : ℕ) → Fixed b c → bears c f h ≡ bears b f h
