@@ -18,6 +18,7 @@ pub mod losses;
 pub mod movement;
 pub mod order;
 pub mod position;
+pub mod pushes;
 pub mod record;
 pub mod referee;
 pub mod refusal;

@@ -3,8 +3,8 @@
 use crate::acceptance::line_names;
 use crate::order::{Answer, Call, CALLS};
 
-/// Columns of the table: ok, retreated, destroyed, the ten codes, the sixteen refusals.
-pub const OUTCOMES: usize = 3 + 10 + 16;
+/// Columns of the table: ok, retreated, destroyed, the ten codes, the seventeen refusals.
+pub const OUTCOMES: usize = 3 + 10 + 17;
 
 /// The refusals a call can give, by the order of questions.
 pub fn possible_refusals(call: Call) -> &'static [u8] {
@@ -13,7 +13,7 @@ pub fn possible_refusals(call: Call) -> &'static [u8] {
         Call::Move => &[1, 2, 3, 4, 5, 7, 8, 9, 10, 11],
         Call::End => &[1, 2, 3, 16],
         Call::Attack => &[1, 2, 3, 4, 5, 6, 12, 13],
-        Call::Retreat => &[1, 2, 3, 4, 14],
+        Call::Retreat => &[1, 2, 3, 4, 14, 17],
         Call::Losses => &[1, 2, 3, 4, 6, 15],
         Call::Advance => &[1, 2, 3, 4, 5, 7, 11],
         Call::Close => &[1, 2],

@@ -83,5 +83,5 @@ fn a_limited_record_holds_no_other_calls() {
     let tally = tally_of(&text);
     assert_eq!(tally.missing(&calls), Vec::<String>::new());
     // All that attack, retreat, losses, advance and close can answer is missing.
-    assert_eq!(tally.missing(&CALLS).len(), 18 + 7 + 7 + 8 + 3);
+    assert_eq!(tally.missing(&CALLS).len(), 18 + 8 + 7 + 8 + 3);
 }

@@ -32,7 +32,9 @@ pub fn random(chance: &mut Chance, position: &Position, call: Call) -> Order {
             let (target, die) = (any_hex(chance, position), chance.from_to(1, 6) as u16);
             Order::Attack { target, die, list: any_units(chance, position, 4) }
         }
-        Call::Retreat => Order::Retreat { hex: any_hex(chance, position), route: any_hexes(chance, position, 3) },
+        Call::Retreat => {
+            Order::Retreat { hex: any_hex(chance, position), route: any_hexes(chance, position, 3), pushes: Vec::new() }
+        }
         Call::Losses => Order::Losses { list: any_units(chance, position, 4) },
         Call::Advance => Order::Advance { unit: any_unit(chance, position), hex: any_hex(chance, position) },
         Call::Close => Order::Close,
@@ -54,7 +56,7 @@ pub fn spoiled(chance: &mut Chance, position: &Position, order: &Order) -> Order
             1 => *die = chance.pick(&[0, 1, 6, 7, 257, 65535]),
             _ => spoil_list(chance, list, other_unit, 19),
         },
-        Order::Retreat { hex, route } => match chance.below(4) {
+        Order::Retreat { hex, route, .. } => match chance.below(4) {
             0 => *hex = other_hex,
             _ => spoil_list(chance, route, other_hex, 4),
         },
@@ -215,7 +217,7 @@ fn plausible_retreat(chance: &mut Chance, position: &Position) -> Order {
     } else {
         legal[chance.below(legal.len())].clone()
     };
-    Order::Retreat { hex, route: route.into_iter().map(|hex| hex as u16).collect() }
+    Order::Retreat { hex, route: route.into_iter().map(|hex| hex as u16).collect(), pushes: Vec::new() }
 }
 
 /// Some steps to neighbours, about as many as are owed.
