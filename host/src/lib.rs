@@ -24,6 +24,7 @@ pub mod referee;
 pub mod refusal;
 pub mod results;
 pub mod retreat;
+pub mod retreat_cases;
 pub mod roster;
 pub mod stages;
 pub mod supply;

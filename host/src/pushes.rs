@@ -56,13 +56,19 @@ impl Way {
         self.is_done() || self.steps().iter().any(|step| self.after(step).some_series())
     }
 
-    /// The board after an order's route and pushes, which are read along the steps; none if they are not legal.
-    pub fn along(&self, route: &[usize], pushes: &[usize]) -> Option<Position> {
+    /// The steps that an order names, its pushes read along its route; none if they are not legal.
+    pub fn named(&self, route: &[usize], pushes: &[usize]) -> Option<Vec<Step>> {
         let Some((&to, further)) = route.split_first() else {
-            return (self.is_done() && pushes.is_empty()).then(|| self.board.clone());
+            return (self.is_done() && pushes.is_empty()).then(Vec::new);
         };
         let step = self.steps().into_iter().find(|step| step.to == to && pushes.starts_with(&step.pushes))?;
-        self.after(&step).along(further, &pushes[step.pushes.len()..])
+        let rest = self.after(&step).named(further, &pushes[step.pushes.len()..])?;
+        Some([vec![step], rest].concat())
+    }
+
+    /// The board after these steps.
+    pub fn carried_out(&self, steps: &[Step]) -> Position {
+        steps.iter().fold(self.clone(), |way, step| way.after(step)).board
     }
 
     /// Every step that the group can make now, with every chain of pushes that makes room for it.

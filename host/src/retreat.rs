@@ -51,10 +51,8 @@ fn go(
         return Ok(Retreated::Destroyed);
     }
     if legal.is_empty() {
-        let Some(board) = way.along(route, pushes) else {
-            return Err(Refusal { number: PUSHES_NOT_LEGAL, place: 0 });
-        };
-        *position = board;
+        let steps = way.named(route, pushes).ok_or(Refusal { number: PUSHES_NOT_LEGAL, place: 0 })?;
+        *position = way.carried_out(&steps);
     } else {
         require(pushes.is_empty() && legal.iter().any(|one| one == route), ROUTE_NOT_LEGAL, 0)?;
     }
