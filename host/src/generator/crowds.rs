@@ -6,7 +6,7 @@ use super::scene::{empty_scene, set_side, takes, unit_of};
 use super::staged::{give_role, write_routes};
 use crate::position::*;
 use crate::pushes::Way;
-use crate::retreat::{legal_routes, only_supply_units, owing_group};
+use crate::retreat::{legal_routes, owing_group};
 use crate::unit_type::{INFANTRY, SUPPLY_UNIT};
 
 /// What a crowded road is to offer.
@@ -14,22 +14,44 @@ use crate::unit_type::{INFANTRY, SUPPLY_UNIT};
 enum Wanted {
     /// Only pushes serve, by a chain of so many at the longest.
     Chain(usize),
+    /// Only pushes serve, and a later chain goes into the hex where the group stood.
+    Back,
+    /// Only pushes serve, and a later chain pushes those who stayed behind.
+    Behind,
+    /// Only pushes serve, and where a pushed stack goes decides whether the group gets through.
+    Choice,
     /// Neither a vacant route nor pushes serve, though own units stand about.
     Trapped,
+    /// The same, and without supply units some pushes would serve.
+    TrappedBySupplyUnits,
     Anything,
 }
 
 /// A position in which a group owes in a crowded road; most often only pushes serve it.
 pub fn crowded_road(chance: &mut Chance) -> Position {
-    let kinds = [Wanted::Chain(1), Wanted::Chain(2), Wanted::Chain(3), Wanted::Trapped, Wanted::Anything];
-    let wanted = kinds[chance.weighted(&[20, 30, 30, 10, 10])];
-    let owed = chance.byte(1, 3);
-    let mut found = attempt(chance, owed);
-    for _ in 0..40 {
+    const KINDS: [Wanted; 9] = [
+        Wanted::Chain(1),
+        Wanted::Chain(2),
+        Wanted::Chain(3),
+        Wanted::Back,
+        Wanted::Behind,
+        Wanted::Choice,
+        Wanted::Trapped,
+        Wanted::TrappedBySupplyUnits,
+        Wanted::Anything,
+    ];
+    let wanted = KINDS[chance.weighted(&[15, 20, 25, 10, 10, 10, 7, 6, 10])];
+    let owed = match wanted {
+        Wanted::Behind | Wanted::Choice => chance.pick(&[2, 2, 2, 3]),
+        Wanted::Back => chance.byte(2, 3),
+        _ => chance.byte(1, 3),
+    };
+    let mut found = attempt(chance, owed, wanted);
+    for _ in 0..150 {
         if suits(chance, &found.0, found.1, wanted) {
             break;
         }
-        found = attempt(chance, owed);
+        found = attempt(chance, owed, wanted);
     }
     found.0
 }
@@ -37,17 +59,44 @@ pub fn crowded_road(chance: &mut Chance) -> Position {
 fn suits(chance: &mut Chance, position: &Position, start: usize, wanted: Wanted) -> bool {
     let group = owing_group(position, start);
     let vacant = !legal_routes(position, start, &group).is_empty();
-    if wanted == Wanted::Anything || vacant || only_supply_units(position, &group) {
+    if wanted == Wanted::Anything || vacant {
         return wanted == Wanted::Anything;
     }
-    match any_series(chance, &Way::from(position, start, &group)) {
-        None => wanted == Wanted::Trapped,
-        Some(steps) => steps.iter().map(|step| step.pushes.len()).max().map(Wanted::Chain) == Some(wanted),
+    let way = Way::from(position, start, &group);
+    let Some(series) = any_series(chance, &way) else {
+        return wanted == Wanted::Trapped
+            || wanted == Wanted::TrappedBySupplyUnits && supply_units_bar(position, start);
+    };
+    let through = |from: usize| series.iter().any(|step| step.pushes.iter().rev().skip(from).any(|&hex| hex == start));
+    match wanted {
+        Wanted::Chain(longest) => {
+            series.iter().all(|step| step.pushes.len() <= longest)
+                && series.iter().any(|step| step.pushes.len() == longest)
+        }
+        Wanted::Back => through(0),
+        Wanted::Behind => through(1),
+        Wanted::Choice => choice_decides(&way),
+        _ => false,
     }
 }
 
+/// Would the group get through if the supply units of its force that do not owe were infantry?
+fn supply_units_bar(position: &Position, start: usize) -> bool {
+    let mut other = position.clone();
+    for unit in other.units.iter_mut().filter(|unit| unit.kind == SUPPLY_UNIT && unit.role != OWES) {
+        unit.kind = INFANTRY;
+    }
+    Way::from(&other, start, &owing_group(&other, start)).some_series()
+}
+
+/// Are there two chains for the same first step of which only one lets the group through?
+fn choice_decides(way: &Way) -> bool {
+    let steps: Vec<(usize, bool)> = way.steps().iter().map(|step| (step.to, way.after(step).some_series())).collect();
+    steps.iter().any(|(to, serves)| steps.contains(&(*to, !serves)))
+}
+
 /// A position and the hex where the group owes.
-fn attempt(chance: &mut Chance, owed: u8) -> (Position, usize) {
+fn attempt(chance: &mut Chance, owed: u8, wanted: Wanted) -> (Position, usize) {
     let size = match chance.below(12) {
         0 => (chance.byte(3, 10), 1),
         1 => (1, chance.byte(3, 10)),
@@ -59,12 +108,19 @@ fn attempt(chance: &mut Chance, owed: u8) -> (Position, usize) {
     position.desk.owed_retreat = owed;
     let (force, start) = (chance.byte(0, 3), chance.below(position.map.hexes.len()));
     open(chance, &mut position, start);
-    if chance.percent(55) {
-        lane(chance, &mut position, force, start);
-    } else {
-        throng(chance, &mut position, force, start);
+    let weights = if wanted == Wanted::Behind { [1, 2, 6, 1] } else { [3, 2, 1, 3] };
+    let held = match chance.weighted(&weights) {
+        0 => lane(chance, &mut position, start),
+        1 => island(chance, &mut position, start),
+        2 => ring(chance, &mut position, start),
+        _ => throng(chance, &mut position, start),
+    };
+    let supply_units = if wanted == Wanted::TrappedBySupplyUnits { 25 } else { 4 };
+    for hex in held {
+        stack(chance, &mut position, hex, force, supply_units);
     }
-    group(chance, &mut position, force, start);
+    let all_owe = wanted != Wanted::Behind && chance.percent(55);
+    group(chance, &mut position, force, start, all_owe);
     enemies(chance, &mut position, force, start);
     others_that_owe(chance, &mut position, force, start);
     (position, start)
@@ -86,37 +142,34 @@ fn close(chance: &mut Chance, position: &mut Position, hex: usize) {
     }
 }
 
-/// A lane leads away from the group, own stacks one behind the other in it; most of the map beside it is closed.
-fn lane(chance: &mut Chance, position: &mut Position, force: u8, start: usize) {
-    let length = chance.from_to(3, 9);
-    let lane = lane_hexes(chance, position, start, length);
-    let closed = chance.pick(&[60, 80, 90, 100]);
+/// Close most of the map but for these hexes, which are opened.
+fn leave_open(chance: &mut Chance, position: &mut Position, hexes: &[usize], closed: usize) {
     for hex in 0..position.map.hexes.len() {
-        if !lane.contains(&hex) && chance.percent(closed) {
+        if hexes.contains(&hex) {
+            open(chance, position, hex);
+        } else if chance.percent(closed) {
             close(chance, position, hex);
         }
     }
-    for &hex in &lane {
-        open(chance, position, hex);
-    }
+}
+
+/// A lane leads away from the group, own stacks one behind the other in it. The hexes to be held are answered.
+fn lane(chance: &mut Chance, position: &mut Position, start: usize) -> Vec<usize> {
+    let length = chance.from_to(3, 9);
+    let lane = lane_hexes(chance, position, start, length);
+    let closed = chance.pick(&[60, 80, 90, 100]);
+    leave_open(chance, position, &lane, closed);
     for pair in lane.windows(2) {
         if let Some(direction) = position.grid().direction_to(pair[0], pair[1]) {
             set_side(position, pair[0], direction, chance.pick(&[PLAIN, PLAIN, PLAIN, RIVER, MAJOR_RIVER]));
         }
     }
-    let held = chance.from_to(1, 5);
-    let gap = chance.below(8);
-    for (place, &hex) in lane[1..].iter().take(held).enumerate() {
-        if place != gap {
-            stack(chance, position, hex, force);
-        }
-    }
+    let (count, gap) = (chance.from_to(1, 5), chance.below(8));
+    let in_lane = lane[1..].iter().take(count).enumerate().filter(|(place, _)| *place != gap);
+    let mut held: Vec<usize> = in_lane.map(|(_, &hex)| hex).collect();
     let beside = chance.pick(&[0, 20, 50]);
-    for hex in 0..position.map.hexes.len() {
-        if !lane.contains(&hex) && chance.percent(beside) {
-            stack(chance, position, hex, force);
-        }
-    }
+    held.extend((0..position.map.hexes.len()).filter(|hex| !lane.contains(hex) && chance.percent(beside)));
+    held
 }
 
 /// Hexes on end, the first ones each further from the start; no hex comes twice.
@@ -135,48 +188,80 @@ fn lane_hexes(chance: &mut Chance, position: &Position, start: usize, length: us
     lane
 }
 
-/// Own stacks nearly everywhere, most of all around the group.
-fn throng(chance: &mut Chance, position: &mut Position, force: u8, start: usize) {
+/// A few hexes around the group and nothing else, one or two of them vacant. The others are answered.
+fn island(chance: &mut Chance, position: &mut Position, start: usize) -> Vec<usize> {
+    let size = chance.from_to(3, 8);
+    let mut island = vec![start];
+    for _ in 0..4 * size {
+        let near = position.grid().neighbours(chance.pick(&island));
+        let next = chance.pick(&near).filter(|hex| island.len() < size && !island.contains(hex));
+        island.extend(next);
+    }
+    leave_open(chance, position, &island, 100);
+    island.retain(|&hex| hex != start);
+    chance.shuffle(&mut island);
+    island.truncate(island.len().saturating_sub(chance.from_to(1, 2)));
+    island
+}
+
+/// Two hexes beside the group and one behind both, so that a chain can run round into the hex where the group stood;
+/// a third beside it for those who stay behind. The hexes to be held are answered.
+fn ring(chance: &mut Chance, position: &mut Position, start: usize) -> Vec<usize> {
+    let near = position.grid().neighbours(start);
+    let (at, turn) = (chance.below(6), chance.pick(&[1, 5]));
+    let around = |places: usize| near[(at + places * turn) % 6];
+    let (Some(first), Some(second)) = (around(0), around(1)) else { return island(chance, position, start) };
+    let behind: Vec<usize> = (0..position.map.hexes.len())
+        .filter(|&hex| hex != start && position.joined(first, hex) && position.joined(hex, second))
+        .collect();
+    let pocket = around(chance.from_to(3, 5)).filter(|_| chance.percent(75));
+    let hexes: Vec<usize> = [start, first, second].into_iter().chain(behind.clone()).chain(pocket).collect();
+    let closed = chance.pick(&[90, 100]);
+    leave_open(chance, position, &hexes, closed);
+    let mut held = [vec![second], behind].concat();
+    held.extend(Some(first).filter(|_| chance.percent(20)));
+    held
+}
+
+/// Own stacks nearly everywhere, most of all around the group. The hexes to be held are answered.
+fn throng(chance: &mut Chance, position: &mut Position, start: usize) -> Vec<usize> {
     let distances = position.grid().distances(start);
     let (near, far) = (chance.pick(&[70, 90, 100]), chance.pick(&[45, 60, 75, 90]));
-    for hex in 0..position.map.hexes.len() {
-        let often = if distances[hex] <= Some(1) { near } else { far };
-        if hex != start && chance.percent(often) {
-            stack(chance, position, hex, force);
-        }
-    }
+    let often = |hex: usize| if distances[hex] <= Some(1) { near } else { far };
+    (0..position.map.hexes.len()).filter(|&hex| hex != start && chance.percent(often(hex))).collect()
 }
 
 /// One to three units of the force, now and then with a supply unit among them.
-fn stack(chance: &mut Chance, position: &mut Position, hex: usize, force: u8) {
+fn stack(chance: &mut Chance, position: &mut Position, hex: usize, force: u8, supply_units: usize) {
     for _ in 0..chance.pick(&[1, 1, 1, 2, 3]) {
-        let supply_units = chance.percent(6);
-        add(chance, position, hex, force, supply_units);
+        let supply_unit = chance.percent(supply_units);
+        add(chance, position, hex, force, supply_unit);
     }
 }
 
-/// Add a unit, if the hex takes it; where no supply unit is wanted it is infantry instead.
-fn add(chance: &mut Chance, position: &mut Position, hex: usize, force: u8, supply_units: bool) -> Option<usize> {
+/// Add a unit, if the hex takes it: a supply unit, if one is wanted and the force has any, or one of another type.
+fn add(chance: &mut Chance, position: &mut Position, hex: usize, force: u8, supply_unit: bool) -> Option<usize> {
     if !takes(position, hex, force) {
         return None;
     }
     let mut unit = unit_of(chance, force, Some(hex as u16));
-    if unit.kind == SUPPLY_UNIT && !supply_units {
-        (unit.kind, unit.allowance) = (INFANTRY, chance.byte(2, 9));
+    if supply_unit && force < 3 {
+        unit = Unit::new(unit.nationality, SUPPLY_UNIT, unit.hex, unit.strength, 0);
+    } else if unit.kind == SUPPLY_UNIT {
+        unit = Unit::new(unit.nationality, INFANTRY, unit.hex, unit.strength, chance.byte(2, 9));
     }
     position.units.push(unit);
     Some(position.units.len() - 1)
 }
 
-/// One to three units in the hex: some owe, some may stay behind, and a supply unit may owe with them.
-fn group(chance: &mut Chance, position: &mut Position, force: u8, start: usize) {
-    let count = chance.from_to(1, 3);
+/// One to three units in the hex; all owe, or some stay behind. A supply unit may be among them.
+fn group(chance: &mut Chance, position: &mut Position, force: u8, start: usize, all_owe: bool) {
+    let count = if all_owe { chance.from_to(1, 3) } else { chance.from_to(2, 3) };
     let first = add(chance, position, start, force, false);
-    let all_owe = chance.percent(55);
     first.into_iter().for_each(|unit| give_role(position, unit, OWES));
     for _ in 1..count {
-        let supply_units = chance.percent(40);
-        let another = add(chance, position, start, force, supply_units);
+        let supply_unit = chance.percent(20);
+        let another = add(chance, position, start, force, supply_unit);
         if let Some(unit) = another.filter(|_| all_owe || chance.percent(30)) {
             give_role(position, unit, OWES);
         }
@@ -191,7 +276,8 @@ fn enemies(chance: &mut Chance, position: &mut Position, force: u8, start: usize
     for _ in 0..chance.pick(&[0, 1, 1, 2, 3]) {
         let choices = if chance.percent(50) && !near.is_empty() { &near } else { &hexes };
         let hex = chance.pick(choices);
-        let added = add(chance, position, hex, enemy, true);
+        let supply_unit = chance.percent(15);
+        let added = add(chance, position, hex, enemy, supply_unit);
         if let Some(unit) = added.filter(|_| chance.percent(60)) {
             give_role(position, unit, MAY_ADVANCE);
         }

@@ -26,7 +26,7 @@ pub fn record(seed: u64, count: u64, calls: &[Call]) -> Vec<u8> {
 
 /// One story, chosen by weight; `turn` numbers the broken positions.
 fn story(writer: &mut Writer, turn: &mut usize) {
-    match writer.chance.weighted(&[140, 260, 240, 130, 12, 15, 520, 180, 12, 6, 6, 1, 50, 280]) {
+    match writer.chance.weighted(&[140, 260, 240, 130, 12, 15, 520, 180, 12, 6, 6, 1, 50, 320]) {
         0 => stories::soup(writer),
         1 => stories::movement(writer),
         2 => stories::battle(writer),
