@@ -24,6 +24,7 @@ pub struct Way {
     group: Vec<usize>,
     zones: Vec<bool>,
     distances: Vec<Option<usize>>,
+    most_stacks: usize,
     here: usize,
     made: usize,
 }
@@ -36,9 +37,15 @@ impl Way {
             group: group.to_vec(),
             zones: enemy_zones(position, position.units[group[0]].force()),
             distances: position.grid().distances(start),
+            most_stacks: MOST_STACKS,
             here: start,
             made: 0,
         }
+    }
+
+    /// The same way under another limit, to see what the limit decides.
+    pub fn with_chains_of(self, most_stacks: usize) -> Way {
+        Way { most_stacks, ..self }
     }
 
     /// The board as it is now.
@@ -91,7 +98,7 @@ impl Way {
     /// Every whole chain that begins so; the stack on its last hex has to go.
     fn chains(&self, chain: &[usize]) -> Vec<Vec<usize>> {
         let (stacks, last) = (chain.len() - 1, chain[chain.len() - 1]);
-        if stacks > MOST_STACKS || !self.can_be_pushed(last) {
+        if stacks > self.most_stacks || !self.can_be_pushed(last) {
             return Vec::new();
         }
         let beside = self.bearing_beside(last);

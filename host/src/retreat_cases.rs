@@ -18,12 +18,14 @@ pub enum Case {
         longest: usize,
     },
     OnlyPushesRefused,
+    /// Destroyed, though a chain of four stacks would serve.
+    DestroyedForAFourth,
     DestroyedBesideOwnUnits,
     DestroyedAlone,
     OnlySupplyUnits,
 }
 
-pub const CASES: [Case; 10] = [
+pub const CASES: [Case; 11] = [
     Case::VacantRoute,
     Case::VacantRouteRefused,
     Case::PushesBesideVacantRoute,
@@ -31,6 +33,7 @@ pub const CASES: [Case; 10] = [
     Case::Pushed { longest: 2 },
     Case::Pushed { longest: 3 },
     Case::OnlyPushesRefused,
+    Case::DestroyedForAFourth,
     Case::DestroyedBesideOwnUnits,
     Case::DestroyedAlone,
     Case::OnlySupplyUnits,
@@ -44,6 +47,7 @@ impl Case {
             Case::PushesBesideVacantRoute => "pushes sent beside a vacant route, refused 14".to_string(),
             Case::Pushed { longest } => format!("only pushes serve, accepted, longest chain {longest}"),
             Case::OnlyPushesRefused => "only pushes serve, refused 17".to_string(),
+            Case::DestroyedForAFourth => "destroyed, own units beside it, a chain of 4 would serve".to_string(),
             Case::DestroyedBesideOwnUnits => "destroyed, own units beside it".to_string(),
             Case::DestroyedAlone => "destroyed, no own units beside it".to_string(),
             Case::OnlySupplyUnits => "destroyed, only supply units owe".to_string(),
@@ -58,6 +62,9 @@ pub fn case_of(position: &Position, order: &Order, answer: &Answer) -> Option<Ca
     let group = owing_group(position, start);
     match answer {
         Answer::Destroyed if only_supply_units(position, &group) => Some(Case::OnlySupplyUnits),
+        Answer::Destroyed if Way::from(position, start, &group).with_chains_of(4).some_series() => {
+            Some(Case::DestroyedForAFourth)
+        }
         Answer::Destroyed if own_units_beside(position, start) => Some(Case::DestroyedBesideOwnUnits),
         Answer::Destroyed => Some(Case::DestroyedAlone),
         Answer::Retreated { .. } if !legal_routes(position, start, &group).is_empty() => Some(Case::VacantRoute),

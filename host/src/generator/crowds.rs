@@ -22,6 +22,8 @@ enum Wanted {
     Choice,
     /// Neither a vacant route nor pushes serve, though own units stand about.
     Trapped,
+    /// The same, and a chain of four stacks would serve.
+    TrappedByAFourth,
     /// The same, and without supply units some pushes would serve.
     TrappedBySupplyUnits,
     Anything,
@@ -29,7 +31,7 @@ enum Wanted {
 
 /// A position in which a group owes in a crowded road; most often only pushes serve it.
 pub fn crowded_road(chance: &mut Chance) -> Position {
-    const KINDS: [Wanted; 9] = [
+    const KINDS: [Wanted; 10] = [
         Wanted::Chain(1),
         Wanted::Chain(2),
         Wanted::Chain(3),
@@ -37,10 +39,11 @@ pub fn crowded_road(chance: &mut Chance) -> Position {
         Wanted::Behind,
         Wanted::Choice,
         Wanted::Trapped,
+        Wanted::TrappedByAFourth,
         Wanted::TrappedBySupplyUnits,
         Wanted::Anything,
     ];
-    let wanted = KINDS[chance.weighted(&[15, 20, 25, 10, 10, 10, 7, 6, 10])];
+    let wanted = KINDS[chance.weighted(&[15, 20, 25, 10, 10, 10, 5, 8, 6, 10])];
     let owed = match wanted {
         Wanted::Behind | Wanted::Choice => chance.pick(&[2, 2, 2, 3]),
         Wanted::Back => chance.byte(2, 3),
@@ -64,8 +67,12 @@ fn suits(chance: &mut Chance, position: &Position, start: usize, wanted: Wanted)
     }
     let way = Way::from(position, start, &group);
     let Some(series) = any_series(chance, &way) else {
-        return wanted == Wanted::Trapped
-            || wanted == Wanted::TrappedBySupplyUnits && supply_units_bar(position, start);
+        return match wanted {
+            Wanted::Trapped => true,
+            Wanted::TrappedByAFourth => way.with_chains_of(4).some_series(),
+            Wanted::TrappedBySupplyUnits => supply_units_bar(position, start),
+            _ => false,
+        };
     };
     let through = |from: usize| series.iter().any(|step| step.pushes.iter().rev().skip(from).any(|&hex| hex == start));
     match wanted {
