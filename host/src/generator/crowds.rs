@@ -20,7 +20,7 @@ enum Wanted {
     Behind,
     /// Only pushes serve, and where a pushed stack goes decides whether the group gets through.
     Choice,
-    /// Neither a vacant route nor pushes serve, though own units stand about.
+    /// Neither a vacant route nor pushes serve.
     Trapped,
     /// The same, and a chain of four stacks would serve.
     TrappedByAFourth,
@@ -87,13 +87,15 @@ fn suits(chance: &mut Chance, position: &Position, start: usize, wanted: Wanted)
     }
 }
 
-/// Would the group get through if the supply units of its force that do not owe were infantry?
+/// Would the group get through if all others of its force were infantry?
 fn supply_units_bar(position: &Position, start: usize) -> bool {
+    let group = owing_group(position, start);
+    let force = position.units[group[0]].force();
     let mut other = position.clone();
-    for unit in other.units.iter_mut().filter(|unit| unit.kind == SUPPLY_UNIT && unit.role != OWES) {
+    for unit in other.units.iter_mut().filter(|unit| unit.force() == force && unit.role != OWES) {
         unit.kind = INFANTRY;
     }
-    Way::from(&other, start, &owing_group(&other, start)).some_series()
+    Way::from(&other, start, &group).some_series()
 }
 
 /// Are there two chains for the same first step of which only one lets the group through?
