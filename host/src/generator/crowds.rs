@@ -1,11 +1,11 @@
 //! Crowded roads: a group owes among its own force, so that pushes decide.
 
 use super::chance::Chance;
-use super::retreat_orders::any_series;
+use super::retreat_orders::{any_series, beside};
 use super::scene::{empty_scene, set_side, takes, unit_of};
 use super::staged::{give_role, write_routes};
 use crate::position::*;
-use crate::pushes::Way;
+use crate::pushes::{Step, Way};
 use crate::retreat::{legal_routes, owing_group};
 use crate::unit_type::{INFANTRY, SUPPLY_UNIT};
 
@@ -20,6 +20,8 @@ enum Wanted {
     Behind,
     /// Only pushes serve, and where a pushed stack goes decides whether the group gets through.
     Choice,
+    /// Only pushes serve, and a stack pushes on though a vacant hex in an Enemy zone lies beside it.
+    Zone,
     /// Neither a vacant route nor pushes serve.
     Trapped,
     /// The same, and a chain of four stacks would serve.
@@ -31,19 +33,20 @@ enum Wanted {
 
 /// A position in which a group owes in a crowded road; most often only pushes serve it.
 pub fn crowded_road(chance: &mut Chance) -> Position {
-    const KINDS: [Wanted; 10] = [
+    const KINDS: [Wanted; 11] = [
         Wanted::Chain(1),
         Wanted::Chain(2),
         Wanted::Chain(3),
         Wanted::Back,
         Wanted::Behind,
         Wanted::Choice,
+        Wanted::Zone,
         Wanted::Trapped,
         Wanted::TrappedByAFourth,
         Wanted::TrappedBySupplyUnits,
         Wanted::Anything,
     ];
-    let wanted = KINDS[chance.weighted(&[15, 20, 25, 10, 10, 10, 5, 8, 6, 10])];
+    let wanted = KINDS[chance.weighted(&[15, 20, 22, 10, 10, 10, 10, 5, 8, 6, 10])];
     let owed = match wanted {
         Wanted::Behind | Wanted::Choice => chance.pick(&[2, 2, 2, 3]),
         Wanted::Back => chance.byte(2, 3),
@@ -83,6 +86,7 @@ fn suits(chance: &mut Chance, position: &Position, start: usize, wanted: Wanted)
         Wanted::Back => through(0),
         Wanted::Behind => through(1),
         Wanted::Choice => choice_decides(&way),
+        Wanted::Zone => zone_decides(way, &series),
         _ => false,
     }
 }
@@ -102,6 +106,19 @@ fn supply_units_bar(position: &Position, start: usize) -> bool {
 fn choice_decides(way: &Way) -> bool {
     let steps: Vec<(usize, bool)> = way.steps().iter().map(|step| (step.to, way.after(step).some_series())).collect();
     steps.iter().any(|(to, serves)| steps.contains(&(*to, !serves)))
+}
+
+/// Does a stack of the series push on though a vacant hex lies beside it?
+fn zone_decides(mut way: Way, series: &[Step]) -> bool {
+    for step in series {
+        let chain = [&[step.to], step.pushes.as_slice()].concat();
+        let vacant_beside = |hex: &usize| beside(way.board(), *hex).iter().any(|&near| way.board().is_vacant(near));
+        if chain[..chain.len().saturating_sub(2)].iter().any(vacant_beside) {
+            return true;
+        }
+        way = way.after(step);
+    }
+    false
 }
 
 /// A position and the hex where the group owes.

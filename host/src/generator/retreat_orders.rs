@@ -101,16 +101,10 @@ fn loose_pushes(chance: &mut Chance, board: &Position, here: usize, to: usize) -
     chain.split_off(2)
 }
 
-/// The hexes next to one where a unit may stand, sides hardly minded.
-fn beside(board: &Position, hex: usize) -> Vec<usize> {
-    let near: Vec<usize> = board.grid().neighbours(hex).into_iter().flatten().collect();
-    let joined: Vec<usize> =
-        near.iter().copied().filter(|&near| board.joined(hex, near) && board.bears_units(near)).collect();
-    if joined.is_empty() {
-        near
-    } else {
-        joined
-    }
+/// The hexes next to one over an unblocked side where a unit may stand.
+pub fn beside(board: &Position, hex: usize) -> Vec<usize> {
+    let near = board.grid().neighbours(hex).into_iter().flatten();
+    near.filter(|&near| board.joined(hex, near) && board.bears_units(near)).collect()
 }
 
 /// A series changed in one thing.
