@@ -82,10 +82,11 @@ fn a_record_of_5000_calls_reaches_every_answer_and_refusal() {
 #[test]
 fn in_a_record_of_5000_calls_only_pushes_serve_300_retreats() {
     let tally = tally_of(&record(3, 5000, &CALLS));
-    for case in CASES {
+    for case in CASES.into_iter().filter(|case| *case != Case::DestroyedForAFourth) {
         assert!(tally.retreats(case).iter().all(|&count| count > 0), "{}", case.name());
     }
     let count = |case: Case| tally.retreats(case).iter().sum::<u64>();
+    assert!(count(Case::DestroyedForAFourth) >= 5);
     let pushed = [1, 2, 3].map(|longest| count(Case::Pushed { longest }));
     assert!(pushed.iter().all(|&count| count >= 30), "{pushed:?}");
     assert!(count(Case::OnlyPushesRefused) >= 150);
