@@ -1,7 +1,7 @@
 //! A second referee for the land rules of Invasion: America, written from the documents alone.
 //!
 //! The rules: one module for each, named in the documents' words. The record: `order`,
-//! `record`, `table`. The cases to compare by: `generator`; what they reach: `tally`.
+//! `record`, `table`. The cases to compare by: `generator`; what they reach: `tally`, `retreat_cases`.
 
 pub mod acceptance;
 pub mod advance;
@@ -18,11 +18,13 @@ pub mod losses;
 pub mod movement;
 pub mod order;
 pub mod position;
+pub mod pushes;
 pub mod record;
 pub mod referee;
 pub mod refusal;
 pub mod results;
 pub mod retreat;
+pub mod retreat_cases;
 pub mod roster;
 pub mod stages;
 pub mod supply;

@@ -52,7 +52,7 @@ pub enum Order {
     Move { unit: u16, path: Vec<u16> },
     End,
     Attack { target: u16, die: u16, list: Vec<u16> },
-    Retreat { hex: u16, route: Vec<u16> },
+    Retreat { hex: u16, route: Vec<u16>, pushes: Vec<u16> },
     Losses { list: Vec<u16> },
     Advance { unit: u16, hex: u16 },
     Close,
@@ -72,21 +72,41 @@ impl Order {
         }
     }
 
-    /// The order's numbers in the order the record writes them.
+    /// The order's numbers in the order the record writes them, but for a second list.
     pub fn numbers(&self) -> Vec<u16> {
         match self {
             Order::Supply { nationality } => vec![*nationality],
             Order::Move { unit, path } => [&[*unit], path.as_slice()].concat(),
             Order::Attack { target, die, list } => [&[*target, *die], list.as_slice()].concat(),
-            Order::Retreat { hex, route } => [&[*hex], route.as_slice()].concat(),
+            Order::Retreat { hex, route, .. } => [&[*hex], route.as_slice()].concat(),
             Order::Losses { list } => list.clone(),
             Order::Advance { unit, hex } => vec![*unit, *hex],
             Order::End | Order::Close => Vec::new(),
         }
     }
 
-    /// The order for a call with these numbers; none if their count does not fit.
-    pub fn from_numbers(call: Call, numbers: &[u16]) -> Option<Order> {
+    /// The second list, which stands behind a slash; only a retreat has one.
+    pub fn second_list(&self) -> &[u16] {
+        match self {
+            Order::Retreat { pushes, .. } => pushes,
+            _ => &[],
+        }
+    }
+
+    /// The order for a call with these lists, parted by slashes; none if they do not fit.
+    pub fn from_lists(call: Call, lists: &[Vec<u16>]) -> Option<Order> {
+        match (call, lists) {
+            (_, [numbers]) => Order::from_numbers(call, numbers),
+            (Call::Retreat, [numbers, pushes]) => {
+                let (hex, route) = numbers.split_first()?;
+                Some(Order::Retreat { hex: *hex, route: route.to_vec(), pushes: pushes.clone() })
+            }
+            _ => None,
+        }
+    }
+
+    /// The order for a call with these numbers and no second list; none if their count does not fit.
+    fn from_numbers(call: Call, numbers: &[u16]) -> Option<Order> {
         match (call, numbers) {
             (Call::Supply, &[nationality]) => Some(Order::Supply { nationality }),
             (Call::Move, [unit, path @ ..]) => Some(Order::Move { unit: *unit, path: path.to_vec() }),
@@ -94,7 +114,9 @@ impl Order {
             (Call::Attack, [target, die, list @ ..]) => {
                 Some(Order::Attack { target: *target, die: *die, list: list.to_vec() })
             }
-            (Call::Retreat, [hex, route @ ..]) => Some(Order::Retreat { hex: *hex, route: route.to_vec() }),
+            (Call::Retreat, [hex, route @ ..]) => {
+                Some(Order::Retreat { hex: *hex, route: route.to_vec(), pushes: Vec::new() })
+            }
             (Call::Losses, list) => Some(Order::Losses { list: list.to_vec() }),
             (Call::Advance, &[unit, hex]) => Some(Order::Advance { unit, hex }),
             (Call::Close, []) => Some(Order::Close),

@@ -49,10 +49,15 @@ fn read_words(word: &[u8], operands: &[&[u8]]) -> Option<Line> {
         (b"map", [nationality]) if number(nationality)? <= 4 => Some(Line::Passed),
         _ => {
             let call = Call::named(word)?;
-            let numbers: Option<Vec<u16>> = operands.iter().map(|operand| number(operand)).collect();
-            Order::from_numbers(call, &numbers?).map(Line::Call)
+            let lists: Option<Vec<Vec<u16>>> = operands.split(|operand| *operand == b"/").map(numbers).collect();
+            Order::from_lists(call, &lists?).map(Line::Call)
         }
     }
+}
+
+/// A list of numbers; none if a word of it is no number.
+fn numbers(words: &[&[u8]]) -> Option<Vec<u16>> {
+    words.iter().map(|word| number(word)).collect()
 }
 
 /// A decimal number, 0 to 65535, leading zeros allowed.
@@ -95,12 +100,12 @@ pub fn hex_digits(bytes: &[u8]) -> String {
     bytes.iter().flat_map(|byte| [digit(byte >> 4), digit(byte & 15)]).collect()
 }
 
-/// An order as a record line.
+/// An order as a record line; the slash is left out where nothing stands behind it.
 pub fn order_text(order: &Order) -> String {
-    let mut text = order.call().name().to_string();
-    for number in order.numbers() {
-        text.push(' ');
-        text.push_str(&number.to_string());
+    let words = |numbers: &[u16]| numbers.iter().map(|number| format!(" {number}")).collect::<String>();
+    let text = format!("{}{}", order.call().name(), words(&order.numbers()));
+    match order.second_list() {
+        [] => text,
+        second => format!("{text} /{}", words(second)),
     }
-    text
 }

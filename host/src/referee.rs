@@ -33,8 +33,8 @@ pub fn carried_out(position: &mut Position, order: &Order, lent: &mut [u8]) -> R
             let Fought { column, code } = attack(position, *target, *die, list, lent)?;
             return Ok(Answer::Fought { column, code });
         }
-        Order::Retreat { hex, route } => {
-            return Ok(match retreat(position, *hex, route)? {
+        Order::Retreat { hex, route, pushes } => {
+            return Ok(match retreat(position, *hex, route, pushes)? {
                 Retreated::To(end) => Answer::Retreated { end },
                 Retreated::Destroyed => Answer::Destroyed,
             })

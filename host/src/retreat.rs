@@ -3,6 +3,7 @@
 use crate::checks;
 use crate::grid::DIRECTIONS;
 use crate::position::*;
+use crate::pushes::Way;
 use crate::refusal::*;
 use crate::stages;
 use crate::unit_type::SUPPLY_UNIT;
@@ -15,15 +16,17 @@ pub enum Retreated {
     Destroyed,
 }
 
-/// Rule on a retreat from a hex by a route of 0 to 3 hexes.
-pub fn retreat(position: &mut Position, hex: u16, route: &[u16]) -> Result<Retreated, Refusal> {
+/// Rule on a retreat from a hex by a route of 0 to 3 hexes with 0 to 9 pushes.
+pub fn retreat(position: &mut Position, hex: u16, route: &[u16], pushes: &[u16]) -> Result<Retreated, Refusal> {
     checks::length(route.len(), 0, 3)?;
+    checks::length(pushes.len(), 0, 9)?;
     let start = checks::hex(position, hex, 0)?;
-    let route = checks::hexes(position, route)?;
+    let both = checks::hexes(position, &[route, pushes].concat())?;
+    let (route, pushes) = both.split_at(route.len());
     checks::stage(position, RETREATS)?;
     let group = owing_group(position, start);
     require(!group.is_empty(), NOT_THE_UNIT, 0)?;
-    let answer = go(position, start, &group, &route)?;
+    let answer = go(position, start, &group, route, pushes)?;
     stages::follow_on(position);
     Ok(answer)
 }
@@ -33,19 +36,34 @@ pub fn owing_group(position: &Position, hex: usize) -> Vec<usize> {
     position.units_on(hex).into_iter().filter(|&unit| position.units[unit].role == OWES).collect()
 }
 
-/// The group retreats, or is destroyed where nothing else is left to it.
-fn go(position: &mut Position, start: usize, group: &[usize], route: &[usize]) -> Result<Retreated, Refusal> {
-    let only_supply_units = group.iter().all(|&unit| position.units[unit].kind == SUPPLY_UNIT);
+/// The group retreats by a vacant route, else by pushes, or is destroyed where nothing else is left to it.
+fn go(
+    position: &mut Position,
+    start: usize,
+    group: &[usize],
+    route: &[usize],
+    pushes: &[usize],
+) -> Result<Retreated, Refusal> {
     let legal = legal_routes(position, start, group);
-    if only_supply_units || legal.is_empty() {
+    let way = Way::from(position, start, group);
+    if only_supply_units(position, group) || legal.is_empty() && !way.some_series() {
         destroy_group(position, start, group);
         return Ok(Retreated::Destroyed);
     }
-    require(legal.iter().any(|one| one == route), ROUTE_NOT_LEGAL, 0)?;
+    if legal.is_empty() {
+        let steps = way.named(route, pushes).ok_or(Refusal { number: PUSHES_NOT_LEGAL, place: 0 })?;
+        *position = way.carried_out(&steps);
+    } else {
+        require(pushes.is_empty() && legal.iter().any(|one| one == route), ROUTE_NOT_LEGAL, 0)?;
+    }
     Ok(Retreated::To(lead_away(position, start, group, route)))
 }
 
-/// Every legal route: all sequences of n directions are tried, clockwise.
+pub fn only_supply_units(position: &Position, group: &[usize]) -> bool {
+    group.iter().all(|&unit| position.units[unit].kind == SUPPLY_UNIT)
+}
+
+/// Every legal route over vacant hexes: all sequences of n directions are tried, clockwise.
 pub fn legal_routes(position: &Position, start: usize, group: &[usize]) -> Vec<Vec<usize>> {
     let force = position.units[group[0]].force();
     let zones = enemy_zones(position, force);

@@ -1,10 +1,11 @@
-//! How often each answer of each call, each broken line and each stage change occurs.
+//! How often each answer of each call, each case of a retreat, each broken line and each stage change occurs.
 
 use crate::acceptance::line_names;
 use crate::order::{Answer, Call, CALLS};
+use crate::retreat_cases::{Case, CASES};
 
-/// Columns of the table: ok, retreated, destroyed, the ten codes, the sixteen refusals.
-pub const OUTCOMES: usize = 3 + 10 + 16;
+/// Columns of the table: ok, retreated, destroyed, the ten codes, the seventeen refusals.
+pub const OUTCOMES: usize = 3 + 10 + 17;
 
 /// The refusals a call can give, by the order of questions.
 pub fn possible_refusals(call: Call) -> &'static [u8] {
@@ -13,7 +14,7 @@ pub fn possible_refusals(call: Call) -> &'static [u8] {
         Call::Move => &[1, 2, 3, 4, 5, 7, 8, 9, 10, 11],
         Call::End => &[1, 2, 3, 16],
         Call::Attack => &[1, 2, 3, 4, 5, 6, 12, 13],
-        Call::Retreat => &[1, 2, 3, 4, 14],
+        Call::Retreat => &[1, 2, 3, 4, 14, 17],
         Call::Losses => &[1, 2, 3, 4, 6, 15],
         Call::Advance => &[1, 2, 3, 4, 5, 7, 11],
         Call::Close => &[1, 2],
@@ -56,6 +57,8 @@ pub struct Tally {
     broken: Vec<u64>,
     accepted_positions: u64,
     stages: [[u64; 4]; 4],
+    /// By case and owed retreat n.
+    retreats: [[u64; 4]; CASES.len()],
 }
 
 impl Default for Tally {
@@ -65,6 +68,7 @@ impl Default for Tally {
             broken: vec![0; line_names().len()],
             accepted_positions: 0,
             stages: [[0; 4]; 4],
+            retreats: [[0; 4]; CASES.len()],
         }
     }
 }
@@ -90,6 +94,19 @@ impl Tally {
         self.stages[usize::from(before)][usize::from(after)] += 1;
     }
 
+    /// Count a retreat that owed n.
+    pub fn count_retreat(&mut self, case: Case, n: u8) {
+        if let Some(row) = CASES.iter().position(|one| *one == case) {
+            self.retreats[row][usize::from(n)] += 1;
+        }
+    }
+
+    /// How often a case of a retreat occurred for each n, 1 to 3.
+    pub fn retreats(&self, case: Case) -> [u64; 3] {
+        let row = CASES.iter().position(|one| *one == case);
+        row.map_or([0; 3], |row| [1, 2, 3].map(|n: usize| self.retreats[row][n]))
+    }
+
     pub fn calls(&self) -> u64 {
         self.counts.iter().flatten().sum()
     }
@@ -109,7 +126,7 @@ impl Tally {
 
     /// The whole table as text.
     pub fn text(&self) -> String {
-        [self.answers_text(), self.stages_text(), self.broken_text()].join("\n")
+        [self.answers_text(), self.retreats_text(), self.stages_text(), self.broken_text()].join("\n")
     }
 
     /// A row for each outcome, a column for each call; `.` where a call cannot give it.
@@ -137,6 +154,17 @@ impl Tally {
         } else {
             count.to_string()
         }
+    }
+
+    /// A row for each case of a retreat: how often in all, and for each n.
+    fn retreats_text(&self) -> String {
+        let mut text = format!("{:>9}{:>9}{:>9}{:>9}  retreats\n", "all", "n 1", "n 2", "n 3");
+        for case in CASES {
+            let [one, two, three] = self.retreats(case);
+            let all = one + two + three;
+            text += &format!("{all:>9}{one:>9}{two:>9}{three:>9}  {}\n", case.name());
+        }
+        text
     }
 
     fn stages_text(&self) -> String {

@@ -4,9 +4,13 @@ use host::acceptance::{accepted, line_names};
 use host::contents::written;
 use host::generator::breaks::{break_names, broken_bytes, changed_byte};
 use host::generator::chance::Chance;
+use host::generator::crowds::crowded_road;
 use host::generator::record;
 use host::generator::stories::any_position;
 use host::order::{call_list, CALLS};
+use host::position::RETREATS;
+use host::record::{read, Line};
+use host::retreat_cases::{case_of, Case, CASES};
 use host::table::{Reply, Table};
 use host::tally::Tally;
 
@@ -54,8 +58,13 @@ fn tally_of(text: &[u8]) -> Tally {
     let mut table = Table::with_all_calls();
     let mut tally = Tally::default();
     for line in text.split(|&byte| byte == b'\n') {
+        let before = accepted(&table.position);
         if let Reply::Answered(call, answer) = table.play(line) {
             tally.count(call, &answer);
+            if let (Ok(before), Line::Call(order)) = (before, read(line)) {
+                let case = case_of(&before, &order, &answer);
+                case.into_iter().for_each(|case| tally.count_retreat(case, before.desk.owed_retreat));
+            }
         }
     }
     tally
@@ -67,6 +76,30 @@ fn a_record_of_5000_calls_reaches_every_answer_and_refusal() {
         let tally = tally_of(&record(seed, 5000, &CALLS));
         assert_eq!(tally.missing(&CALLS), Vec::<String>::new());
         assert!((5000..5100).contains(&tally.calls()));
+    }
+}
+
+#[test]
+fn in_a_record_of_5000_calls_only_pushes_serve_300_retreats() {
+    let tally = tally_of(&record(3, 5000, &CALLS));
+    for case in CASES.into_iter().filter(|case| *case != Case::DestroyedForAFourth) {
+        assert!(tally.retreats(case).iter().all(|&count| count > 0), "{}", case.name());
+    }
+    let count = |case: Case| tally.retreats(case).iter().sum::<u64>();
+    assert!(count(Case::DestroyedForAFourth) >= 5);
+    let pushed = [1, 2, 3].map(|longest| count(Case::Pushed { longest }));
+    assert!(pushed.iter().all(|&count| count >= 30), "{pushed:?}");
+    assert!(count(Case::OnlyPushesRefused) >= 150);
+    assert!(pushed.iter().sum::<u64>() + count(Case::OnlyPushesRefused) >= 300);
+}
+
+#[test]
+fn crowded_roads_are_accepted_and_somebody_owes() {
+    let mut chance = Chance::new(14);
+    for _ in 0..300 {
+        let position = crowded_road(&mut chance);
+        assert_eq!(accepted(&written(&position)).err(), None);
+        assert_eq!(position.desk.stage, RETREATS);
     }
 }
 
@@ -83,5 +116,5 @@ fn a_limited_record_holds_no_other_calls() {
     let tally = tally_of(&text);
     assert_eq!(tally.missing(&calls), Vec::<String>::new());
     // All that attack, retreat, losses, advance and close can answer is missing.
-    assert_eq!(tally.missing(&CALLS).len(), 18 + 7 + 7 + 8 + 3);
+    assert_eq!(tally.missing(&CALLS).len(), 18 + 8 + 7 + 8 + 3);
 }

@@ -3,9 +3,9 @@
 mod common;
 use common::*;
 use host::contents::written;
-use host::order::{call_list, Call};
+use host::order::{call_list, Call, Order};
 use host::position::*;
-use host::record::hex_digits;
+use host::record::{hex_digits, order_text, read, Line};
 use host::table::Table;
 
 /// Play lines, all answers joined by " | ".
@@ -91,6 +91,64 @@ fn lists_may_be_empty_and_long() {
     let row = row_line();
     assert_eq!(play(&[&row, "move 0", "attack 0 1", "losses", "retreat 0"]), "no 3 0 | no 3 0 | no 3 0 | no 2 0");
     assert_eq!(play(&[&row, &format!("losses{}", " 0".repeat(5000))]), "no 3 0");
+}
+
+#[test]
+fn a_retreat_may_have_a_second_list_behind_a_slash() {
+    let order = |line: &str| match read(line.as_bytes()) {
+        Line::Call(Order::Retreat { hex, route, pushes }) => (hex, route, pushes),
+        other => panic!("{line}: {other:?}"),
+    };
+    assert_eq!(order("retreat 12 7 2 / 8 9"), (12, vec![7, 2], vec![8, 9]));
+    assert_eq!(order("retreat\t12 /\t008  9 \r"), (12, vec![], vec![8, 9]));
+    for line in ["retreat 12 7", "retreat 12 7 /", "retreat 12 7 / \t\r"] {
+        assert_eq!(order(line), (12, vec![7], vec![]), "{line}");
+    }
+    assert_eq!(order(&format!("retreat 1 / {}", "2 ".repeat(5000))).2.len(), 5000);
+}
+
+#[test]
+fn orders_are_written_as_they_are_read() {
+    for text in ["retreat 12", "retreat 12 7 2", "retreat 12 7 / 8 9", "retreat 12 / 8", "move 0 1 2", "end"] {
+        let Line::Call(order) = read(text.as_bytes()) else { panic!("{text}") };
+        assert_eq!(order_text(&order), text);
+    }
+    let Line::Call(order) = read(b"retreat 12 7 /") else { panic!("no order") };
+    assert_eq!(order_text(&order), "retreat 12 7");
+}
+
+#[test]
+fn a_slash_elsewhere_cannot_be_read() {
+    for line in [
+        "retreat /",
+        "retreat / 1",
+        "retreat 1 / 2 / 3",
+        "retreat 1 / /",
+        "retreat 1 //",
+        "retreat 1 /2",
+        "retreat 1/ 2",
+        "retreat 1 2/3",
+        "retreat 1 / x",
+        "retreat 1 / 65536",
+        "retreat 1 x / 2",
+        "retreat 1 \\ 2",
+        "move 0 1 /",
+        "move 0 / 1",
+        "attack 1 2 3 / 4",
+        "losses / 1",
+        "losses /",
+        "advance 1 / 2",
+        "supply 1 /",
+        "end /",
+        "close /",
+        "show /",
+        "position / 00",
+        "buffer 1 /",
+        "/",
+        "/ retreat 1",
+    ] {
+        assert_eq!(play(&[line]), "what 1", "{line}");
+    }
 }
 
 #[test]

@@ -16,7 +16,15 @@ extern "C" {
         scratch: *mut u8,
         scratch_len: usize,
     ) -> u64;
-    fn ia_retreat(pos: *mut u8, pos_len: usize, hex: u32, route: *const u16, route_len: usize) -> u64;
+    fn ia_retreat(
+        pos: *mut u8,
+        pos_len: usize,
+        hex: u32,
+        route: *const u16,
+        route_len: usize,
+        pushes: *const u16,
+        pushes_len: usize,
+    ) -> u64;
     fn ia_losses(pos: *mut u8, pos_len: usize, units: *const u16, units_len: usize) -> u64;
     fn ia_advance(pos: *mut u8, pos_len: usize, unit: u32, hex: u32) -> u64;
     fn ia_close(pos: *mut u8, pos_len: usize) -> u64;
@@ -35,7 +43,9 @@ pub fn call(pos: &mut [u8], order: &Order, lent: &mut [u8]) -> u64 {
             Order::Attack { target, die, list } => {
                 ia_attack(p, n, u32::from(*target), list.as_ptr(), list.len(), u32::from(*die), s, long)
             }
-            Order::Retreat { hex, route } => ia_retreat(p, n, u32::from(*hex), route.as_ptr(), route.len()),
+            Order::Retreat { hex, route, pushes } => {
+                ia_retreat(p, n, u32::from(*hex), route.as_ptr(), route.len(), pushes.as_ptr(), pushes.len())
+            }
             Order::Losses { list } => ia_losses(p, n, list.as_ptr(), list.len()),
             Order::Advance { unit, hex } => ia_advance(p, n, u32::from(*unit), u32::from(*hex)),
             Order::Close => ia_close(p, n),

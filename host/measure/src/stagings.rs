@@ -5,6 +5,7 @@ use host::order::Order;
 use host::position::{
     Desk, Position, Route, Unit, ADVANCES, COMBAT, LOSSES, MAY_ADVANCE, OWES, RETREATS, SUPPLIED, TRIED,
 };
+use host::unit_type::SUPPLY_UNIT;
 
 const ARMOUR: u8 = 0;
 
@@ -54,13 +55,15 @@ pub fn attack(scene: &Scene) -> Staged {
     (position, order)
 }
 
-/// The units in the middle owe three hexes, and friends hold all at that distance: no route of the whole search serves.
+/// The units in the middle owe three hexes, and supply units of theirs, which cannot be pushed, hold all at that
+/// distance: no route of the whole search serves, and no push.
 pub fn retreat(scene: &Scene) -> Staged {
-    let group = vec![in_role(infantry(US, scene.middle()), OWES); 3];
-    let friends = scene.hexes(|far| far == 3).into_iter().map(|hex| infantry(US, hex)).collect();
+    let group = vec![in_role(infantry(PAL, scene.middle()), OWES); 3];
+    let supply_unit = |hex: usize| Unit::new(PAL, SUPPLY_UNIT, hex as u16, 5, 0);
+    let friends = scene.hexes(|far| far == 3).into_iter().map(supply_unit).collect();
     let mut position = scene.staged([group, friends].concat());
     position.desk = Desk { phase: COMBAT, stage: RETREATS, owed_retreat: 3, ..position.desk };
-    (position, Order::Retreat { hex: scene.middle() as u16, route: Vec::new() })
+    (position, Order::Retreat { hex: scene.middle() as u16, route: Vec::new(), pushes: Vec::new() })
 }
 
 /// Eighteen units owe the losses of an exchange and are all named.

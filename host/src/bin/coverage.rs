@@ -1,8 +1,10 @@
 //! Play a record from standard input and print how often each answer occurs.
 
 use host::acceptance::accepted;
-use host::order::CALLS;
+use host::order::{Answer, CALLS};
+use host::position::Position;
 use host::record::{read, Line};
+use host::retreat_cases::case_of;
 use host::table::{Reply, Table};
 use host::tally::Tally;
 use std::io::{self, Read, Write};
@@ -33,17 +35,28 @@ fn counted() -> io::Result<()> {
 
 /// Play one line and count what it brought about.
 fn count_line(table: &mut Table, tally: &mut Tally, line: &[u8], unreadable: &mut u64) {
-    let stage = |table: &Table| accepted(&table.position).ok().map(|position| position.desk.stage);
-    let before = stage(table);
+    let before = accepted(&table.position).ok();
     match table.play(line) {
         Reply::Answered(call, answer) => {
             tally.count(call, &answer);
-            if let (Some(before), Some(after), false) = (before, stage(table), answer.text().starts_with("no")) {
-                tally.count_stage(before, after);
+            if let Some(before) = before {
+                count_change(tally, &before, line, &answer, accepted(&table.position).ok());
             }
         }
         Reply::What(_) => *unreadable += 1,
         _ if matches!(read(line), Line::Position(_)) => tally.count_position(accepted(&table.position).err()),
         _ => (),
+    }
+}
+
+/// Count which retreat it was, and the change of stage if the call was accepted.
+fn count_change(tally: &mut Tally, before: &Position, line: &[u8], answer: &Answer, after: Option<Position>) {
+    if let Line::Call(order) = read(line) {
+        if let Some(case) = case_of(before, &order, answer) {
+            tally.count_retreat(case, before.desk.owed_retreat);
+        }
+    }
+    if let (Some(after), false) = (after, matches!(answer, Answer::Refused(_))) {
+        tally.count_stage(before.desk.stage, after.desk.stage);
     }
 }

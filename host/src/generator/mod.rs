@@ -2,7 +2,9 @@
 
 pub mod breaks;
 pub mod chance;
+pub mod crowds;
 pub mod orders;
+pub mod retreat_orders;
 pub mod scene;
 pub mod staged;
 pub mod stories;
@@ -24,7 +26,7 @@ pub fn record(seed: u64, count: u64, calls: &[Call]) -> Vec<u8> {
 
 /// One story, chosen by weight; `turn` numbers the broken positions.
 fn story(writer: &mut Writer, turn: &mut usize) {
-    match writer.chance.weighted(&[140, 260, 240, 130, 12, 15, 520, 180, 12, 6, 6, 1, 50]) {
+    match writer.chance.weighted(&[140, 260, 240, 130, 12, 15, 520, 180, 12, 6, 6, 1, 50, 320]) {
         0 => stories::soup(writer),
         1 => stories::movement(writer),
         2 => stories::battle(writer),
@@ -40,6 +42,7 @@ fn story(writer: &mut Writer, turn: &mut usize) {
         9 => stories::limits(writer),
         10 => stories::large(writer),
         11 => stories::endless(writer),
-        _ => stories::special_losses(writer),
+        12 => stories::special_losses(writer),
+        _ => stories::crowded(writer),
     }
 }

@@ -1,10 +1,10 @@
 //! Orders: plausible ones by looking at the position, and ways to spoil them.
 
 use super::chance::Chance;
+use super::retreat_orders::plausible_retreat;
 use crate::movement::{allowance, is_way, step_cost};
 use crate::order::{Call, Order};
 use crate::position::*;
-use crate::retreat::{legal_routes, owing_group};
 use crate::unit_type;
 use crate::zones::enemy_zones;
 
@@ -15,7 +15,7 @@ pub fn plausible(chance: &mut Chance, position: &Position, call: Call) -> Order 
         Call::Move => plausible_move(chance, position),
         Call::End => Order::End,
         Call::Attack => plausible_attack(chance, position),
-        Call::Retreat => plausible_retreat(chance, position),
+        Call::Retreat => plausible_retreat(chance, position).unwrap_or_else(|| random(chance, position, Call::Retreat)),
         Call::Losses => plausible_losses(chance, position),
         Call::Advance => plausible_advance(chance, position),
         Call::Close => Order::Close,
@@ -32,7 +32,11 @@ pub fn random(chance: &mut Chance, position: &Position, call: Call) -> Order {
             let (target, die) = (any_hex(chance, position), chance.from_to(1, 6) as u16);
             Order::Attack { target, die, list: any_units(chance, position, 4) }
         }
-        Call::Retreat => Order::Retreat { hex: any_hex(chance, position), route: any_hexes(chance, position, 3) },
+        Call::Retreat => {
+            let (hex, route) = (any_hex(chance, position), any_hexes(chance, position, 3));
+            let most = chance.pick(&[0, 0, 3, 9]);
+            Order::Retreat { hex, route, pushes: any_hexes(chance, position, most) }
+        }
         Call::Losses => Order::Losses { list: any_units(chance, position, 4) },
         Call::Advance => Order::Advance { unit: any_unit(chance, position), hex: any_hex(chance, position) },
         Call::Close => Order::Close,
@@ -54,9 +58,10 @@ pub fn spoiled(chance: &mut Chance, position: &Position, order: &Order) -> Order
             1 => *die = chance.pick(&[0, 1, 6, 7, 257, 65535]),
             _ => spoil_list(chance, list, other_unit, 19),
         },
-        Order::Retreat { hex, route } => match chance.below(4) {
+        Order::Retreat { hex, route, pushes } => match chance.below(7) {
             0 => *hex = other_hex,
-            _ => spoil_list(chance, route, other_hex, 4),
+            1..=3 => spoil_list(chance, route, other_hex, 4),
+            _ => spoil_list(chance, pushes, other_hex, 10),
         },
         Order::Losses { list } => spoil_list(chance, list, other_unit, 19),
         Order::Advance { unit, hex } => match chance.below(2) {
@@ -202,34 +207,6 @@ fn plausible_attack(chance: &mut Chance, position: &Position) -> Order {
     let most = list.len().min(18);
     list.truncate(if chance.percent(40) { most } else { chance.from_to(1, most) });
     Order::Attack { target: target as u16, die, list: list.into_iter().map(|unit| unit as u16).collect() }
-}
-
-/// An owing hex and a legal route, where there is one; else some steps.
-fn plausible_retreat(chance: &mut Chance, position: &Position) -> Order {
-    let owing: Vec<u16> = position.units_with_role(OWES).iter().map(|&unit| position.units[unit].hex).collect();
-    let Some(hex) = chance.pick_any(&owing) else { return random(chance, position, Call::Retreat) };
-    let start = usize::from(hex);
-    let legal = legal_routes(position, start, &owing_group(position, start));
-    let route = if legal.is_empty() || chance.percent(15) {
-        steps(chance, position, start)
-    } else {
-        legal[chance.below(legal.len())].clone()
-    };
-    Order::Retreat { hex, route: route.into_iter().map(|hex| hex as u16).collect() }
-}
-
-/// Some steps to neighbours, about as many as are owed.
-fn steps(chance: &mut Chance, position: &Position, start: usize) -> Vec<usize> {
-    let owed = usize::from(position.desk.owed_retreat);
-    let count = if chance.percent(80) { owed } else { chance.below(4) };
-    let mut here = start;
-    let mut route = Vec::new();
-    for _ in 0..count {
-        let near: Vec<usize> = position.grid().neighbours(here).into_iter().flatten().collect();
-        here = chance.pick_any(&near).unwrap_or(here);
-        route.push(here);
-    }
-    route
 }
 
 /// Owing units in any order until need is reached, or one fewer, or all.

@@ -35,7 +35,7 @@ fn mapped_units(position: &Position, force: u8) -> Vec<usize> {
     (0..position.units.len()).filter(belongs).collect()
 }
 
-fn give_role(position: &mut Position, unit: usize, role: u8) {
+pub fn give_role(position: &mut Position, unit: usize, role: u8) {
     position.units[unit].role = role;
     position.units[unit].marks |= TRIED;
 }

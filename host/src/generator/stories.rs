@@ -2,7 +2,9 @@
 
 use super::breaks::{break_names, broken_bytes, changed_byte};
 use super::chance::Chance;
+use super::crowds::crowded_road;
 use super::orders::targets;
+use super::retreat_orders::nearly_legal_retreat;
 use super::scene::{add_unit, empty_scene, few_units, large_size, scene, small_size};
 use super::staged::{add_battle, add_rivers, enter_special_losses, enter_stage};
 use super::writer::{Aim, Writer};
@@ -120,6 +122,39 @@ pub fn staged(writer: &mut Writer) {
     writer.set_position(&written(&position));
     let count = writer.chance.from_to(3, 7);
     some_calls(writer, count);
+}
+
+/// A group owes in a crowded road: orders that are nearly legal first, then one that serves, as long as somebody owes.
+pub fn crowded(writer: &mut Writer) {
+    let position = crowded_road(&mut writer.chance);
+    writer.set_position(&written(&position));
+    if !writer.exists(Call::Retreat) {
+        return some_calls(writer, 2);
+    }
+    for _ in 0..3 {
+        for _ in 0..writer.chance.from_to(0, 3) {
+            nearly_legal(writer);
+        }
+        let aim = [Aim::Accepted, Aim::Rare][writer.chance.weighted(&[85, 15])];
+        writer.order(Call::Retreat, aim);
+        noise(writer);
+        if !is_owing(writer) {
+            break;
+        }
+    }
+    let count = writer.chance.below(2);
+    some_calls(writer, count);
+}
+
+fn nearly_legal(writer: &mut Writer) {
+    let Some(position) = writer.position().filter(|_| is_owing(writer)) else { return };
+    if let Some(order) = nearly_legal_retreat(&mut writer.chance, &position) {
+        writer.call(&order);
+    }
+}
+
+fn is_owing(writer: &Writer) -> bool {
+    writer.position().is_some_and(|position| position.desk.stage == RETREATS)
 }
 
 /// P.A.L. losses with special infantry, phasing or not.
@@ -241,7 +276,7 @@ pub fn large(writer: &mut Writer) {
 
 /// Now and then a line that is passed over or cannot be read.
 pub fn noise(writer: &mut Writer) {
-    const LINES: [&[u8]; 32] = [
+    const LINES: [&[u8]; 40] = [
         b"",
         b"#",
         b"# move 0 1",
@@ -253,6 +288,14 @@ pub fn noise(writer: &mut Writer) {
         b"supply 1 2",
         b"attack 3",
         b"retreat",
+        b"retreat /",
+        b"retreat / 1",
+        b"retreat 1 / 2 / 3",
+        b"retreat 1 //",
+        b"retreat 1 2/3",
+        b"retreat 1 / 65536",
+        b"move 0 1 / 2",
+        b"losses /",
         b"advance 1",
         b"advance 1 2 3",
         b"end 0",

@@ -79,7 +79,11 @@ impl Writer {
     /// A call line with what belongs around it: a buffer before, show and lent after.
     pub fn call(&mut self, order: &Order) -> Answer {
         self.maybe_buffer(order.call());
-        let text = self.spelled(&order_text(order));
+        let mut text = order_text(order);
+        if order.call() == Call::Retreat && order.second_list().is_empty() && self.chance.percent(10) {
+            text += " /";
+        }
+        let text = self.spelled(&text);
         let before = self.table.position.clone();
         let Reply::Answered(_, answer) = self.line(text.as_bytes()) else { return Answer::Accepted };
         let large = before.len() > 4000;
@@ -127,8 +131,8 @@ impl Writer {
         match self.chance.below(60) {
             0 => text.replace(' ', "  "),
             1 => text.replace(' ', "\t"),
-            2 => text.replace(' ', " 0"),
-            3 => text.replace(' ', " 000000"),
+            2 => text.replace(' ', " 0").replace("0/", "/"),
+            3 => text.replace(' ', " 000000").replace("000000/", "/"),
             4 => format!("{text}  "),
             5 => format!("{text}\r"),
             6 => format!("{text} \t \r"),

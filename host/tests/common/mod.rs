@@ -1,6 +1,8 @@
 //! What the tests share: hand-made positions and one line of record ruled on them.
 #![allow(dead_code)]
 
+pub mod crowds;
+
 use host::acceptance::accepted;
 use host::contents::written;
 use host::position::*;

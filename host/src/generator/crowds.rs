@@ -1,0 +1,325 @@
+//! Crowded roads: a group owes among its own force, so that pushes decide.
+
+use super::chance::Chance;
+use super::retreat_orders::{any_series, beside};
+use super::scene::{empty_scene, set_side, takes, unit_of};
+use super::staged::{give_role, write_routes};
+use crate::position::*;
+use crate::pushes::{Step, Way};
+use crate::retreat::{legal_routes, owing_group};
+use crate::unit_type::{INFANTRY, SUPPLY_UNIT};
+
+/// What a crowded road is to offer.
+#[derive(Clone, Copy, PartialEq, Eq)]
+enum Wanted {
+    /// Only pushes serve, by a chain of so many at the longest.
+    Chain(usize),
+    /// Only pushes serve, and a later chain goes into the hex where the group stood.
+    Back,
+    /// Only pushes serve, and a later chain pushes those who stayed behind.
+    Behind,
+    /// Only pushes serve, and where a pushed stack goes decides whether the group gets through.
+    Choice,
+    /// Only pushes serve, and a stack pushes on though a vacant hex in an Enemy zone lies beside it.
+    Zone,
+    /// Neither a vacant route nor pushes serve.
+    Trapped,
+    /// The same, and a chain of four stacks would serve.
+    TrappedByAFourth,
+    /// The same, and without supply units some pushes would serve.
+    TrappedBySupplyUnits,
+    Anything,
+}
+
+/// A position in which a group owes in a crowded road; most often only pushes serve it.
+pub fn crowded_road(chance: &mut Chance) -> Position {
+    const KINDS: [Wanted; 11] = [
+        Wanted::Chain(1),
+        Wanted::Chain(2),
+        Wanted::Chain(3),
+        Wanted::Back,
+        Wanted::Behind,
+        Wanted::Choice,
+        Wanted::Zone,
+        Wanted::Trapped,
+        Wanted::TrappedByAFourth,
+        Wanted::TrappedBySupplyUnits,
+        Wanted::Anything,
+    ];
+    let wanted = KINDS[chance.weighted(&[15, 20, 22, 10, 10, 10, 10, 5, 12, 6, 10])];
+    let owed = match wanted {
+        Wanted::Behind | Wanted::Choice => chance.pick(&[2, 2, 2, 3]),
+        Wanted::Back => chance.byte(2, 3),
+        _ => chance.byte(1, 3),
+    };
+    let mut found = attempt(chance, owed, wanted);
+    for _ in 0..150 {
+        if suits(chance, &found.0, found.1, wanted) {
+            break;
+        }
+        found = attempt(chance, owed, wanted);
+    }
+    found.0
+}
+
+fn suits(chance: &mut Chance, position: &Position, start: usize, wanted: Wanted) -> bool {
+    let group = owing_group(position, start);
+    let vacant = !legal_routes(position, start, &group).is_empty();
+    if wanted == Wanted::Anything || vacant {
+        return wanted == Wanted::Anything;
+    }
+    let way = Way::from(position, start, &group);
+    let Some(series) = any_series(chance, &way) else {
+        return match wanted {
+            Wanted::Trapped => true,
+            Wanted::TrappedByAFourth => way.with_chains_of(4).some_series(),
+            Wanted::TrappedBySupplyUnits => supply_units_bar(position, start),
+            _ => false,
+        };
+    };
+    let through = |from: usize| series.iter().any(|step| step.pushes.iter().rev().skip(from).any(|&hex| hex == start));
+    match wanted {
+        Wanted::Chain(longest) => {
+            series.iter().all(|step| step.pushes.len() <= longest)
+                && series.iter().any(|step| step.pushes.len() == longest)
+        }
+        Wanted::Back => through(0),
+        Wanted::Behind => through(1),
+        Wanted::Choice => choice_decides(&way),
+        Wanted::Zone => zone_decides(way, &series),
+        _ => false,
+    }
+}
+
+/// Would the group get through if all others of its force were infantry?
+fn supply_units_bar(position: &Position, start: usize) -> bool {
+    let group = owing_group(position, start);
+    let force = position.units[group[0]].force();
+    let mut other = position.clone();
+    for unit in other.units.iter_mut().filter(|unit| unit.force() == force && unit.role != OWES) {
+        unit.kind = INFANTRY;
+    }
+    Way::from(&other, start, &group).some_series()
+}
+
+/// Are there two chains for the same first step of which only one lets the group through?
+fn choice_decides(way: &Way) -> bool {
+    let steps: Vec<(usize, bool)> = way.steps().iter().map(|step| (step.to, way.after(step).some_series())).collect();
+    steps.iter().any(|(to, serves)| steps.contains(&(*to, !serves)))
+}
+
+/// Does a stack of the series push on though a vacant hex lies beside it?
+fn zone_decides(mut way: Way, series: &[Step]) -> bool {
+    for step in series {
+        let chain = [&[step.to], step.pushes.as_slice()].concat();
+        let vacant_beside = |hex: &usize| beside(way.board(), *hex).iter().any(|&near| way.board().is_vacant(near));
+        if chain[..chain.len().saturating_sub(2)].iter().any(vacant_beside) {
+            return true;
+        }
+        way = way.after(step);
+    }
+    false
+}
+
+/// A position and the hex where the group owes.
+fn attempt(chance: &mut Chance, owed: u8, wanted: Wanted) -> (Position, usize) {
+    let size = match chance.below(12) {
+        0 => (chance.byte(3, 10), 1),
+        1 => (1, chance.byte(3, 10)),
+        _ => (chance.byte(3, 7), chance.byte(3, 7)),
+    };
+    let mut position = empty_scene(chance, size);
+    position.desk.phase = COMBAT;
+    position.desk.stage = RETREATS;
+    position.desk.owed_retreat = owed;
+    let (force, start) = (chance.byte(0, 3), chance.below(position.map.hexes.len()));
+    open(chance, &mut position, start);
+    let weights = if wanted == Wanted::Behind { [1, 2, 6, 1] } else { [3, 2, 1, 3] };
+    let held = match chance.weighted(&weights) {
+        0 => lane(chance, &mut position, start),
+        1 => island(chance, &mut position, start),
+        2 => ring(chance, &mut position, start),
+        _ => throng(chance, &mut position, start),
+    };
+    let supply_units = if wanted == Wanted::TrappedBySupplyUnits { 25 } else { 4 };
+    for hex in held {
+        stack(chance, &mut position, hex, force, supply_units);
+    }
+    let all_owe = wanted != Wanted::Behind && chance.percent(55);
+    group(chance, &mut position, force, start, all_owe);
+    enemies(chance, &mut position, force, start);
+    others_that_owe(chance, &mut position, force, start);
+    (position, start)
+}
+
+/// The hex bears units.
+fn open(chance: &mut Chance, position: &mut Position, hex: usize) {
+    position.map.hexes[hex].surface = chance.pick(&[LAND, LAND, COASTAL]);
+    position.map.hexes[hex].terrain = 0;
+}
+
+/// The hex bears no units: sea, lake, or prohibited terrain where the chart has some.
+fn close(chance: &mut Chance, position: &mut Position, hex: usize) {
+    let prohibited: Vec<u8> =
+        (0..16).filter(|&terrain| position.chart.terrains[usize::from(terrain)].cost == 0).collect();
+    match chance.pick_any(&prohibited) {
+        Some(terrain) if chance.percent(50) => position.map.hexes[hex].terrain = terrain,
+        _ => position.map.hexes[hex].surface = chance.pick(&[ALL_SEA, LAKE]),
+    }
+}
+
+/// Close most of the map but for these hexes, which are opened.
+fn leave_open(chance: &mut Chance, position: &mut Position, hexes: &[usize], closed: usize) {
+    for hex in 0..position.map.hexes.len() {
+        if hexes.contains(&hex) {
+            open(chance, position, hex);
+        } else if chance.percent(closed) {
+            close(chance, position, hex);
+        }
+    }
+}
+
+/// A lane leads away from the group, own stacks one behind the other in it. The hexes to be held are answered.
+fn lane(chance: &mut Chance, position: &mut Position, start: usize) -> Vec<usize> {
+    let length = chance.from_to(3, 9);
+    let lane = lane_hexes(chance, position, start, length);
+    let closed = chance.pick(&[60, 80, 90, 100]);
+    leave_open(chance, position, &lane, closed);
+    for pair in lane.windows(2) {
+        if let Some(direction) = position.grid().direction_to(pair[0], pair[1]) {
+            set_side(position, pair[0], direction, chance.pick(&[PLAIN, PLAIN, PLAIN, RIVER, MAJOR_RIVER]));
+        }
+    }
+    let (count, gap) = (chance.from_to(1, 5), chance.below(8));
+    let in_lane = lane[1..].iter().take(count).enumerate().filter(|(place, _)| *place != gap);
+    let mut held: Vec<usize> = in_lane.map(|(_, &hex)| hex).collect();
+    let beside = chance.pick(&[0, 20, 50]);
+    held.extend((0..position.map.hexes.len()).filter(|hex| !lane.contains(hex) && chance.percent(beside)));
+    held
+}
+
+/// Hexes on end, the first ones each further from the start; no hex comes twice.
+fn lane_hexes(chance: &mut Chance, position: &Position, start: usize, length: usize) -> Vec<usize> {
+    let distances = position.grid().distances(start);
+    let mut lane = vec![start];
+    while lane.len() < length {
+        let here = lane[lane.len() - 1];
+        let near: Vec<usize> = position.grid().neighbours(here).into_iter().flatten().collect();
+        let unused: Vec<usize> = near.into_iter().filter(|hex| !lane.contains(hex)).collect();
+        let further: Vec<usize> = unused.iter().copied().filter(|&hex| distances[hex] == Some(lane.len())).collect();
+        let choices = if further.is_empty() || chance.percent(20) { unused } else { further };
+        let Some(next) = chance.pick_any(&choices) else { break };
+        lane.push(next);
+    }
+    lane
+}
+
+/// A few hexes around the group and nothing else, one or two of them vacant. The others are answered.
+fn island(chance: &mut Chance, position: &mut Position, start: usize) -> Vec<usize> {
+    let size = chance.from_to(3, 8);
+    let mut island = vec![start];
+    for _ in 0..4 * size {
+        let near = position.grid().neighbours(chance.pick(&island));
+        let next = chance.pick(&near).filter(|hex| island.len() < size && !island.contains(hex));
+        island.extend(next);
+    }
+    leave_open(chance, position, &island, 100);
+    island.retain(|&hex| hex != start);
+    chance.shuffle(&mut island);
+    island.truncate(island.len().saturating_sub(chance.from_to(1, 2)));
+    island
+}
+
+/// Two hexes beside the group and one behind both, so that a chain can run round into the hex where the group stood;
+/// a third beside it for those who stay behind. The hexes to be held are answered.
+fn ring(chance: &mut Chance, position: &mut Position, start: usize) -> Vec<usize> {
+    let near = position.grid().neighbours(start);
+    let (at, turn) = (chance.below(6), chance.pick(&[1, 5]));
+    let around = |places: usize| near[(at + places * turn) % 6];
+    let (Some(first), Some(second)) = (around(0), around(1)) else { return island(chance, position, start) };
+    let behind: Vec<usize> = (0..position.map.hexes.len())
+        .filter(|&hex| hex != start && position.joined(first, hex) && position.joined(hex, second))
+        .collect();
+    let pocket = around(chance.from_to(3, 5)).filter(|_| chance.percent(75));
+    let hexes: Vec<usize> = [start, first, second].into_iter().chain(behind.clone()).chain(pocket).collect();
+    let closed = chance.pick(&[90, 100]);
+    leave_open(chance, position, &hexes, closed);
+    let mut held = [vec![second], behind].concat();
+    held.extend(Some(first).filter(|_| chance.percent(20)));
+    held
+}
+
+/// Own stacks nearly everywhere, most of all around the group. The hexes to be held are answered.
+fn throng(chance: &mut Chance, position: &mut Position, start: usize) -> Vec<usize> {
+    let distances = position.grid().distances(start);
+    let (near, far) = (chance.pick(&[70, 90, 100]), chance.pick(&[45, 60, 75, 90]));
+    let often = |hex: usize| if distances[hex] <= Some(1) { near } else { far };
+    (0..position.map.hexes.len()).filter(|&hex| hex != start && chance.percent(often(hex))).collect()
+}
+
+/// One to three units of the force, now and then with a supply unit among them.
+fn stack(chance: &mut Chance, position: &mut Position, hex: usize, force: u8, supply_units: usize) {
+    for _ in 0..chance.pick(&[1, 1, 1, 2, 3]) {
+        let supply_unit = chance.percent(supply_units);
+        add(chance, position, hex, force, supply_unit);
+    }
+}
+
+/// Add a unit, if the hex takes it: a supply unit, if one is wanted and the force has any, or one of another type.
+fn add(chance: &mut Chance, position: &mut Position, hex: usize, force: u8, supply_unit: bool) -> Option<usize> {
+    if !takes(position, hex, force) {
+        return None;
+    }
+    let mut unit = unit_of(chance, force, Some(hex as u16));
+    if supply_unit && force < 3 {
+        unit = Unit::new(unit.nationality, SUPPLY_UNIT, unit.hex, unit.strength, 0);
+    } else if unit.kind == SUPPLY_UNIT {
+        unit = Unit::new(unit.nationality, INFANTRY, unit.hex, unit.strength, chance.byte(2, 9));
+    }
+    position.units.push(unit);
+    Some(position.units.len() - 1)
+}
+
+/// One to three units in the hex; all owe, or some stay behind. A supply unit may be among them.
+fn group(chance: &mut Chance, position: &mut Position, force: u8, start: usize, all_owe: bool) {
+    let count = if all_owe { chance.from_to(1, 3) } else { chance.from_to(2, 3) };
+    let first = add(chance, position, start, force, false);
+    first.into_iter().for_each(|unit| give_role(position, unit, OWES));
+    for _ in 1..count {
+        let supply_unit = chance.percent(20);
+        let another = add(chance, position, start, force, supply_unit);
+        if let Some(unit) = another.filter(|_| all_owe || chance.percent(30)) {
+            give_role(position, unit, OWES);
+        }
+    }
+}
+
+/// Some Enemies, about half of them beside the group; some may advance.
+fn enemies(chance: &mut Chance, position: &mut Position, force: u8, start: usize) {
+    let enemy = (force + chance.byte(1, 3)) % 4;
+    let hexes: Vec<usize> = (0..position.map.hexes.len()).collect();
+    let near: Vec<usize> = position.grid().neighbours(start).into_iter().flatten().collect();
+    for _ in 0..chance.pick(&[0, 1, 1, 2, 3]) {
+        let choices = if chance.percent(50) && !near.is_empty() { &near } else { &hexes };
+        let hex = chance.pick(choices);
+        let supply_unit = chance.percent(15);
+        let added = add(chance, position, hex, enemy, supply_unit);
+        if let Some(unit) = added.filter(|_| chance.percent(60)) {
+            give_role(position, unit, MAY_ADVANCE);
+        }
+    }
+}
+
+/// Now and then other stacks of the force owe too; some routes are there already.
+fn others_that_owe(chance: &mut Chance, position: &mut Position, force: u8, start: usize) {
+    let own = |unit: &&usize| position.units[**unit].force() == force && !position.units[**unit].stands_on(start);
+    let units: Vec<usize> = (0..position.units.len()).collect();
+    let others: Vec<usize> = units.iter().filter(own).copied().collect();
+    for _ in 0..chance.pick(&[0, 0, 0, 1, 2]) {
+        if let Some(unit) = chance.pick_any(&others) {
+            give_role(position, unit, OWES);
+        }
+    }
+    let routes = chance.pick(&[0, 0, 1, 3]);
+    write_routes(chance, position, routes);
+}

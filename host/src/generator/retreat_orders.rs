@@ -1,0 +1,153 @@
+//! Orders for a retreat: vacant routes, series of pushes, and some that are nearly legal.
+
+use super::chance::Chance;
+use crate::order::Order;
+use crate::position::*;
+use crate::pushes::{Step, Way};
+use crate::retreat::{legal_routes, owing_group};
+
+/// Route and pushes.
+type Lists = (Vec<usize>, Vec<usize>);
+
+/// An owing hex and what most often serves the group there; none if nobody owes.
+pub fn plausible_retreat(chance: &mut Chance, position: &Position) -> Option<Order> {
+    let (start, way) = any_group(chance, position)?;
+    let legal = legal_routes(position, start, &owing_group(position, start));
+    let lists = match any_series(chance, &way) {
+        _ if chance.percent(15) => loose_series(chance, &way, start),
+        _ if !legal.is_empty() => (legal[chance.below(legal.len())].clone(), Vec::new()),
+        Some(series) => lists_of(&series),
+        None => loose_series(chance, &way, start),
+    };
+    Some(order(start, lists))
+}
+
+/// An owing hex and an order that goes wrong in one thing, if anything serves the group there; none if nobody owes.
+pub fn nearly_legal_retreat(chance: &mut Chance, position: &Position) -> Option<Order> {
+    let (start, way) = any_group(chance, position)?;
+    let loose = loose_series(chance, &way, start);
+    let lists = match any_series(chance, &way) {
+        Some(series) if chance.percent(70) => wrong_in_one_thing(chance, position, &series, &loose),
+        _ => loose,
+    };
+    Some(order(start, lists))
+}
+
+/// A group that owes, before its first step.
+fn any_group(chance: &mut Chance, position: &Position) -> Option<(usize, Way)> {
+    let owing: Vec<u16> = position.units_with_role(OWES).iter().map(|&unit| position.units[unit].hex).collect();
+    let start = usize::from(chance.pick_any(&owing)?);
+    Some((start, Way::from(position, start, &owing_group(position, start))))
+}
+
+fn order(start: usize, (route, pushes): Lists) -> Order {
+    let numbers = |hexes: Vec<usize>| hexes.into_iter().map(|hex| hex as u16).collect();
+    Order::Retreat { hex: start as u16, route: numbers(route), pushes: numbers(pushes) }
+}
+
+fn lists_of(series: &[Step]) -> Lists {
+    let route = series.iter().map(|step| step.to).collect();
+    (route, series.iter().flat_map(|step| step.pushes.clone()).collect())
+}
+
+/// A series of steps that serves, chosen by chance; none if there is none.
+pub fn any_series(chance: &mut Chance, way: &Way) -> Option<Vec<Step>> {
+    if way.is_done() {
+        return Some(Vec::new());
+    }
+    let mut steps = way.steps();
+    chance.shuffle(&mut steps);
+    let step = steps.into_iter().find(|step| way.after(step).some_series())?;
+    let rest = any_series(chance, &way.after(&step))?;
+    Some([vec![step], rest].concat())
+}
+
+/// Steps about as many as are owed, with pushes that mind hardly more than what is adjacent.
+fn loose_series(chance: &mut Chance, way: &Way, start: usize) -> Lists {
+    let owed = usize::from(way.board().desk.owed_retreat);
+    let count = if chance.percent(85) { owed } else { chance.below(4) };
+    let distances = way.board().grid().distances(start);
+    let mut way = way.clone();
+    let mut here = start;
+    let mut series = Vec::new();
+    for made in 0..count {
+        let near = beside(way.board(), here);
+        let further: Vec<usize> = near.iter().copied().filter(|&hex| distances[hex] == Some(made + 1)).collect();
+        let choices = if further.is_empty() || chance.percent(10) { near } else { further };
+        let Some(to) = chance.pick_any(&choices) else { break };
+        let step = Step { to, pushes: loose_pushes(chance, way.board(), here, to) };
+        way = way.after(&step);
+        series.push(step);
+        here = to;
+    }
+    lists_of(&series)
+}
+
+/// Where stacks might go, one after the other, up to a vacant hex.
+fn loose_pushes(chance: &mut Chance, board: &Position, here: usize, to: usize) -> Vec<usize> {
+    let mut chain = vec![here, to];
+    while !board.is_vacant(chain[chain.len() - 1]) && chain.len() < 6 {
+        let near = beside(board, chain[chain.len() - 1]);
+        let unused: Vec<usize> = near.iter().copied().filter(|hex| !chain.contains(hex)).collect();
+        let vacant: Vec<usize> = unused.iter().copied().filter(|&hex| board.is_vacant(hex)).collect();
+        let choices = match chance.below(10) {
+            0 => near,
+            1..=4 if !vacant.is_empty() => vacant,
+            _ => unused,
+        };
+        let Some(next) = chance.pick_any(&choices) else { break };
+        chain.push(next);
+    }
+    chain.split_off(2)
+}
+
+/// The hexes next to one over an unblocked side where a unit may stand.
+pub fn beside(board: &Position, hex: usize) -> Vec<usize> {
+    let near = board.grid().neighbours(hex).into_iter().flatten();
+    near.filter(|&near| board.joined(hex, near) && board.bears_units(near)).collect()
+}
+
+/// A series changed in one thing.
+fn wrong_in_one_thing(chance: &mut Chance, position: &Position, series: &[Step], loose: &Lists) -> Lists {
+    let (mut route, mut pushes) = lists_of(series);
+    let at = chance.below(pushes.len());
+    match chance.below(12) {
+        0 | 1 if !pushes.is_empty() => pushes[at] = other_hex(chance, position, pushes[at]),
+        2 => {
+            pushes.pop();
+        }
+        3 => pushes.push(other_hex(chance, position, *pushes.last().unwrap_or(&route[0]))),
+        4 if !pushes.is_empty() => pushes.insert(at, pushes[at]),
+        5 => pushes.extend(pushes.clone()),
+        6 => pushes.reverse(),
+        7 => pushes.clear(),
+        8 => {
+            route.pop();
+        }
+        9 => {
+            let place = chance.below(route.len());
+            route[place] = other_hex(chance, position, route[place]);
+        }
+        10 => pushes = loose.1.clone(),
+        _ => return another_chain(chance, position, series),
+    }
+    (route, pushes)
+}
+
+/// A hex next to one, or the one itself.
+fn other_hex(chance: &mut Chance, position: &Position, hex: usize) -> usize {
+    chance.pick_any(&beside(position, hex)).unwrap_or(hex)
+}
+
+/// The series with the chain of one step exchanged for one that goes round by two hexes, the first of which comes twice.
+fn another_chain(chance: &mut Chance, position: &Position, series: &[Step]) -> Lists {
+    let mut series = series.to_vec();
+    let at = chance.below(series.len());
+    let step = &mut series[at];
+    if let Some(&first) = step.pushes.first() {
+        let round = other_hex(chance, position, first);
+        let again = chance.pick(&[step.to, round, first]);
+        step.pushes.splice(0..0, [first, again]);
+    }
+    lists_of(&series)
+}
