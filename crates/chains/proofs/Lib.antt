@@ -1,0 +1,4 @@
+pub mod Chains
+pub mod Follows
+pub mod Serves
+pub mod Fold

@@ -3,3 +3,5 @@ pub mod Chain
 pub mod Series
 pub mod Follows
 pub mod Serves
+pub mod Fold
+pub mod Examples

@@ -41,6 +41,17 @@ pub data Series (g : Land) : Stands → ℕ → ℕ → List ℕ → List ℕ �
       → Chain (g .next) s (a ∷ []) most x chain y → Series g (after s x y) (suc i) x route pushes
       → Series g s i a (x ∷ route) (chain ++ pushes)
 
+-- a series of k more steps from hex a on, after i steps
+pub record SeriesFrom (g : Land) (s : Stands) (k i a : ℕ) : Type 0 where
+  pub route : List ℕ
+  pub pushes : List ℕ
+  pub long : length route ≡ k
+  pub series : Series g s i a route pushes
+
+-- every step leads to a hex of the land
+pub record Bounded (g : Land) : Type 0 where
+  pub below : (h d z : ℕ) → g .next h d ≡ At z → z < g .hexes
+
 -- route and pushes are legal for a group of force f in hex `start` that owes n hexes
 pub record LegalSeries (b : Board) (f start n : ℕ) (route pushes : List ℕ) : Type 0 where
   pub long : length route ≡ n

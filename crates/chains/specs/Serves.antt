@@ -10,7 +10,7 @@ use Rattle.position.specs.Tally.{any}
 use Rattle.position.specs.Board.{Board}
 use Rattle.chains.specs.Stand.{stand}
 use Rattle.chains.specs.Chain.{Ways, Stands, rests, yields, leadsTo, leads, hasRest, most, after}
-use Rattle.chains.specs.Series.{Land, landOf, SeriesExists}
+use Rattle.chains.specs.Series.{Land, landOf, SeriesFrom, Bounded, SeriesExists}
 use Rattle.chains.specs.Follows.{byStand}
 
 -- a chain from the stack in hex h on may end in hex y. It grows by a hex each time, so those not used become fewer
@@ -38,6 +38,10 @@ serves g s (suc k) i a = any (λ d. leadsTo (onOver g (λ t x. serves g t k (suc
 unfoldable pub pushesServe : Board → ℕ → ℕ → ℕ → Bool
 pushesServe b f start n = serves (landOf b start) (stand b f start) n 0 start
 
--- The search finds one exactly if one exists. Proved in proofs/Serves.antt.
+-- On any bounded land the search finds one exactly if there is one. Proved in proofs/Serves.antt, and so is the next.
+abbrev pub SearchRight : Type 0
+SearchRight = (g : Land) → Bounded g → (s : Stands) (k i a : ℕ) → (serves g s k i a ≡ true) ↔ SeriesFrom g s k i a
+
+-- The search finds one exactly if one exists.
 abbrev pub ServesRight : Type 0
 ServesRight = (b : Board) (f start n : ℕ) → (pushesServe b f start n ≡ true) ↔ SeriesExists b f start n

@@ -25,22 +25,23 @@ use Rattle.routes.specs.Search.{entered, stepOf}
 pub far-view : {p : List ℕ} {v : View} → Laid p v → (start x : ℕ) → distanceOf (v .width) start x ≡ distanceOf (width p) start x
 far-view l start x = ap (λ (w : ℕ). distanceOf w start x) (l .view .width)
 
+-- where a step leads, by its test
+pub is-at : (r : Beside) (x : ℕ) → isAt r x ≡ true → r ≡ At x
+unfolding isAt
+is-at (At y) x e = ap At (eqb-true y x e)
+is-at Off x e = not-both false e refl
+
+pub at-is : {r : Beside} {x : ℕ} → r ≡ At x → isAt r x ≡ true
+unfolding isAt
+at-is {x = x} e = rw e (eq-eqb x x refl)
+
 -- hexes are joined exactly if some step leads from one to the other
 module _ (m : Map) (a x : ℕ) where
-  is-at : (r : Beside) → isAt r x ≡ true → r ≡ At x
-  unfolding isAt
-  is-at (At y) e = ap At (eqb-true y x e)
-  is-at Off e = not-both false e refl
-
-  at-is : {r : Beside} → r ≡ At x → isAt r x ≡ true
-  unfolding isAt
-  at-is e = rw e (eq-eqb x x refl)
-
   pub joined-next : joined m a x ≡ true → (d : ℕ) × (next m a d ≡ At x)
   unfolding reaches
   joined-next e =
       let s = any-some (reaches m a x) 6 (sym (joined-is m a x) ∙ e) in
-      (s .at, is-at (next m a (s .at)) (s .passes))
+      (s .at, is-at (next m a (s .at)) x (s .passes))
 
   pub next-joined : (d : ℕ) → next m a d ≡ At x → joined m a x ≡ true
   unfolding reaches
