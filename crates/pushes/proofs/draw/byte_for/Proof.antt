@@ -1,48 +1,55 @@
+-- `draw::byte_for` meets its contract: the byte is made of the hex that has the place.
+-- Assumes nothing.
+use Prim.Native.Nat.{ℕ, _+_, _<_}
+use mathlib.Core.Path.{_≡_, sym, ap, ap₂, _∙_}
+use native.Mathlib.Omega.{arith}
+use Rattle.position.specs.Board.{board}
+use Rattle.position.proofs.Sides.{area-view, on-view}
+use Rattle.chains.specs.declared.Stand.{Stand}
+use Rattle.sheet.proofs.Places.{hex-on}
+use Rattle.pushes.specs.Drawn.{standNumber}
+use Rattle.pushes.proofs.Drawing.{byte-off, byte-at}
 use borrow.Author.Needs.{needs}
 use Rattle.pushes.proofs.draw.byte_for.Statement.{statement}
 use Rattle.pushes.proofs.draw.byte_for.Tie as tie
-use Rattle.pushes.proofs.draw.byte_for.Reads as reads
-use Rattle.pushes.proofs.draw.byte_for.Lts as lts
-use Rattle.pushes.proofs.draw.open_bits.Reads as open-bits-reads
-use Rattle.pushes.proofs.draw.stand_number.Reads as stand-number-reads
-use Rattle.pushes.proofs.stands.stand_at.Reads as stand-at-reads
-use Rattle.sheet.proofs.spot.hex_for.Reads as hex-for-reads
 
--- src/draw.rt:48:25
 hex-for-requires : tie.Need-hex-for-requires
-hex-for-requires c κs = ?
+hex-for-requires c κs = (on-view (c .before .pre .0) (c .before .args .start) (c .before .pre .1), c .before .pre .2)
 
--- src/draw.rt:48:20
 enum-known-x : tie.Need-enum-known-x
 enum-known-x c = search needs
 
--- src/draw.rt:49:9
 enum-told : tie.Need-enum-told
 enum-told c = search needs
 
--- src/draw.rt:49:9
 returns : tie.Need-returns
-returns c = ?
+returns c =
+    let a = c .before .before .before .before .args in
+    (sym (byte-off (board (a .p .now)) (a .f) (a .start) (sym (c .before .before .hex-for .ensures) ∙ c .enum-told .given .1)), omega arith)
 
--- src/draw.rt:51:5
 open-bits-requires : tie.Need-open-bits-requires
 open-bits-requires c κs = search needs
 
--- src/draw.rt:51:39
 stand-at-requires : tie.Need-stand-at-requires
-stand-at-requires c κs = ?
+stand-at-requires c κs =
+    let a = c .before .before .before .before .before .before .args in
+    let o = on-view (c .before .before .before .before .before .before .pre .0) (a .start) (c .before .before .before .before .before .before .pre .1) in
+    let q = hex-on (a .v .width) (a .v .height) (a .start) (a .i) o (c .before .before .x .given .0 .0) (sym (c .before .before .before .before .hex-for .ensures) ∙ c .before .before .x .given .1) in
+    (c .before .before .before .before .before .before .pre .0, omega (arith, q .below, area-view (c .before .before .before .before .before .before .pre .0 .view)))
 
--- src/draw.rt:51:26
 stand-number-requires : tie.Need-stand-number-requires
 stand-number-requires c κs = search needs
 
--- src/draw.rt:51:5
 add-result : tie.Need-add-result
 add-result c = search needs
 
--- src/draw.rt:44:1
 returns-2 : tie.Need-returns-2
-returns-2 c = ?
+returns-2 c =
+    let a = c .before .before .before .before .before .before .before .before .args in
+    let b = board (a .p .now) in
+    let e = byte-at b (a .f) (a .start) (c .before .before .before .before .x .given .0 .0) (sym (c .before .before .before .before .before .before .hex-for .ensures) ∙ c .before .before .before .before .x .given .1) in
+    let s = c .stand-number .ensures .0 ∙ ap standNumber (c .before .stand-at .ensures) in
+    (ap₂ _+_ (c .before .before .open-bits .ensures .0) s ∙ sym e, omega (arith, c .before .before .open-bits .ensures .1, c .stand-number .ensures .1))
 
 pub byte-for-spec : {M : Type 1} → statement M
 byte-for-spec =

@@ -1,50 +1,47 @@
+-- `draw::draw` meets its contract. The loop's invariant: the places passed are drawn. The measure is how many are left.
+-- Assumes nothing.
+use Prim.Native.Nat.{_-_, _≤_}
+use native.Mathlib.Omega.{arith}
+use borrow.Author.Needs.{needs}
+use Rattle.position.specs.Board.{board}
+use Rattle.paint.proofs.Bytes.{Pass, pass-none, pass-set}
+use Rattle.pushes.proofs.Drawing.{drawing, drawn}
 use Rattle.pushes.proofs.draw.draw.Statement.{statement}
 use Rattle.pushes.proofs.draw.draw.Tie as tie
-use Rattle.pushes.proofs.draw.draw.Reads as reads
-use Rattle.pushes.proofs.draw.draw.Lts as lts
-use Rattle.pushes.proofs.draw.byte_for.Reads as byte-for-reads
 
 abbrev Inv-loop : tie.InvT-loop
-Inv-loop p v f start room₀ i₀ room i = ?
+Inv-loop p v f start room₀ i₀ room i = (i ≤ 182) × Pass (drawing (board p) f start (v .width) (v .height)) i room₀ room
 
 abbrev μ-loop : tie.MeasureT-loop
-μ-loop p v f start room₀ i₀ room i = ?
+μ-loop p v f start room₀ i₀ room i = 182 - i
 
--- src/draw.rt:59:5
 loop-holds : tie.Need-loop-holds Inv-loop μ-loop
-loop-holds c = ?
+loop-holds c = (omega arith, pass-none)
 
--- src/draw.rt:60:19
 byte-for-requires : tie.Need-byte-for-requires Inv-loop μ-loop
-byte-for-requires c κs = ?
+byte-for-requires c κs = (c .before .before .before .before .pre .0, c .before .before .before .before .pre .1, omega arith)
 
--- src/draw.rt:60:19
 cast-room : tie.Need-cast-room Inv-loop μ-loop
-cast-room c = ?
+cast-room c = omega (arith, c .byte-for .ensures .1)
 
--- src/draw.rt:60:9
 slice-write-room : tie.Need-slice-write-room Inv-loop μ-loop
-slice-write-room c = ?
+slice-write-room c = omega (arith, c .before .before .loop .inv .1 .long, c .before .before .before .before .before .pre .2)
 
--- src/draw.rt:59:9
 add-i : tie.Need-add-i Inv-loop μ-loop
-add-i c = ?
+add-i c = search needs
 
--- src/draw.rt:59:5
 loop-less : tie.Need-loop-less Inv-loop μ-loop
-loop-less c = ?
+loop-less c = search needs
 
--- src/draw.rt:59:5
 loop-again : tie.Need-loop-again Inv-loop μ-loop
-loop-again c = ?
+unfolding drawing
+loop-again c = (omega arith, pass-set (c .before .before .loop .inv .1) (omega (arith, c .before .before .loop .inv .1 .long, c .before .before .before .before .before .pre .2)) _ (c .byte-for .ensures .0))
 
--- src/draw.rt:55:1
 same-length : tie.Need-same-length Inv-loop μ-loop
-same-length c = ?
+same-length c = c .before .loop .inv .1 .long
 
--- src/draw.rt:55:1
 returns : tie.Need-returns Inv-loop μ-loop
-returns c = ?
+returns c = drawn (c .before .before .before .before .args .f) (c .before .before .before .before .args .start) (c .before .loop .i) (c .before .before .before .before .pre .0 .view) (c .before .before .before .before .pre .2) (omega arith) (c .before .loop .inv .1)
 
 pub draw-spec : {M : Type 1} → statement M
 draw-spec =

@@ -1,7 +1,9 @@
 -- `draw::open_bits` meets its contract. The loop's invariant: the bits of the directions passed. The measure is how many are left.
 -- Assumes nothing.
+use mathlib.Core.Logic.{⊎-elim}
+use Rattle.pushes.proofs.Drawing.{opens-at, opens-off, bits-none, bits-open, bits-shut, bits-low}
 use Prim.Native.Nat.{_-_, _≤_}
-use mathlib.Core.Path.{_≡_}
+use mathlib.Core.Path.{_≡_, sym, ap, _∙_}
 use native.Mathlib.Omega.{arith}
 use borrow.Author.Needs.{needs}
 use Rattle.position.specs.Board.{ground}
@@ -16,22 +18,24 @@ abbrev μ-loop : tie.MeasureT-loop
 μ-loop p v x m₀ d₀ m d = 6 - d
 
 loop-holds : tie.Need-loop-holds Inv-loop μ-loop
-loop-holds c = ?
+loop-holds c = (omega arith, sym (bits-none _ _))
 
 next-requires : tie.Need-next-requires Inv-loop μ-loop
 next-requires c κs = search needs
 
 enum-told : tie.Need-enum-told Inv-loop μ-loop
-enum-told c = ?
+enum-told c = search needs
 
 side-bit-requires : tie.Need-side-bit-requires Inv-loop μ-loop
 side-bit-requires c κs = search needs
 
 add-m : tie.Need-add-m Inv-loop μ-loop
-add-m c = ?
+add-m c =
+    let a = c .before .before .before .before .before .before .before .args in
+    omega (arith, c .side-bit .ensures, c .before .before .before .before .before .loop .inv .1, bits-low (ground (a .p .now)) (a .x) (c .before .before .before .before .before .loop .d) (omega arith))
 
 enum-told-2 : tie.Need-enum-told-2 Inv-loop μ-loop
-enum-told-2 c = ?
+enum-told-2 c = search needs
 
 add-d : tie.Need-add-d Inv-loop μ-loop
 add-d c = search needs
@@ -40,10 +44,24 @@ loop-less : tie.Need-loop-less Inv-loop μ-loop
 loop-less c = search needs
 
 loop-again : tie.Need-loop-again Inv-loop μ-loop
-loop-again c = ?
+loop-again c =
+    let a = c .before .before .before .before .before .args in
+    let m = ground (a .p .now) in
+    let d = c .before .before .before .loop .d in
+    (
+      omega arith,
+      ⊎-elim
+      (λ w. omega (arith, w .3, w .2 .ensures, c .before .before .before .loop .inv .1, bits-open m (a .x) d (opens-at m (a .x) d (c .before .next .ensures) (w .1 .given .1))))
+      (λ w. omega (arith, w .2, c .before .before .before .loop .inv .1, bits-shut m (a .x) d (opens-off m (a .x) d (c .before .next .ensures) (w .1 .given .1))))
+      (c .match .came),
+    )
 
 returns : tie.Need-returns Inv-loop μ-loop
-returns c = ?
+returns c =
+    let a = c .before .before .before .args in
+    let e : c .before .loop .d ≡ 6 = omega arith in
+    let q = c .before .loop .inv .1 ∙ ap (openBits (ground (a .p .now)) (a .x)) e in
+    (q, omega (arith, q, bits-low (ground (a .p .now)) (a .x) 6 (omega arith)))
 
 pub open-bits-spec : {M : Type 1} → statement M
 open-bits-spec =
