@@ -12,7 +12,7 @@ use Rattle.position.specs.Crowd.{owesAt}
 use Rattle.position.specs.Ground.{standable}
 use Rattle.position.proofs.Tallies.{any-false, any-never}
 use Rattle.field.specs.Scene.{scene}
-use Rattle.field.specs.Zone.{standsOn, vacant, enemyZone}
+use Rattle.field.specs.Zone.{standsOn, vacant}
 use Rattle.paint.specs.Paint.{Marked}
 use Rattle.paint.proofs.Units.{marked-zone, marked-held}
 use Rattle.routes.specs.Bears.{bears}

@@ -1,11 +1,10 @@
 -- `draw::byte_for` meets its contract: the byte is made of the hex that has the place.
 -- Assumes nothing.
-use Prim.Native.Nat.{ℕ, _+_, _<_}
-use mathlib.Core.Path.{_≡_, sym, ap, ap₂, _∙_}
+use Prim.Native.Nat.{ℕ, _+_}
+use mathlib.Core.Path.{sym, ap, ap₂, _∙_}
 use native.Mathlib.Omega.{arith}
 use Rattle.position.specs.Board.{board}
 use Rattle.position.proofs.Sides.{area-view, on-view}
-use Rattle.chains.specs.declared.Stand.{Stand}
 use Rattle.sheet.proofs.Places.{hex-on}
 use Rattle.pushes.specs.Drawn.{standNumber}
 use Rattle.pushes.proofs.Drawing.{byte-off, byte-at}
@@ -49,7 +48,7 @@ returns-2 c =
     let b = board (a .p .now) in
     let e = byte-at b (a .f) (a .start) (c .before .before .before .before .x .given .0 .0) (sym (c .before .before .before .before .before .before .hex-for .ensures) ∙ c .before .before .before .before .x .given .1) in
     let s = c .stand-number .ensures .0 ∙ ap standNumber (c .before .stand-at .ensures) in
-    (ap₂ _+_ (c .before .before .open-bits .ensures .0) s ∙ sym e, omega (arith, c .before .before .open-bits .ensures .1, c .stand-number .ensures .1))
+    (ap₂ (λ (m n : ℕ). m + n) (c .before .before .open-bits .ensures .0) s ∙ sym e, omega (arith, c .before .before .open-bits .ensures .1, c .stand-number .ensures .1))
 
 pub byte-for-spec : {M : Type 1} → statement M
 byte-for-spec =

@@ -1,13 +1,13 @@
 -- `draw::open_bits` meets its contract. The loop's invariant: the bits of the directions passed. The measure is how many are left.
 -- Assumes nothing.
-use mathlib.Core.Logic.{⊎-elim}
-use Rattle.pushes.proofs.Drawing.{opens-at, opens-off, bits-none, bits-open, bits-shut, bits-low}
 use Prim.Native.Nat.{_-_, _≤_}
 use mathlib.Core.Path.{_≡_, sym, ap, _∙_}
+use mathlib.Core.Logic.{⊎-elim}
 use native.Mathlib.Omega.{arith}
 use borrow.Author.Needs.{needs}
 use Rattle.position.specs.Board.{ground}
 use Rattle.pushes.specs.Drawn.{openBits}
+use Rattle.pushes.proofs.Drawing.{opens-at, opens-off, bits-none, bits-open, bits-shut, bits-low}
 use Rattle.pushes.proofs.draw.open_bits.Statement.{statement}
 use Rattle.pushes.proofs.draw.open_bits.Tie as tie
 
@@ -47,13 +47,12 @@ loop-again : tie.Need-loop-again Inv-loop μ-loop
 loop-again c =
     let a = c .before .before .before .before .before .args in
     let m = ground (a .p .now) in
-    let d = c .before .before .before .loop .d in
-    (
+    let d = c .before .before .before .loop .d in (
       omega arith,
       ⊎-elim
-      (λ w. omega (arith, w .3, w .2 .ensures, c .before .before .before .loop .inv .1, bits-open m (a .x) d (opens-at m (a .x) d (c .before .next .ensures) (w .1 .given .1))))
-      (λ w. omega (arith, w .2, c .before .before .before .loop .inv .1, bits-shut m (a .x) d (opens-off m (a .x) d (c .before .next .ensures) (w .1 .given .1))))
-      (c .match .came),
+          (λ w. omega (arith, w .3, w .2 .ensures, c .before .before .before .loop .inv .1, bits-open m (a .x) d (opens-at m (a .x) d (c .before .next .ensures) (w .1 .given .1))))
+          (λ w. omega (arith, w .2, c .before .before .before .loop .inv .1, bits-shut m (a .x) d (opens-off m (a .x) d (c .before .next .ensures) (w .1 .given .1))))
+          (c .match .came),
     )
 
 returns : tie.Need-returns Inv-loop μ-loop
