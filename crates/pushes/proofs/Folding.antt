@@ -2,7 +2,7 @@
 -- Assumes nothing.
 use Prim.Native.Nat.{ℕ, _+_, _≤_, _<_}
 use mathlib.Core.Path.{_≡_, refl, sym, ap, _∙_}
-use mathlib.Core.Bool.{true, false}
+use mathlib.Core.Bool.{Bool, true, false}
 use mathlib.Core.List.{List, map}
 use native.Mathlib.Omega.{arith}
 use lib.ListN.{length}
@@ -26,7 +26,18 @@ use Rattle.chains.proofs.Fold.{same-search, same-test}
 use Rattle.sheet.specs.Sheet.{sideBit, standIn, nextIn, landIn}
 use Rattle.sheet.specs.Places.{placeFor, homeFor}
 use Rattle.sheet.proofs.Places.{place-one}
-use Rattle.sheet.proofs.Around.{Near, near-start, near-more, near-further, near-within, near-placed, near-hex, near-far, near-step, start-place}
+use Rattle.sheet.proofs.Around.{
+  Near,
+  near-start,
+  near-more,
+  near-further,
+  near-within,
+  near-placed,
+  near-hex,
+  near-far,
+  near-step,
+  start-place,
+}
 use Rattle.pushes.specs.Drawn.{standNumber, openBits, opens, Drawn}
 use Rattle.pushes.proofs.Drawing.{opens-at, opens-off, stand-back, has-back, byte-at}
 
@@ -98,7 +109,8 @@ module _ (b : Board) (f start : ℕ) (l : List ℕ) (o : On (b .map .width) (b .
   unfolding pushesServe
   serves-there n q =
       ap (serves (landIn (homeFor w start) l) (standIn l) n 0) (sym (start-place w h start o))
-      ∙ sym (same-search folds agrees (board-bounded b start) (sheet-bounded (homeFor w start) l) n 0 start (near-start w h start o) (omega arith))
+      ∙ sym
+      (same-search folds agrees (board-bounded b start) (sheet-bounded (homeFor w start) l) n 0 start (near-start w h start o) (omega arith))
 
   -- and the test of an order says what it says there
   pub follows-there :
@@ -106,5 +118,6 @@ module _ (b : Board) (f start : ℕ) (l : List ℕ) (o : On (b .map .width) (b .
       → follows (landIn (homeFor w start) l) (standIn l) 0 (homeFor w start) (map at route) (map at pushes)
       ≡ follows (landOf b start) (stand b f start) 0 start route pushes
   follows-there route pushes q =
-      ap (λ (i : ℕ). follows (landIn (homeFor w start) l) (standIn l) 0 i (map at route) (map at pushes)) (sym (start-place w h start o))
+      let by : ℕ → Bool = λ i. follows (landIn (homeFor w start) l) (standIn l) 0 i (map at route) (map at pushes) in
+      ap by (sym (start-place w h start o))
       ∙ sym (same-test folds agrees 0 start (near-start w h start o) route pushes (omega arith))

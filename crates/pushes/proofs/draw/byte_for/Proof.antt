@@ -31,10 +31,13 @@ open-bits-requires c κs = search needs
 
 stand-at-requires : tie.Need-stand-at-requires
 stand-at-requires c κs =
-    let a = c .before .before .before .before .before .before .args in
-    let o = on-view (c .before .before .before .before .before .before .pre .0) (a .start) (c .before .before .before .before .before .before .pre .1) in
-    let q = hex-on (a .v .width) (a .v .height) (a .start) (a .i) o (c .before .before .x .given .0 .0) (sym (c .before .before .before .before .hex-for .ensures) ∙ c .before .before .x .given .1) in
-    (c .before .before .before .before .before .before .pre .0, omega (arith, q .below, area-view (c .before .before .before .before .before .before .pre .0 .view)))
+    let k = c .before .before in
+    let s = k .before .before .before .before in
+    let a = s .args in
+    let o = on-view (s .pre .0) (a .start) (s .pre .1) in
+    let e = sym (k .before .before .hex-for .ensures) ∙ k .x .given .1 in
+    let q = hex-on (a .v .width) (a .v .height) (a .start) (a .i) o (k .x .given .0 .0) e in
+    (s .pre .0, omega (arith, q .below, area-view (s .pre .0 .view)))
 
 stand-number-requires : tie.Need-stand-number-requires
 stand-number-requires c κs = search needs
@@ -44,11 +47,13 @@ add-result c = search needs
 
 returns-2 : tie.Need-returns-2
 returns-2 c =
-    let a = c .before .before .before .before .before .before .before .before .args in
-    let b = board (a .p .now) in
-    let e = byte-at b (a .f) (a .start) (c .before .before .before .before .x .given .0 .0) (sym (c .before .before .before .before .before .before .hex-for .ensures) ∙ c .before .before .before .before .x .given .1) in
-    let s = c .stand-number .ensures .0 ∙ ap standNumber (c .before .stand-at .ensures) in
-    (ap₂ (λ (m n : ℕ). m + n) (c .before .before .open-bits .ensures .0) s ∙ sym e, omega (arith, c .before .before .open-bits .ensures .1, c .stand-number .ensures .1))
+    let t = c .before .before in
+    let k = t .before .before in
+    let a = k .before .before .before .before .args in
+    let e = sym (k .before .before .hex-for .ensures) ∙ k .x .given .1 in
+    let q = byte-at (board (a .p .now)) (a .f) (a .start) (k .x .given .0 .0) e in
+    let n = c .stand-number .ensures .0 ∙ ap standNumber (c .before .stand-at .ensures) in
+    (ap₂ (λ (m n : ℕ). m + n) (t .open-bits .ensures .0) n ∙ sym q, omega (arith, t .open-bits .ensures .1, c .stand-number .ensures .1))
 
 pub byte-for-spec : {M : Type 1} → statement M
 byte-for-spec =

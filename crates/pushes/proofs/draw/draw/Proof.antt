@@ -35,13 +35,19 @@ loop-less c = search needs
 
 loop-again : tie.Need-loop-again Inv-loop μ-loop
 unfolding drawing
-loop-again c = (omega arith, pass-set (c .before .before .loop .inv .1) (omega (arith, c .before .before .loop .inv .1 .long, c .before .before .before .before .before .pre .2)) _ (c .byte-for .ensures .0))
+loop-again c =
+    let k = c .before .before in
+    let s = k .before .before .before in
+    let m = k .loop .inv .1 in
+    (omega arith, pass-set m (omega (arith, m .long, s .pre .2)) _ (c .byte-for .ensures .0))
 
 same-length : tie.Need-same-length Inv-loop μ-loop
 same-length c = c .before .loop .inv .1 .long
 
 returns : tie.Need-returns Inv-loop μ-loop
-returns c = drawn (c .before .before .before .before .args .f) (c .before .before .before .before .args .start) (c .before .loop .i) (c .before .before .before .before .pre .0 .view) (c .before .before .before .before .pre .2) (omega arith) (c .before .loop .inv .1)
+returns c =
+    let s = c .before .before .before .before in
+    drawn (s .args .f) (s .args .start) (c .before .loop .i) (s .pre .0 .view) (s .pre .2) (omega arith) (c .before .loop .inv .1)
 
 pub draw-spec : {M : Type 1} → statement M
 draw-spec =

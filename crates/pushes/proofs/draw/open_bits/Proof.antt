@@ -31,8 +31,9 @@ side-bit-requires c κs = search needs
 
 add-m : tie.Need-add-m Inv-loop μ-loop
 add-m c =
-    let a = c .before .before .before .before .before .before .before .args in
-    omega (arith, c .side-bit .ensures, c .before .before .before .before .before .loop .inv .1, bits-low (ground (a .p .now)) (a .x) (c .before .before .before .before .before .loop .d) (omega arith))
+    let k = c .before .before .before .before .before in
+    let a = k .before .before .args in
+    omega (arith, c .side-bit .ensures, k .loop .inv .1, bits-low (ground (a .p .now)) (a .x) (k .loop .d) (omega arith))
 
 enum-told-2 : tie.Need-enum-told-2 Inv-loop μ-loop
 enum-told-2 c = search needs
@@ -45,13 +46,15 @@ loop-less c = search needs
 
 loop-again : tie.Need-loop-again Inv-loop μ-loop
 loop-again c =
-    let a = c .before .before .before .before .before .args in
+    let k = c .before .before .before in
+    let a = k .before .before .args in
     let m = ground (a .p .now) in
-    let d = c .before .before .before .loop .d in (
+    let d = k .loop .d in
+    let e = c .before .next .ensures in (
       omega arith,
       ⊎-elim
-          (λ w. omega (arith, w .3, w .2 .ensures, c .before .before .before .loop .inv .1, bits-open m (a .x) d (opens-at m (a .x) d (c .before .next .ensures) (w .1 .given .1))))
-          (λ w. omega (arith, w .2, c .before .before .before .loop .inv .1, bits-shut m (a .x) d (opens-off m (a .x) d (c .before .next .ensures) (w .1 .given .1))))
+          (λ w. omega (arith, w .3, w .2 .ensures, k .loop .inv .1, bits-open m (a .x) d (opens-at m (a .x) d e (w .1 .given .1))))
+          (λ w. omega (arith, w .2, k .loop .inv .1, bits-shut m (a .x) d (opens-off m (a .x) d e (w .1 .given .1))))
           (c .match .came),
     )
 

@@ -38,8 +38,10 @@ loop-again c = one-more (c .before .before .before .loop .inv) (omega arith) (sy
 
 returns-2 : tie.Need-returns-2 Inv-loop μ-loop
 returns-2 c =
-    let a = c .before .before .before .args in
-    sym (ap (any (apart (board (a .p .now)) (a .a) (a .h))) (sym (c .before .before .before .pre .view .count)) ∙ none-at-all (c .before .loop .inv) (omega arith))
+    let s = c .before .before .before in
+    let a = s .args in
+    let t = apart (board (a .p .now)) (a .a) (a .h) in
+    sym (ap (any t) (sym (s .pre .view .count)) ∙ none-at-all (c .before .loop .inv) (omega arith))
 
 pub any-apart-spec : {M : Type 1} → statement M
 any-apart-spec =

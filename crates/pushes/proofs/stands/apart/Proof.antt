@@ -20,16 +20,17 @@ role-requires c κs = search needs
 
 returns-2 : tie.Need-returns-2
 returns-2 c =
-    let a = c .before .before .before .before .before .args in
-    sym
-    (apart-stays (board (a .p .now)) (a .a) (a .h) (a .u) (sym (c .before .before .before .hex .ensures .is) ∙ c .before .before .if1 .left)
-    (λ e. c .if2 .taken (c .before .role .ensures .is ∙ e)))
+    let k = c .before .before in
+    let a = k .before .before .before .args in
+    let e = sym (k .before .hex .ensures .is) ∙ k .if1 .left in
+    sym (apart-stays (board (a .p .now)) (a .a) (a .h) (a .u) e (λ r. c .if2 .taken (c .before .role .ensures .is ∙ r)))
 
 returns-3 : tie.Need-returns-3
 returns-3 c =
-    let a = c .before .before .before .before .before .args in
-    sym
-    (apart-owes (board (a .p .now)) (a .a) (a .h) (a .u) (sym (c .before .before .before .hex .ensures .is) ∙ c .before .before .if1 .left) (sym (c .before .role .ensures .is) ∙ c .if2 .left))
+    let k = c .before .before in
+    let a = k .before .before .before .args in
+    let e = sym (k .before .hex .ensures .is) ∙ k .if1 .left in
+    sym (apart-owes (board (a .p .now)) (a .a) (a .h) (a .u) e (sym (c .before .role .ensures .is) ∙ c .if2 .left))
 
 pub apart-spec : {M : Type 1} → statement M
 apart-spec = tie.close (tie.spec hex-requires returns role-requires returns-2 returns-3)

@@ -21,9 +21,10 @@ firm-requires c κs = search needs
 
 returns-2 : tie.Need-returns-2
 returns-2 c =
-    let a = c .before .before .before .before .args in
-    c .firm .ensures
-    ∙ sym (bars-there (board (a .p .now)) (a .f) (a .a) (a .h) (a .u) (sym (c .before .before .apart .ensures) ∙ not-false _ (c .before .if1 .left)))
+    let k = c .before in
+    let a = k .before .before .before .args in
+    let e = sym (k .before .apart .ensures) ∙ not-false _ (k .if1 .left) in
+    c .firm .ensures ∙ sym (bars-there (board (a .p .now)) (a .f) (a .a) (a .h) (a .u) e)
 
 pub bars-spec : {M : Type 1} → statement M
 bars-spec = tie.close (tie.spec apart-requires returns firm-requires returns-2)

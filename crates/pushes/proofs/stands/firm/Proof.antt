@@ -22,19 +22,22 @@ kind-requires c κs = search needs
 
 returns-2 : tie.Need-returns-2
 returns-2 c =
-    let a = c .before .before .before .before .before .args in
-    sym
-    (firm-supply (board (a .p .now)) (a .f) (a .u) (sym (c .before .before .before .force-of .ensures) ∙ c .before .before .if1 .left) (sym (c .before .kind .ensures .is) ∙ c .if2 .taken))
+    let k = c .before .before in
+    let a = k .before .before .before .args in
+    let e = sym (k .before .force-of .ensures) ∙ k .if1 .left in
+    sym (firm-supply (board (a .p .now)) (a .f) (a .u) e (sym (c .before .kind .ensures .is) ∙ c .if2 .taken))
 
 role-requires : tie.Need-role-requires
 role-requires c κs = search needs
 
 returns-3 : tie.Need-returns-3
 returns-3 c =
-    let a = c .before .before .before .before .before .before .args in
+    let t = c .before in
+    let k = t .before .before in
+    let a = k .before .before .before .args in
+    let e = sym (k .before .force-of .ensures) ∙ k .if1 .left in
     ap (λ (n : ℕ). eqb n 1) (c .role .ensures .is)
-    ∙ sym
-    (firm-owes (board (a .p .now)) (a .f) (a .u) (sym (c .before .before .before .before .force-of .ensures) ∙ c .before .before .before .if1 .left) (λ e. c .before .if2 .left (c .before .before .kind .ensures .is ∙ e)))
+    ∙ sym (firm-owes (board (a .p .now)) (a .f) (a .u) e (λ r. t .if2 .left (t .before .kind .ensures .is ∙ r)))
 
 pub firm-spec : {M : Type 1} → statement M
 firm-spec =
