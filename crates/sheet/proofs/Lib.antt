@@ -1,1 +1,3 @@
 pub mod Sheets
+pub mod Trails
+pub mod Ends
