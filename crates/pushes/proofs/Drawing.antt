@@ -65,7 +65,7 @@ module _ (m : Map) (x : ℕ) where
     more = ap (openBits m x) (add-one d)
 
     -- as a product
-    pub added : (k : ℕ) → sideBit d ≡ k → openBits m x (d + 1) ≡ num (opens m x d) * k + openBits m x d
+    added : (k : ℕ) → sideBit d ≡ k → openBits m x (d + 1) ≡ num (opens m x d) * k + openBits m x d
     added k e =
         more ∙ ap (λ (n : ℕ). n + openBits m x d) (num-of (opens m x d) (sideBit d) ∙ ap (λ (n : ℕ). num (opens m x d) * n) e)
 
@@ -144,7 +144,7 @@ module _ (m : Map) (x k : ℕ) (l : k ≤ 3) where
   unfolding has
   asked n d e = ap (λ (b : ℕ). eqb b 1) e ∙ num-is (opens m x d)
 
-  pub has-open : (d : ℕ) → d < 6 → has (sideBit d) (openBits m x 6 + k) ≡ opens m x d
+  has-open : (d : ℕ) → d < 6 → has (sideBit d) (openBits m x 6 + k) ≡ opens m x d
   has-open zero q = asked 4 0 (split .first)
   has-open (suc zero) q = asked 8 1 (split .second)
   has-open (suc (suc zero)) q = asked 16 2 (split .third)
@@ -153,7 +153,7 @@ module _ (m : Map) (x k : ℕ) (l : k ≤ 3) where
   has-open (suc (suc (suc (suc (suc zero))))) q = asked 128 5 (split .sixth)
   has-open (suc (suc (suc (suc (suc (suc d)))))) q = absurd (omega arith)
 
-  pub rest-is : (openBits m x 6 + k) % 4 ≡ k
+  rest-is : (openBits m x 6 + k) % 4 ≡ k
   rest-is = split .low
 
 -- and what it says of its place is the stand whose number was added

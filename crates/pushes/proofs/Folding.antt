@@ -42,7 +42,7 @@ use Rattle.pushes.specs.Drawn.{standNumber, openBits, opens, Drawn}
 use Rattle.pushes.proofs.Drawing.{opens-at, opens-off, stand-back, has-back, byte-at}
 
 -- every step on a sheet leads to one of its places
-pub sheet-bounded : (home : ℕ) (l : List ℕ) → Bounded (landIn home l)
+sheet-bounded : (home : ℕ) (l : List ℕ) → Bounded (landIn home l)
 unfolding landIn nextIn
 sheet-bounded home l =
     record {
@@ -76,7 +76,7 @@ module _ (b : Board) (f start : ℕ) (l : List ℕ) (o : On (b .map .width) (b .
   drawn-byte x n = k .each (at x) (near-placed w h start x n .below) ∙ byte-at b f start x (near-hex w h start x n)
 
   -- says what the hex is,
-  pub agrees : Agrees at (Near w h start) (stand b f start) (standIn l)
+  agrees : Agrees at (Near w h start) (stand b f start) (standIn l)
   unfolding standIn
   agrees = record { same = λ x n. rw (drawn-byte x n) (stand-back (b .map) x (stand b f start x)) }
 
@@ -93,7 +93,7 @@ module _ (b : Board) (f start : ℕ) (l : List ℕ) (o : On (b .map .width) (b .
       step-shut l (at x) d (drawn-open x d (near-more w h start 5 6 x n (omega arith)) q ∙ opens-off (b .map) x d (sym e) refl)
 
   -- so the sheet is a copy of the land
-  pub folds : Folds (landOf b start) (landIn (homeFor w start) l) at (Near w h start)
+  folds : Folds (landOf b start) (landIn (homeFor w start) l) at (Near w h start)
   unfolding landOf landIn
   folds =
       record {

@@ -1,7 +1,7 @@
 -- What the sheet's answers say of an order.
 -- Assumes nothing.
 use Prim.Native.Nat.{ℕ, _≤_, _<_}
-use mathlib.Core.Path.{_≡_, sym, ap, ap₂, _∙_}
+use mathlib.Core.Path.{_≡_, sym, ap, _∙_}
 use mathlib.Core.Bool.{Bool, true, false}
 use mathlib.Core.List.{List, map}
 use native.Mathlib.Omega.{arith}
@@ -47,7 +47,7 @@ module _ (b : Board) (f start n : ℕ) (route pushes : List ℕ) where
   legal-not h = simp (ne-eqb (length route) n h)
 
   -- and one of the right length is if it is followed
-  pub legal-long : length route ≡ n → legalPushes b f start n route pushes ≡ follows (landOf b start) (stand b f start) 0 start route pushes
+  legal-long : length route ≡ n → legalPushes b f start n route pushes ≡ follows (landOf b start) (stand b f start) 0 start route pushes
   unfolding legalPushes
   legal-long e = simp (eq-eqb (length route) n e)
 

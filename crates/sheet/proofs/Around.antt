@@ -20,7 +20,7 @@ pub record Near (w h start k x : ℕ) : Type 0 where
   pub steps : distanceOf w start x ≤ k
 
 -- every place of the sheet is on a map of its columns and rows
-pub on-sheet : {i : ℕ} → i < 182 → On 14 13 i
+on-sheet : {i : ℕ} → i < 182 → On 14 13 i
 on-sheet l = omega arith
 
 -- numbers that are shifted alike are as far apart
@@ -37,7 +37,7 @@ module _ {w start x i : ℕ} (p : Placed w start x i) where
   deep = omega (arith, parity, p .row)
 
 -- places are as far apart as their hexes
-pub placed-far : {w start x z i j : ℕ} → Placed w start x i → Placed w start z j → distanceOf 14 i j ≡ distanceOf w x z
+placed-far : {w start x z i j : ℕ} → Placed w start x i → Placed w start z j → distanceOf 14 i j ≡ distanceOf w x z
 unfolding distanceOf far
 placed-far {w} {start} {x} {z} {i} {j} p q =
     ap₂ (λ (u v : ℕ). max u ((u + v) / 2))
@@ -46,7 +46,7 @@ placed-far {w} {start} {x} {z} {i} {j} p q =
     (deep p) (deep q))
 
 -- and a step between hexes is one between their places
-pub placed-step : {w start x z i j : ℕ} (h d : ℕ) → Placed w start x i → Placed w start z j → neighbourOf w h x d ≡ At z
+placed-step : {w start x z i j : ℕ} (h d : ℕ) → Placed w start x i → Placed w start z j → neighbourOf w h x d ≡ At z
     → neighbourOf 14 13 i d ≡ At j
 placed-step {w} {start} {x} {z} {i} {j} h d p q e =
     let g = stepped w h x d z e .goes in

@@ -109,7 +109,7 @@ home-placed w start =
     record { column = omega (arith, a, b); row = omega (arith, a, b); below = omega (arith, a, b) }
 
 -- no two hexes have the same place, and no hex has two
-pub placed-one : {w start x z i : ℕ} → Placed w start x i → Placed w start z i → z ≡ x
+placed-one : {w start x z i : ℕ} → Placed w start x i → Placed w start z i → z ≡ x
 placed-one {w} {start} {x} {z} p q =
     let c : z % w ≡ x % w = omega (arith, p .column, q .column) in
     let r : z / w ≡ x / w = omega (arith, p .row, q .row) in
