@@ -1,4 +1,8 @@
 pub mod Sheets
+pub mod Places
+pub mod Around
+pub mod Trails
+pub mod Ends
 pub mod Taking
 pub mod Reached
 pub mod Searching
