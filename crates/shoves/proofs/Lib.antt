@@ -1,0 +1,4 @@
+pub mod Clearing
+pub mod Marching
+pub mod Sweeps
+pub mod Turns

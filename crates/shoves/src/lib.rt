@@ -3,7 +3,6 @@ pub mod clear;
 pub mod group;
 
 ghost use mathlib.Core.Path.{_≡_};
-ghost use Prim.Native.Nat.{_<_};
 ghost use Rattle.position.specs.Board.{board};
 ghost use Rattle.position.specs.Change.{makes};
 ghost use Rattle.position.specs.Laid.{Laid};

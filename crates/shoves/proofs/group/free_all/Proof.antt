@@ -1,53 +1,45 @@
+-- `group::free_all` meets its contract. The loop's invariant: the units passed that owed there have no role any more, the others are
+-- as they were. The measure is how many are left.
+-- Assumes nothing.
+use Prim.Native.Nat.{_-_}
+use native.Mathlib.Omega.{arith}
+use borrow.Author.Needs.{needs}
+use mathlib.Core.Path.{refl}
+use Rattle.shoves.specs.Group.{group}
+use Rattle.shoves.specs.Shoves.{frees}
+use Rattle.shoves.proofs.Sweeps.{Sweep, alike-owing, own-frees, owing, sweep-all, sweep-more, sweep-none}
 use Rattle.shoves.proofs.group.free_all.Statement.{statement}
 use Rattle.shoves.proofs.group.free_all.Tie as tie
-use Rattle.shoves.proofs.group.free_all.Reads as reads
-use Rattle.shoves.proofs.group.free_all.Lts as lts
-use Rattle.shoves.proofs.group.free_one.Reads as free-one-reads
 
 abbrev Inv-loop : tie.InvT-loop
-Inv-loop p₀ v a count u₀ p u = ?
+Inv-loop p₀ v a count u₀ p u = Sweep (owing a) frees p₀ v u p
 
 abbrev μ-loop : tie.MeasureT-loop
-μ-loop p₀ v a count u₀ p u = ?
+μ-loop p₀ v a count u₀ p u = count - u
 
--- src/group.rt:81:5
 loop-holds : tie.Need-loop-holds Inv-loop μ-loop
-loop-holds c = ?
+loop-holds c = sweep-none (c .before .pre)
 
--- src/group.rt:82:9
 free-one-requires : tie.Need-free-one-requires Inv-loop μ-loop
-free-one-requires c κs = ?
+free-one-requires c κs = c .before .before .loop .inv .laid
 
--- src/group.rt:81:9
 add-u : tie.Need-add-u Inv-loop μ-loop
-add-u c = ?
+add-u c = search needs
 
--- src/group.rt:81:5
 loop-less : tie.Need-loop-less Inv-loop μ-loop
-loop-less c = ?
+loop-less c = search needs
 
--- src/group.rt:81:5
 loop-again : tie.Need-loop-again Inv-loop μ-loop
-loop-again c = ?
+loop-again c =
+    let s = c .before .before .before .before .before in
+    sweep-more (alike-owing _) own-frees (s .loop .inv) (omega arith) _ refl (c .before .before .free-one .ensures)
 
--- src/group.rt:76:1
 same-length : tie.Need-same-length Inv-loop μ-loop
-same-length c = ?
+same-length c = omega (arith, c .before .loop .inv .laid .fits .whole, c .before .before .before .pre .fits .whole)
 
--- src/group.rt:76:1
 returns : tie.Need-returns Inv-loop μ-loop
-returns c = ?
+unfolding group
+returns c = sweep-all (c .before .loop .inv) (omega arith) (c .before .before .before .pre .view .count)
 
 pub free-all-spec : {M : Type 1} → statement M
-free-all-spec =
-    tie.close
-    (tie.spec
-    Inv-loop
-    μ-loop
-    loop-holds
-    free-one-requires
-    add-u
-    loop-less
-    loop-again
-    same-length
-    returns)
+free-all-spec = tie.close (tie.spec Inv-loop μ-loop loop-holds free-one-requires add-u loop-less loop-again same-length returns)

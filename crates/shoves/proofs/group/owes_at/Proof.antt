@@ -1,26 +1,26 @@
+-- `group::owes_at` meets its contract: the role is asked first, then the hex.
+-- Assumes nothing.
+use Prim.Native.Nat.{ℕ}
+use mathlib.Core.Path.{ap, sym, _∙_}
 use borrow.Author.Needs.{needs}
+use lib.Dec.{eqb}
+use Rattle.shoves.proofs.Turns.{owes-not, owes-where}
 use Rattle.shoves.proofs.group.owes_at.Statement.{statement}
 use Rattle.shoves.proofs.group.owes_at.Tie as tie
-use Rattle.shoves.proofs.group.owes_at.Reads as reads
-use Rattle.shoves.proofs.group.owes_at.Lts as lts
-use Rattle.position.proofs.read.hex.Reads as hex-reads
-use Rattle.position.proofs.read.role.Reads as role-reads
 
--- src/group.rt:24:8
 role-requires : tie.Need-role-requires
 role-requires c κs = search needs
 
--- src/group.rt:25:9
 returns : tie.Need-returns
-returns c = ?
+returns c = sym (owes-not _ _ _ (λ e. c .if1 .taken (c .before .role .ensures .is ∙ e)))
 
--- src/group.rt:27:5
 hex-requires : tie.Need-hex-requires
 hex-requires c κs = search needs
 
--- src/group.rt:20:1
 returns-2 : tie.Need-returns-2
-returns-2 c = ?
+returns-2 c =
+    ap (λ (k : ℕ). eqb k (c .before .before .before .before .args .h)) (c .hex .ensures .is)
+    ∙ sym (owes-where _ _ _ (sym (c .before .before .role .ensures .is) ∙ c .before .if1 .left))
 
 pub owes-at-spec : {M : Type 1} → statement M
 owes-at-spec = tie.close (tie.spec role-requires returns hex-requires returns-2)

@@ -1,53 +1,47 @@
+-- `group::step_all` meets its contract. The loop's invariant: the units passed that owed there have gone, the others are as they were.
+-- The measure is how many are left.
+-- Assumes nothing.
+use Prim.Native.Nat.{_-_}
+use native.Mathlib.Omega.{arith}
+use borrow.Author.Needs.{needs}
+use Rattle.position.specs.Board.{board}
+use Rattle.shoves.specs.Group.{group}
+use Rattle.shoves.specs.Shoves.{goesTo, groupTo}
+use Rattle.shoves.proofs.Sweeps.{Sweep, alike-owing, own-goes, owing, sweep-all, sweep-more, sweep-none}
+use Rattle.shoves.proofs.Turns.{goes-same}
 use Rattle.shoves.proofs.group.step_all.Statement.{statement}
 use Rattle.shoves.proofs.group.step_all.Tie as tie
-use Rattle.shoves.proofs.group.step_all.Reads as reads
-use Rattle.shoves.proofs.group.step_all.Lts as lts
-use Rattle.shoves.proofs.group.step_one.Reads as step-one-reads
 
 abbrev Inv-loop : tie.InvT-loop
-Inv-loop p₀ v a x count u₀ p u = ?
+Inv-loop p₀ v a x count u₀ p u = Sweep (owing a) (goesTo (board p₀) x) p₀ v u p
 
 abbrev μ-loop : tie.MeasureT-loop
-μ-loop p₀ v a x count u₀ p u = ?
+μ-loop p₀ v a x count u₀ p u = count - u
 
--- src/group.rt:59:5
 loop-holds : tie.Need-loop-holds Inv-loop μ-loop
-loop-holds c = ?
+loop-holds c = sweep-none (c .before .pre)
 
--- src/group.rt:60:9
 step-one-requires : tie.Need-step-one-requires Inv-loop μ-loop
-step-one-requires c κs = ?
+step-one-requires c κs = c .before .before .loop .inv .laid
 
--- src/group.rt:59:9
 add-u : tie.Need-add-u Inv-loop μ-loop
-add-u c = ?
+add-u c = search needs
 
--- src/group.rt:59:5
 loop-less : tie.Need-loop-less Inv-loop μ-loop
-loop-less c = ?
+loop-less c = search needs
 
--- src/group.rt:59:5
 loop-again : tie.Need-loop-again Inv-loop μ-loop
-loop-again c = ?
+loop-again c =
+    let s = c .before .before .before .before .before in
+    let e = goes-same _ _ _ _ (s .loop .inv .kinds) in
+    sweep-more (alike-owing _) (own-goes _ _) (s .loop .inv) (omega arith) _ e (c .before .before .step-one .ensures)
 
--- src/group.rt:54:1
 same-length : tie.Need-same-length Inv-loop μ-loop
-same-length c = ?
+same-length c = omega (arith, c .before .loop .inv .laid .fits .whole, c .before .before .before .pre .fits .whole)
 
--- src/group.rt:54:1
 returns : tie.Need-returns Inv-loop μ-loop
-returns c = ?
+unfolding group groupTo
+returns c = sweep-all (c .before .loop .inv) (omega arith) (c .before .before .before .pre .view .count)
 
 pub step-all-spec : {M : Type 1} → statement M
-step-all-spec =
-    tie.close
-    (tie.spec
-    Inv-loop
-    μ-loop
-    loop-holds
-    step-one-requires
-    add-u
-    loop-less
-    loop-again
-    same-length
-    returns)
+step-all-spec = tie.close (tie.spec Inv-loop μ-loop loop-holds step-one-requires add-u loop-less loop-again same-length returns)
