@@ -1,4 +1,4 @@
--- `asking::any_walks` meets its contract. The loop's invariant: no unit passed owes there, but for supply units. The measure is how many are left.
+-- `fate::any_walks` meets its contract. The loop's invariant: no unit passed owes there, but for supply units. The measure is how many are left.
 -- Assumes nothing.
 use Prim.Native.Nat.{_-_}
 use mathlib.Core.Path.{_∙_, ap, sym}
@@ -9,8 +9,8 @@ use Rattle.position.specs.Board.{board}
 use Rattle.position.specs.Tally.{any}
 use Rattle.retreat.specs.Retreat.{walksFrom}
 use Rattle.field.proofs.Zones.{None, none-at-all, none-yet, one-more}
-use Rattle.retreat.proofs.asking.any_walks.Statement.{statement}
-use Rattle.retreat.proofs.asking.any_walks.Tie as tie
+use Rattle.retreat.proofs.fate.any_walks.Statement.{statement}
+use Rattle.retreat.proofs.fate.any_walks.Tie as tie
 
 abbrev Inv-loop : tie.InvT-loop
 Inv-loop p v h count u₀ u = None (walksFrom (board p) h) u count

@@ -1,4 +1,4 @@
--- `asking::leader` meets its contract. The loop's invariant: no unit passed owes there. The measure is how many are left.
+-- `fate::leader` meets its contract. The loop's invariant: no unit passed owes there. The measure is how many are left.
 -- Assumes nothing.
 use Prim.Native.Nat.{_-_}
 use mathlib.Core.Path.{_∙_, ap, sym}
@@ -9,8 +9,8 @@ use Rattle.position.specs.Board.{board}
 use Rattle.position.specs.Tally.{any}
 use Rattle.position.specs.Crowd.{owesAt}
 use Rattle.field.proofs.Zones.{None, none-at-all, none-yet, one-more}
-use Rattle.retreat.proofs.asking.leader.Statement.{statement}
-use Rattle.retreat.proofs.asking.leader.Tie as tie
+use Rattle.retreat.proofs.fate.leader.Statement.{statement}
+use Rattle.retreat.proofs.fate.leader.Tie as tie
 
 abbrev Inv-loop : tie.InvT-loop
 Inv-loop p v h count u₀ u = None (owesAt (board p) h) u count

@@ -1,12 +1,12 @@
--- `asking::has_route` meets its contract: the search finds one or not.
+-- `fate::has_route` meets its contract: the search finds one or not.
 -- Assumes nothing.
 use mathlib.Core.Path.{ap}
 use borrow.Author.Needs.{needs}
 use Rattle.position.specs.Board.{board}
 use Rattle.routes.specs.Search.{found}
 use Rattle.retreat.proofs.Groups.{found-as}
-use Rattle.retreat.proofs.asking.has_route.Statement.{statement}
-use Rattle.retreat.proofs.asking.has_route.Tie as tie
+use Rattle.retreat.proofs.fate.has_route.Statement.{statement}
+use Rattle.retreat.proofs.fate.has_route.Tie as tie
 
 group-force-requires : tie.Need-group-force-requires
 group-force-requires c κs = search needs
