@@ -107,7 +107,9 @@ module _ (p : List ℕ) (b : Board) (h : ℕ) (route pushes : List ℕ) where
       module _ (k : h < b .map .hexes) where
         numbers :
             {l : List ℕ} {v : Verdict} {a : Ruling} {q x : List ℕ} → Met p l v a q x
-            → Met p l (refuseIf (ltb 3 (length route)) 3 0 (refuseIf (ltb 9 (length pushes)) 3 0 (refuseIf (leb (b .map .hexes) h) 3 0 v))) a q x
+            → Met p l
+            (refuseIf (ltb 3 (length route)) 3 0 (refuseIf (ltb 9 (length pushes)) 3 0 (refuseIf (leb (b .map .hexes) h) 3 0 v)))
+            a q x
         numbers w = pass (le-ltb 3 (length route) m) (pass (le-ltb 9 (length pushes) n) (pass (lt-leb (b .map .hexes) h k) w))
 
         pub stops-route : {n j : ℕ} → Stops p (onMapAll b route) n j → Stops p (groupChecks b h route pushes) n j

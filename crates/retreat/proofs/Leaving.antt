@@ -121,8 +121,9 @@ module _ {p q : List ℕ} (s : Shaped p) (r a x y z : ℕ) (e : q ≡ make p (ro
 
 -- the route that is written, of the numbers as they were read
 pub noted :
-    (p : List ℕ) {q : List ℕ} (h : ℕ) (route : List ℕ) {r x y z : ℕ} → r ≡ routes (board p) → x ≡ getD route 0 nowhere → y ≡ getD route 1 nowhere
-    → z ≡ getD route 2 nowhere → q ≡ make p (routed r h x y z) → q ≡ make p (noteOf (board p) h route)
+    (p : List ℕ) {q : List ℕ} (h : ℕ) (route : List ℕ) {r x y z : ℕ} → r ≡ routes (board p)
+    → x ≡ getD route 0 nowhere → y ≡ getD route 1 nowhere → z ≡ getD route 2 nowhere
+    → q ≡ make p (routed r h x y z) → q ≡ make p (noteOf (board p) h route)
 unfolding noteOf
 noted p h route {r} {x} {y} {z} er ex ey ez e =
     let after : ℕ → ℕ → ℕ → ℕ → List ℕ = λ r x y z. make p (routed r h x y z) in

@@ -21,25 +21,22 @@ use Rattle.retreat.proofs.retreat.Tie as tie
 -- the position is accepted, and laid out as its view says
 whole :
     (c : tie.After-known-told)
-    → Accepted (c .before .before .before .before .before .before .before .before .args .p .now) × Laid (c .before .before .before .before .before .before .before .before .args .p .now) (c .before .v .given .0 .0)
+    → let s = c .before .before .before .before .before .before .before .before .args in
+    Accepted (s .p .now) × Laid (s .p .now) (c .before .v .given .0 .0)
 whole c = subst (CheckedOf _) (c .before .v .given .1) (c .before .before .before .check .ensures)
 
 -- the questions of the group are passed
 asked :
     (c : tie.After-enum-told2)
-    → Passes (c .before .before .before .before .before .before .before .before .before .before .before .before .args .p .now)
-    (groupChecks (board (c .before .before .before .before .before .before .before .before .before .before .before .before .args .p .now)) (c .before .before .before .before .before .before .before .before .before .before .before .before .args .hex)
-    (c .before .before .before .before .before .before .before .before .before .before .before .before .args .route .now)
-    (c .before .before .before .before .before .before .before .before .before .before .before .before .args .pushes .now))
-    × Owing (board (c .before .before .before .before .before .before .before .before .before .before .before .before .args .p .now)) (c .before .before .before .before .before .before .before .before .before .before .before .before .args .hex)
+    → let s = c .before .before .before .before .before .before .before .before .before .before .before .before .args in
+    Passes (s .p .now) (groupChecks (board (s .p .now)) (s .hex) (s .route .now) (s .pushes .now)) × Owing (board (s .p .now)) (s .hex)
 asked c = subst (TestedOf _ _ _) (c .enum-told2 .given .1) (c .before .before .judge-group .ensures)
 
 -- what the group's fate says
 said :
     (c : tie.After-decide) {f : Fate} → c .decide .result ≡ f
-    → FateSays (board (c .before .before .before .before .before .before .before .before .before .before .before .before .before .before .args .p .now)) (c .before .before .before .before .before .before .before .before .before .before .before .before .before .before .args .hex)
-    (c .before .before .before .before .before .before .before .before .before .before .before .before .before .before .args .route .now)
-    (c .before .before .before .before .before .before .before .before .before .before .before .before .before .before .args .pushes .now) f
+    → let s = c .before .before .before .before .before .before .before .before .before .before .before .before .before .before .args in
+    FateSays (board (s .p .now)) (s .hex) (s .route .now) (s .pushes .now) f
 said c e = subst (FateSays _ _ _ _) (sym (c .decide .ensures) ∙ e) (fate-says _ _ _ _)
 
 check-requires : tie.Need-check-requires
@@ -68,23 +65,30 @@ same-length-2 : tie.Need-same-length-2
 same-length-2 c = search needs
 
 returns-2 : tie.Need-returns-2
-returns-2 c = stops-group _ _ _ (whole (c .before .before .before .before .before) .0) (subst (TestedOf _ _ _) (c .before .n .given .1) (c .before .before .before .judge-group .ensures))
+returns-2 c =
+    let m = c .before .before in
+    stops-group _ _ _ (whole (m .before .before .before) .0)
+    (subst (TestedOf _ _ _) (c .before .n .given .1) (m .before .judge-group .ensures))
 
 enum-told-2 : tie.Need-enum-told-2
 enum-told-2 c = search needs
 
 decide-requires : tie.Need-decide-requires
 decide-requires c κs =
-    let w = whole (c .before .before .before .before .before) in
-    let a = asked (c .before) .1 in
-    let o = owed-of (w .0) a in
-    (w .1, omega (arith, a .there, w .1 .view .hexes), o .low, o .high)
+    let a = c .before in
+    let w = whole (a .before .before .before .before) in
+    let g = asked a .1 in
+    let o = owed-of (w .0) g in
+    (w .1, omega (arith, g .there, w .1 .view .hexes), o .low, o .high)
 
 enum-told-3 : tie.Need-enum-told-3
 enum-told-3 c = search needs
 
 fall-requires : tie.Need-fall-requires
-fall-requires c κs = (whole (c .before .before .before .before .before .before .before .before .before) .1, small-hex (whole (c .before .before .before .before .before .before .before .before .before) .1) (asked (c .before .before .before .before .before) .1))
+fall-requires c κs =
+    let a = c .before .before .before .before .before in
+    let w = whole (a .before .before .before .before) .1 in
+    (w, small-hex w (asked a .1))
 
 enum-told-4 : tie.Need-enum-told-4
 enum-told-4 c = search needs
@@ -97,52 +101,74 @@ enum-told-6 c = search needs
 
 go-off-requires : tie.Need-go-off-requires
 go-off-requires c κs =
-    let w = whole (c .before .before .before .before .before .before .before .before .before) in
-    let a = asked (c .before .before .before .before .before) .1 in
-    (w .1, small-hex (w .1) a, owed-of (w .0) a .low)
+    let a = c .before .before .before .before .before in
+    let w = whole (a .before .before .before .before) in
+    let g = asked a .1 in
+    (w .1, small-hex (w .1) g, owed-of (w .0) g .low)
 
 enum-told-7 : tie.Need-enum-told-7
 enum-told-7 c = search needs
 
 push-off-requires : tie.Need-push-off-requires
 push-off-requires c κs =
-    let w = whole (c .before .before .before .before .before .before .before .before .before) in
-    let a = asked (c .before .before .before .before .before) .1 in
-    (w .1, small-hex (w .1) a, owed-of (w .0) a .low)
+    let a = c .before .before .before .before .before in
+    let w = whole (a .before .before .before .before) in
+    let g = asked a .1 in
+    (w .1, small-hex (w .1) g, owed-of (w .0) g .low)
 
 same-length-3 : tie.Need-same-length-3
 same-length-3 c = search needs
 
 returns-3 : tie.Need-returns-3
-returns-3 c = ends-doomed _ _ _ (whole (c .before .before .before .before .before .before .before .before .before .before .before .before) .0) (asked (c .before .before .before .before .before .before .before .before) .0) (said (c .before .before .before .before .before .before) (c .before .before .before .before .enum-told3 .given .1)) (c .before .before .fall .ensures)
+returns-3 c =
+    let d = c .before .before .before .before .before .before in
+    let a = d .before .before in
+    let w = d .before .before .before .before .before .before in
+    ends-doomed _ _ _ (whole w .0) (asked a .0) (said d (c .before .before .before .before .enum-told3 .given .1))
+    (c .before .before .fall .ensures)
 
 same-length-4 : tie.Need-same-length-4
 same-length-4 c = search needs
 
 returns-4 : tie.Need-returns-4
-returns-4 c = stops-route _ _ _ (whole (c .before .before .before .before .before .before .before .before) .0) (asked (c .before .before .before .before) .0) (said (c .before .before) (c .enum-told4 .given .1))
+returns-4 c =
+    let d = c .before .before in
+    let a = d .before .before in
+    let w = d .before .before .before .before .before .before in
+    stops-route _ _ _ (whole w .0) (asked a .0) (said d (c .enum-told4 .given .1))
 
 same-length-5 : tie.Need-same-length-5
 same-length-5 c = search needs
 
 returns-5 : tie.Need-returns-5
 returns-5 c =
-    let f = (said (c .before .before) (c .enum-told5 .given .1)) in
-    stops-pushes _ _ _ (whole (c .before .before .before .before .before .before .before .before) .0) (asked (c .before .before .before .before) .0) (f .0) (f .1)
+    let d = c .before .before in
+    let a = d .before .before in
+    let w = d .before .before .before .before .before .before in
+    let f = (said d (c .enum-told5 .given .1)) in
+    stops-pushes _ _ _ (whole w .0) (asked a .0) (f .0) (f .1)
 
 same-length-6 : tie.Need-same-length-6
 same-length-6 c = search needs
 
 returns-6 : tie.Need-returns-6
 returns-6 c =
-    ends-going _ _ _ (whole (c .before .before .before .before .before .before .before .before .before .before .before .before) .0) (asked (c .before .before .before .before .before .before .before .before) .0) (said (c .before .before .before .before .before .before) (c .before .before .before .before .enum-told6 .given .1)) (c .before .before .go-off .ensures .0) (c .before .before .go-off .ensures .1)
+    let d = c .before .before .before .before .before .before in
+    let a = d .before .before in
+    let w = d .before .before .before .before .before .before in
+    let g = (c .before .before) .go-off .ensures in
+    ends-going _ _ _ (whole w .0) (asked a .0) (said d (c .before .before .before .before .enum-told6 .given .1)) (g .0) (g .1)
 
 same-length-7 : tie.Need-same-length-7
 same-length-7 c = search needs
 
 returns-7 : tie.Need-returns-7
 returns-7 c =
-    ends-going _ _ _ (whole (c .before .before .before .before .before .before .before .before .before .before .before .before) .0) (asked (c .before .before .before .before .before .before .before .before) .0) (said (c .before .before .before .before .before .before) (c .before .before .before .before .enum-told7 .given .1)) (c .before .before .push-off .ensures .0) (c .before .before .push-off .ensures .1)
+    let d = c .before .before .before .before .before .before in
+    let a = d .before .before in
+    let w = d .before .before .before .before .before .before in
+    let g = (c .before .before) .push-off .ensures in
+    ends-going _ _ _ (whole w .0) (asked a .0) (said d (c .before .before .before .before .enum-told7 .given .1)) (g .0) (g .1)
 
 pub retreat-spec : {M : Type 1} → statement M
 retreat-spec =

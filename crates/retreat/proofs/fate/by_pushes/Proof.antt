@@ -28,18 +28,33 @@ enum-told-3 c = search needs
 
 returns : tie.Need-returns
 returns c =
-    let s = c .before .before .before .before .before .before .before .before .args in
-    sym (ap servedFate (c .enum-told .given .1)) ∙ ap servedFate (served-as (board (s .p .now)) (s .h) (s .route .now) (s .pushes .now) (c .before .before .before .before .group-force .ensures) (c .before .before .before .owed .ensures .is) (c .before .before .judge .ensures))
+    let j = c .before .before in
+    let s = j .before .before .before .before .before .before .args in
+    sym (ap servedFate (c .enum-told .given .1))
+    ∙ ap servedFate
+    (served-as (board (s .p .now)) (s .h) (s .route .now) (s .pushes .now)
+    (j .before .before .group-force .ensures) (j .before .owed .ensures .is)
+    (j .judge .ensures))
 
 returns-2 : tie.Need-returns-2
 returns-2 c =
-    let s = c .before .before .before .before .before .before .before .before .args in
-    sym (ap servedFate (c .enum-told2 .given .1)) ∙ ap servedFate (served-as (board (s .p .now)) (s .h) (s .route .now) (s .pushes .now) (c .before .before .before .before .group-force .ensures) (c .before .before .before .owed .ensures .is) (c .before .before .judge .ensures))
+    let j = c .before .before in
+    let s = j .before .before .before .before .before .before .args in
+    sym (ap servedFate (c .enum-told2 .given .1))
+    ∙ ap servedFate
+    (served-as (board (s .p .now)) (s .h) (s .route .now) (s .pushes .now)
+    (j .before .before .group-force .ensures) (j .before .owed .ensures .is)
+    (j .judge .ensures))
 
 returns-3 : tie.Need-returns-3
 returns-3 c =
-    let s = c .before .before .before .before .before .before .before .before .args in
-    sym (ap servedFate (c .enum-told3 .given .1)) ∙ ap servedFate (served-as (board (s .p .now)) (s .h) (s .route .now) (s .pushes .now) (c .before .before .before .before .group-force .ensures) (c .before .before .before .owed .ensures .is) (c .before .before .judge .ensures))
+    let j = c .before .before in
+    let s = j .before .before .before .before .before .before .args in
+    sym (ap servedFate (c .enum-told3 .given .1))
+    ∙ ap servedFate
+    (served-as (board (s .p .now)) (s .h) (s .route .now) (s .pushes .now)
+    (j .before .before .group-force .ensures) (j .before .owed .ensures .is)
+    (j .judge .ensures))
 
 pub by-pushes-spec : {M : Type 1} → statement M
 by-pushes-spec =

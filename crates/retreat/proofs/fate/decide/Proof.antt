@@ -15,7 +15,8 @@ any-walks-requires c κs = search needs
 returns : tie.Need-returns
 returns c =
     let s = c .before .before .before .before .before .args in
-    sym (fate-doomed (board (s .p .now)) (s .h) (s .route .now) (s .pushes .now) (doomed-supply (board (s .p .now)) (s .h) (sym (c .before .any-walks .ensures) ∙ not-true _ (c .if1 .taken))))
+    let e = sym (c .before .any-walks .ensures) ∙ not-true _ (c .if1 .taken) in
+    sym (fate-doomed (board (s .p .now)) (s .h) (s .route .now) (s .pushes .now) (doomed-supply (board (s .p .now)) (s .h) e))
 
 has-route-requires : tie.Need-has-route-requires
 has-route-requires c κs = search needs
@@ -25,29 +26,42 @@ by-pushes-requires c κs = search needs
 
 returns-2 : tie.Need-returns-2
 returns-2 c =
-    let s = c .before .before .before .before .before .before .before .before .args in
+    let i = c .before in
+    let s = i .before .before .before .before .before .before .before .args in
     c .by-pushes .ensures
-    ∙ fate-served (board (s .p .now)) (s .h) (s .route .now) (s .pushes .now) (sym (c .before .before .before .before .any-walks .ensures) ∙ not-false _ (c .before .before .before .if1 .left))
-    (sym (c .before .before .has-route .ensures) ∙ not-true _ (c .before .if2 .taken))
+    ∙ fate-served (board (s .p .now)) (s .h) (s .route .now) (s .pushes .now)
+    (sym (i .before .before .before .any-walks .ensures) ∙ not-false _ (i .before .before .if1 .left))
+    (sym (i .before .has-route .ensures) ∙ not-true _ (i .if2 .taken))
 
 returns-3 : tie.Need-returns-3
 returns-3 c =
-    let s = c .before .before .before .before .before .before .before .before .args in
-    fate-sent (board (s .p .now)) (s .h) (s .route .now) (s .pushes .now) (sym (c .before .before .before .before .any-walks .ensures) ∙ not-false _ (c .before .before .before .if1 .left)) (sym (c .before .before .has-route .ensures) ∙ not-false _ (c .before .if2 .left)) (omega (arith, c .if3 .taken))
+    let i = c .before in
+    let s = i .before .before .before .before .before .before .before .args in
+    fate-sent (board (s .p .now)) (s .h) (s .route .now) (s .pushes .now)
+    (sym (i .before .before .before .any-walks .ensures) ∙ not-false _ (i .before .before .if1 .left))
+    (sym (i .before .has-route .ensures) ∙ not-false _ (i .if2 .left))
+    (omega (arith, c .if3 .taken))
 
 may-go-requires : tie.Need-may-go-requires
 may-go-requires c κs = search needs
 
 returns-4 : tie.Need-returns-4
 returns-4 c =
-    let s = c .before .before .before .before .before .before .before .before .before .before .args in
-    fate-legal (board (s .p .now)) (s .h) (s .route .now) (s .pushes .now) (sym (c .before .before .before .before .before .before .any-walks .ensures) ∙ not-false _ (c .before .before .before .before .before .if1 .left)) (sym (c .before .before .before .before .has-route .ensures) ∙ not-false _ (c .before .before .before .if2 .left)) (omega (arith, c .before .before .if3 .left))
+    let i = c .before .before .before in
+    let s = i .before .before .before .before .before .before .before .args in
+    fate-legal (board (s .p .now)) (s .h) (s .route .now) (s .pushes .now)
+    (sym (i .before .before .before .any-walks .ensures) ∙ not-false _ (i .before .before .if1 .left))
+    (sym (i .before .has-route .ensures) ∙ not-false _ (i .if2 .left))
+    (omega (arith, c .before .before .if3 .left))
     (sym (c .before .may-go .ensures) ∙ c .if4 .taken)
 
 returns-5 : tie.Need-returns-5
 returns-5 c =
-    let s = c .before .before .before .before .before .before .before .before .before .before .args in
-    fate-illegal (board (s .p .now)) (s .h) (s .route .now) (s .pushes .now) (sym (c .before .before .before .before .before .before .any-walks .ensures) ∙ not-false _ (c .before .before .before .before .before .if1 .left)) (sym (c .before .before .before .before .has-route .ensures) ∙ not-false _ (c .before .before .before .if2 .left))
+    let i = c .before .before .before in
+    let s = i .before .before .before .before .before .before .before .args in
+    fate-illegal (board (s .p .now)) (s .h) (s .route .now) (s .pushes .now)
+    (sym (i .before .before .before .any-walks .ensures) ∙ not-false _ (i .before .before .if1 .left))
+    (sym (i .before .has-route .ensures) ∙ not-false _ (i .if2 .left))
     (sym (c .before .may-go .ensures) ∙ c .if4 .left)
 
 pub decide-spec : {M : Type 1} → statement M

@@ -21,13 +21,21 @@ enum-told : tie.Need-enum-told
 enum-told c = search needs
 
 returns : tie.Need-returns
-returns c = found-as (board (c .before .before .before .before .before .before .args .p .now)) (c .before .before .before .before .before .before .args .h) (c .before .before .before .before .group-force .ensures) (c .before .before .before .owed .ensures .is) (c .before .before .search .ensures) (ap found (c .enum-told .given .1))
+returns c =
+    let j = c .before .before in
+    let s = j .before .before .before .before .args in
+    found-as (board (s .p .now)) (s .h) (j .before .before .group-force .ensures) (j .before .owed .ensures .is) (j .search .ensures)
+    (ap found (c .enum-told .given .1))
 
 enum-told-2 : tie.Need-enum-told-2
 enum-told-2 c = search needs
 
 returns-2 : tie.Need-returns-2
-returns-2 c = found-as (board (c .before .before .before .before .before .before .args .p .now)) (c .before .before .before .before .before .before .args .h) (c .before .before .before .before .group-force .ensures) (c .before .before .before .owed .ensures .is) (c .before .before .search .ensures) (ap found (c .enum-told2 .given .1))
+returns-2 c =
+    let j = c .before .before in
+    let s = j .before .before .before .before .args in
+    found-as (board (s .p .now)) (s .h) (j .before .before .group-force .ensures) (j .before .owed .ensures .is) (j .search .ensures)
+    (ap found (c .enum-told2 .given .1))
 
 pub has-route-spec : {M : Type 1} → statement M
 has-route-spec =

@@ -25,7 +25,9 @@ owes-at-requires : tie.Need-owes-at-requires Inv-loop μ-loop
 owes-at-requires c κs = search needs
 
 returns : tie.Need-returns Inv-loop μ-loop
-returns c = first-owing _ _ (c .before .before .before .loop .u) (c .before .before .before .loop .inv .none) (omega arith) (sym (c .before .owes-at .ensures) ∙ c .if1 .taken)
+returns c =
+    let l = c .before .before .before in
+    first-owing _ _ (l .loop .u) (l .loop .inv .none) (omega arith) (sym (c .before .owes-at .ensures) ∙ c .if1 .taken)
 
 add-u : tie.Need-add-u Inv-loop μ-loop
 add-u c = search needs
@@ -39,7 +41,9 @@ loop-again c = one-more (c .before .before .before .loop .inv) (omega arith) (sy
 returns-2 : tie.Need-returns-2 Inv-loop μ-loop
 returns-2 c =
     let s = c .before .before .before in
-    none-owing _ _ (ap (any (owesAt (board (s .args .p .now)) (s .args .h))) (sym (s .pre .view .count)) ∙ none-at-all (c .before .loop .inv) (omega arith))
+    none-owing _ _
+    (ap (any (owesAt (board (s .args .p .now)) (s .args .h))) (sym (s .pre .view .count))
+    ∙ none-at-all (c .before .loop .inv) (omega arith))
 
 pub leader-spec : {M : Type 1} → statement M
 leader-spec = tie.close (tie.spec Inv-loop μ-loop loop-holds owes-at-requires returns add-u loop-less loop-again returns-2)

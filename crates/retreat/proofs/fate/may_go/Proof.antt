@@ -18,7 +18,8 @@ is-legal-requires c κs = search needs
 returns : tie.Need-returns
 returns c =
     let s = c .before .before .before .before .before .args in
-    legal-as (board (s .p .now)) (s .h) (s .route .now) (c .before .before .group-force .ensures) (c .before .owed .ensures .is) (c .is-legal .ensures)
+    legal-as (board (s .p .now)) (s .h) (s .route .now) (c .before .before .group-force .ensures) (c .before .owed .ensures .is)
+    (c .is-legal .ensures)
 
 pub may-go-spec : {M : Type 1} → statement M
 may-go-spec = tie.close (tie.spec group-force-requires owed-requires is-legal-requires returns)

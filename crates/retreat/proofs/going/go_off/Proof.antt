@@ -13,20 +13,27 @@ note-requires : tie.Need-note-requires
 note-requires c κs = search needs
 
 leave-all-requires : tie.Need-leave-all-requires
-leave-all-requires c κs = rw (c .before .before .before .note .ensures .1) (laid-make (c .before .before .before .before .before .before .before .pre .0) _)
+leave-all-requires c κs =
+    let n = c .before .before .before in
+    rw (n .note .ensures .1) (laid-make (n .before .before .before .before .pre .0) _)
 
 pass-on-requires : tie.Need-pass-on-requires
-pass-on-requires c κs = laid-makes _ (rw (c .before .before .before .before .before .before .before .note .ensures .1) (laid-make (c .before .before .before .before .before .before .before .before .before .before .before .pre .0) _)) (c .before .before .before .leave-all .ensures)
+pass-on-requires c κs =
+    let n = c .before .before .before .before .before .before .before in
+    laid-makes _ (rw (n .note .ensures .1) (laid-make (n .before .before .before .before .pre .0) _))
+    (c .before .before .before .leave-all .ensures)
 
 same-length : tie.Need-same-length
 same-length c = search needs
 
 returns : tie.Need-returns
 returns c =
-    let s = (c .before .before .before .before .before .before .before .before .before .before .before .before .before .before) in (
-      c .before .before .before .before .before .before .before .before .before .before .note .ensures .0,
+    let n = c .before .before .before .before .before .before .before .before .before .before in
+    let s = (n .before .before .before .before) in (
+      n .note .ensures .0,
       then-on (s .pre .0 .shaped) (retreatChanges (board (s .args .p .now)) (s .args .h) (s .args .route .now))
-          (gone-off (s .pre .0 .shaped) (s .args .h) (s .args .route .now) (c .before .before .before .before .before .before .before .before .before .before .note .ensures .0) (c .before .before .before .before .before .before .before .before .before .before .note .ensures .1) (c .before .before .before .before .before .before .leave-all .ensures))
+          (gone-off (s .pre .0 .shaped) (s .args .h) (s .args .route .now) (n .note .ensures .0) (n .note .ensures .1)
+          (c .before .before .before .before .before .before .leave-all .ensures))
           (c .before .before .pass-on .ensures),
     )
 

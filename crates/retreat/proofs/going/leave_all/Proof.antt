@@ -35,7 +35,8 @@ loop-less c = search needs
 loop-again : tie.Need-loop-again Inv-loop μ-loop
 loop-again c =
     let s = c .before .before .before .before .before in
-    sweep-more (alike-owing _) (own-leaves _ _) (s .loop .inv) (omega arith) _ (leaves-same _ _ _ _ (s .loop .inv .kinds)) (c .before .before .leave-one .ensures)
+    sweep-more (alike-owing _) (own-leaves _ _) (s .loop .inv) (omega arith) _ (leaves-same _ _ _ _ (s .loop .inv .kinds))
+    (c .before .before .leave-one .ensures)
 
 same-length : tie.Need-same-length Inv-loop μ-loop
 same-length c = omega (arith, c .before .loop .inv .laid .fits .whole, c .before .before .before .pre .fits .whole)

@@ -24,7 +24,9 @@ same-length-2 c = search needs
 
 returns-2 : tie.Need-returns-2
 returns-2 c =
-    dealt-with _ _ _ (sym (c .before .before .before .before .before .owes-at .ensures) ∙ not-false _ (c .before .before .before .before .if1 .left)) (c .before .before .leave .ensures)
+    let o = c .before .before .before .before in
+    dealt-with _ _ _ (sym (o .before .owes-at .ensures) ∙ not-false _ (o .if1 .left))
+    (c .before .before .leave .ensures)
 
 pub leave-one-spec : {M : Type 1} → statement M
 leave-one-spec = tie.close (tie.spec owes-at-requires same-length returns leave-requires same-length-2 returns-2)

@@ -35,10 +35,12 @@ same-length c = search needs
 
 returns : tie.Need-returns
 returns c =
-    let s = c .before .before .before .before .before .before .before .before .before .before .before .before .before .before .args in (
-      ends (board (s .p .now)) (s .route .now) (c .before .before .before .before .before .before .before .before .before .before .owed .ensures .is) (c .before .before .before .before .before .before .before .before .before .hex-at .ensures .is),
-      noted (s .p .now) (s .h) (s .route .now) (c .before .before .before .before .before .before .before .routes .ensures .is) (c .before .before .before .before .before .hex-at2 .ensures .is)
-          (c .before .before .before .before .hex-at3 .ensures .is) (c .before .before .before .hex-at4 .ensures .is) (c .before .before .set-route .ensures),
+    let r = c .before .before .before .before .before .before .before in
+    let s = r .before .before .before .before .before .before .before .args in (
+      ends (board (s .p .now)) (s .route .now) (r .before .before .before .owed .ensures .is) (r .before .before .hex-at .ensures .is),
+      noted (s .p .now) (s .h) (s .route .now) (r .routes .ensures .is) (c .before .before .before .before .before .hex-at2 .ensures .is)
+          (c .before .before .before .before .hex-at3 .ensures .is)
+          (c .before .before .before .hex-at4 .ensures .is) (c .before .before .set-route .ensures),
     )
 
 pub note-spec : {M : Type 1} → statement M
