@@ -1,0 +1,4 @@
+pub mod Standing
+pub mod Drawing
+pub mod Folding
+pub mod Judging

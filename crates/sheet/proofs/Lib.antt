@@ -1,0 +1,9 @@
+pub mod Sheets
+pub mod Places
+pub mod Around
+pub mod Trails
+pub mod Ends
+pub mod Taking
+pub mod Reached
+pub mod Searching
+pub mod Following

@@ -35,11 +35,17 @@ goesOn w start l i x rest pushes (T.UpTo y k) =
 -- a step from place a into place x, whatever follows it: sheet l has become sheet m
 pub record Stepped (w start : ℕ) (l m : List ℕ) (i a x k : ℕ) (pushes : List ℕ) (r : Took) : Type 0 where
   pub long : length m ≡ length l
-  pub used : (y j : ℕ) → r ≡ T.UpTo y j → j ≤ length pushes
+  pub used : (y j : ℕ) → r ≡ T.UpTo y j → (x < places) × (j ≤ length pushes)
   pub onward :
       (rest : List ℕ)
       → follows (landIn (homeFor w start) l) (standIn l) i a (x ∷ rest) (placesFrom w start k pushes)
       ≡ goesOn w start m (suc i) x rest pushes r
+
+-- what a chain from the stack in place h on takes of the pushes from number k on: its last place is one of the sheet, and the push that it
+-- leaves is one of those sent, or there is none left
+pub record TookIn (w start : ℕ) (l used : List ℕ) (left h k : ℕ) (pushes : List ℕ) (r : Took) : Type 0 where
+  pub took : tookOf w start pushes r ≡ takes (nextIn l) (standIn l) used left h (placesFrom w start k pushes)
+  pub ends : (y j : ℕ) → r ≡ T.UpTo y j → (y < places) × (j ≤ length pushes)
 
 -- a chain from place x, entered by the group from place a: what it takes, and sheet l has become sheet m as it leaves it
 pub record PushedOut (w start : ℕ) (l m : List ℕ) (a x k : ℕ) (pushes : List ℕ) (r : Took) : Type 0 where

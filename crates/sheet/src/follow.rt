@@ -1,13 +1,12 @@
 // The test of an order: its route step by step, each with the pushes that its chain takes.
 ghost use mathlib.Core.Path.{_≡_};
-ghost use Prim.Native.Nat.{_+_, _<_, _≤_};
+ghost use Prim.Native.Nat.{_<_, _≤_};
 ghost use lib.ListN.{length};
 ghost use Rattle.chains.specs.Chain.{leads};
-ghost use Rattle.chains.specs.Follows.{takes};
-ghost use Rattle.sheet.specs.Sheet.{standIn, nextIn};
+ghost use Rattle.sheet.specs.Sheet.{nextIn};
 ghost use Rattle.sheet.specs.Places.{homeFor};
 ghost use Rattle.sheet.specs.Trail.{trailOf, TrailOk};
-ghost use Rattle.sheet.specs.Follow.{placesFrom, tookOf, followsIn, PushedOut, Stepped};
+ghost use Rattle.sheet.specs.Follow.{followsIn, TookIn, PushedOut, Stepped};
 use crate::chain;
 use crate::chain::Trail;
 use crate::spot;
@@ -48,7 +47,7 @@ fn take(
     k: usize,
 ) -> Took
     requires { ⌜ (length (now sheet) ≡ 182) × (1 ≤ w) × (start < 65536) × TrailOk t left × (1 ≤ left) × (h < 182) × (k ≤ length (now pushes)) ⌝ }
-    ensures { λ r. ⌜ tookOf w start (now (pushes .entry)) r ≡ takes (nextIn (now (sheet .entry))) (standIn (now (sheet .entry))) (trailOf t) left h (placesFrom w start k (now (pushes .entry))) ⌝ }
+    ensures { λ r. ⌜ TookIn w start (now (sheet .entry)) (trailOf t) left h k (now (pushes .entry)) r ⌝ }
 {
     if pushes.len() <= k {
         return Took::Wrong;
@@ -123,7 +122,11 @@ fn enter(
     if !leads(sheet, a, x) {
         return Took::Wrong;
     }
-    if grid::distance(crate::WIDE, crate::HIGH, spot::home_for(w, start), x) != i + 1 {
+    let far = grid::distance(crate::WIDE, crate::HIGH, spot::home_for(w, start), x);
+    if far == 0 {
+        return Took::Wrong;
+    }
+    if far - 1 != i {
         return Took::Wrong;
     }
     match crate::stand_in(sheet, x) {

@@ -2,9 +2,9 @@
 ghost use mathlib.Core.Path.{_≡_};
 ghost use Prim.Native.Nat.{_+_, _<_, _≤_};
 ghost use lib.ListN.{length};
-ghost use Rattle.sheet.specs.Sheet.{standIn, shifted};
+ghost use Rattle.sheet.specs.Sheet.{shifted};
 ghost use Rattle.sheet.specs.Ends.{Blank};
-ghost use Rattle.sheet.specs.Search.{further, servesIn, overIn, shovesIn};
+ghost use Rattle.sheet.specs.Search.{servesIn, overIn, shovesIn};
 use crate::chain;
 use crate::chain::Trail;
 use chains::Stand;

@@ -1,3 +1,6 @@
+use Rattle.sheet.proofs.Sheets.{next-open, next-shut}
+use Rattle.position.specs.Bits.{has}
+use mathlib.Core.Path.{sym, ap₂, _∙_}
 use borrow.Author.Needs.{needs}
 use Rattle.sheet.proofs.next_in.Statement.{statement}
 use Rattle.sheet.proofs.next_in.Tie as tie
@@ -30,11 +33,11 @@ neighbour-requires c κs = search needs
 
 -- src/lib.rt:59:9
 returns : tie.Need-returns
-returns c = ?
+returns c = c .neighbour .ensures ∙ sym (next-open _ _ _ (ap₂ has (sym (c .before .before .before .before .before .side-bit .ensures .0)) (sym (c .before .before .before .wide .ensures .is)) ∙ sym (c .before .before .has .ensures) ∙ c .before .if1 .taken))
 
 -- src/lib.rt:54:1
 returns-2 : tie.Need-returns-2
-returns-2 c = ?
+returns-2 c = sym (next-shut _ _ _ (ap₂ has (sym (c .before .before .before .before .side-bit .ensures .0)) (sym (c .before .before .wide .ensures .is)) ∙ sym (c .before .has .ensures) ∙ c .if1 .left))
 
 pub next-in-spec : {M : Type 1} → statement M
 next-in-spec =

@@ -1,3 +1,6 @@
+use Rattle.sheet.specs.Sheet.{restood}
+use mathlib.Core.Path.{refl}
+use native.Mathlib.Omega.{arith}
 use borrow.Author.Needs.{needs}
 use Rattle.sheet.proofs.restood.Statement.{statement}
 use Rattle.sheet.proofs.restood.Tie as tie
@@ -14,7 +17,8 @@ add-result c = search needs
 
 -- src/lib.rt:65:1
 returns : tie.Need-returns
-returns c = ?
+unfolding restood
+returns c = (refl, omega arith)
 
 pub restood-spec : {M : Type 1} → statement M
 restood-spec = tie.close (tie.spec sub-result add-result returns)

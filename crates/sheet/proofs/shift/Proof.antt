@@ -1,3 +1,7 @@
+use Rattle.sheet.specs.Sheet.{restood}
+use Prim.Native.Nat.{ℕ}
+use mathlib.Core.Path.{ap, _∙_}
+use Rattle.sheet.proofs.Sheets.{shift-is}
 use borrow.Author.Needs.{needs}
 use Rattle.sheet.proofs.shift.Statement.{statement}
 use Rattle.sheet.proofs.shift.Tie as tie
@@ -52,7 +56,10 @@ same-length c = search needs
 
 -- src/lib.rt:73:1
 returns : tie.Need-returns
-returns c = ?
+returns c =
+    shift-is _ _ _ _ _
+    (c .before .before .before .restood .ensures .0 ∙ ap (λ (m : ℕ). restood m 1) (c .before .before .before .before .wide .ensures .is))
+    (c .restood2 .ensures .0 ∙ ap (λ (m : ℕ). restood m 2) (c .before .wide2 .ensures .is))
 
 pub shift-spec : {M : Type 1} → statement M
 shift-spec =

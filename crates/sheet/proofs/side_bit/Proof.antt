@@ -1,3 +1,5 @@
+use Rattle.sheet.proofs.Sheets.{five}
+use native.Mathlib.Omega.{arith}
 use borrow.Author.Needs.{needs}
 use Rattle.sheet.proofs.side_bit.Statement.{statement}
 use Rattle.sheet.proofs.side_bit.Tie as tie
@@ -26,7 +28,7 @@ returns-5 c = search needs
 
 -- src/lib.rt:39:1
 returns-6 : tie.Need-returns-6
-returns-6 c = ?
+returns-6 c = (five (c .before .args .d) (omega arith) (omega arith), omega arith, omega arith)
 
 pub side-bit-spec : {M : Type 1} → statement M
 side-bit-spec = tie.close (tie.spec returns returns-2 returns-3 returns-4 returns-5 returns-6)

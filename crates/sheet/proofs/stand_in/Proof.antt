@@ -1,3 +1,7 @@
+use Rattle.sheet.proofs.Sheets.{stand-free, stand-loose, stand-shut}
+use Rattle.sheet.specs.Sheet.{standIn}
+use mathlib.Core.Path.{sym}
+use native.Mathlib.Omega.{arith}
 use borrow.Author.Needs.{needs}
 use Rattle.sheet.proofs.stand_in.Statement.{statement}
 use Rattle.sheet.proofs.stand_in.Tie as tie
@@ -15,15 +19,18 @@ wide-requires c κs = search needs
 
 -- src/lib.rt:30:9
 returns : tie.Need-returns
-returns c = ?
+unfolding standIn
+returns c = sym (stand-free _ (omega (arith, c .before .wide .ensures .is)))
 
 -- src/lib.rt:33:9
 returns-2 : tie.Need-returns-2
-returns-2 c = ?
+unfolding standIn
+returns-2 c = sym (stand-loose _ (omega (arith, c .before .before .wide .ensures .is)))
 
 -- src/lib.rt:24:1
 returns-3 : tie.Need-returns-3
-returns-3 c = ?
+unfolding standIn
+returns-3 c = sym (stand-shut _ (λ e. omega (arith, c .before .before .wide .ensures .is)) (λ e. omega (arith, c .before .before .wide .ensures .is)))
 
 pub stand-in-spec : {M : Type 1} → statement M
 stand-in-spec =

@@ -1,3 +1,6 @@
+use Rattle.sheet.proofs.Ends.{end-before, end-after, end-read}
+use mathlib.Core.Path.{sym}
+use native.Mathlib.Omega.{arith}
 use borrow.Author.Needs.{needs}
 use Rattle.sheet.proofs.chain.ends_in.Statement.{statement}
 use Rattle.sheet.proofs.chain.ends_in.Tie as tie
@@ -11,7 +14,7 @@ add-if1 c = search needs
 
 -- src/chain.rt:144:9
 returns : tie.Need-returns
-returns c = ?
+returns c = sym (end-before _ _ _ (omega arith))
 
 -- src/chain.rt:146:8
 add-if2 : tie.Need-add-if2
@@ -19,7 +22,7 @@ add-if2 c = search needs
 
 -- src/chain.rt:147:9
 returns-2 : tie.Need-returns-2
-returns-2 c = ?
+returns-2 c = sym (end-after _ _ _ (omega arith))
 
 -- src/chain.rt:149:23
 add-wide : tie.Need-add-wide
@@ -39,7 +42,7 @@ wide-requires c κs = search needs
 
 -- src/chain.rt:139:1
 returns-3 : tie.Need-returns-3
-returns-3 c = ?
+returns-3 c = end-read _ _ _ (c .wide .result) (omega arith) (omega arith) (c .wide .ensures .is)
 
 pub ends-in-spec : {M : Type 1} → statement M
 ends-in-spec =

@@ -1,89 +1,115 @@
+-- `sheet::follow::enter` meets its contract.
+-- Assumes nothing.
+use mathlib.Core.Path.{sym, _∙_}
+use native.Mathlib.Omega.{arith}
 use borrow.Author.Needs.{needs}
+use borrow.Author.Tests.{not-false, not-true}
+use Rattle.sheet.proofs.Searching.{on-sheet}
+use Rattle.sheet.proofs.Taking.{led-below}
+use Rattle.sheet.proofs.Following.{far-off, stepped-apart, stepped-far, stepped-free, stepped-loose, stepped-shut}
 use Rattle.sheet.proofs.follow.enter.Statement.{statement}
 use Rattle.sheet.proofs.follow.enter.Tie as tie
-use Rattle.sheet.proofs.follow.enter.Reads as reads
-use Rattle.sheet.proofs.follow.enter.Lts as lts
-use Rattle.grid.proofs.distance.Reads as distance-reads
-use Rattle.sheet.proofs.follow.leads.Reads as leads-reads
-use Rattle.sheet.proofs.follow.push_out.Reads as push-out-reads
-use Rattle.sheet.proofs.spot.home_for.Reads as home-for-reads
-use Rattle.sheet.proofs.stand_in.Reads as stand-in-reads
 
--- src/follow.rt:123:9
 leads-requires : tie.Need-leads-requires
 leads-requires c κs = search needs
 
--- src/follow.rt:124:9
 same-length : tie.Need-same-length
 same-length c = search needs
 
--- src/follow.rt:124:9
 returns : tie.Need-returns
-returns c = ?
+returns c = stepped-apart (sym (c .before .leads .ensures) ∙ not-true _ (c .if1 .taken))
 
--- src/follow.rt:126:49
 home-for-requires : tie.Need-home-for-requires
 home-for-requires c κs = search needs
 
--- src/follow.rt:126:8
 distance-requires : tie.Need-distance-requires
-distance-requires c κs = ?
+distance-requires c κs = (
+  on-sheet _ (c .home-for .ensures .1),
+  on-sheet _ (led-below _ _ _ (sym (c .before .before .leads .ensures)
+      ∙ not-false _ (c .before .if1 .left))),
+)
 
--- src/follow.rt:126:81
-add-if2 : tie.Need-add-if2
-add-if2 c = ?
-
--- src/follow.rt:127:9
 same-length-2 : tie.Need-same-length-2
 same-length-2 c = search needs
 
--- src/follow.rt:127:9
 returns-2 : tie.Need-returns-2
-returns-2 c = ?
+returns-2 c = stepped-far (λ e. omega (arith, e, far-off _ _ _ (c .before .distance .ensures) (c .before .before .home-for .ensures .0)))
 
--- src/follow.rt:129:11
-stand-in-requires : tie.Need-stand-in-requires
-stand-in-requires c κs = ?
+sub-if3 : tie.Need-sub-if3
+sub-if3 c = search needs
 
--- src/follow.rt:130:24
-enum-told : tie.Need-enum-told
-enum-told c = search needs
-
--- src/follow.rt:131:24
-enum-told-2 : tie.Need-enum-told-2
-enum-told-2 c = search needs
-
--- src/follow.rt:132:34
-enum-told-3 : tie.Need-enum-told-3
-enum-told-3 c = search needs
-
--- src/follow.rt:132:25
-push-out-requires : tie.Need-push-out-requires
-push-out-requires c κs = ?
-
--- src/follow.rt:110:1
 same-length-3 : tie.Need-same-length-3
 same-length-3 c = search needs
 
--- src/follow.rt:110:1
 returns-3 : tie.Need-returns-3
-returns-3 c = ?
+returns-3 c = stepped-far (λ e. omega (
+  arith,
+  e,
+  far-off _ _ _ (c .before .before .distance .ensures)
+      (c .before .before .before .home-for .ensures .0),
+))
 
--- src/follow.rt:110:1
+stand-in-requires : tie.Need-stand-in-requires
+stand-in-requires c κs = (
+  c .before .before .before .before .before .before .before .before .before .before .pre .0,
+  led-below _ _ _ (sym (c .before .before .before .before .before .before .leads .ensures)
+      ∙ not-false _ (c .before .before .before .before .before .if1 .left)),
+)
+
+enum-told : tie.Need-enum-told
+enum-told c = search needs
+
+enum-told-2 : tie.Need-enum-told-2
+enum-told-2 c = search needs
+
+enum-told-3 : tie.Need-enum-told-3
+enum-told-3 c = search needs
+
+push-out-requires : tie.Need-push-out-requires
+push-out-requires c κs = let p = c .before .before .before .before .before .before .before .before .before .before .before .before .before
+    .before .pre in (
+      p .0,
+      p .1,
+      p .2,
+      p .3,
+      led-below _ _ _ (sym
+          (c .before .before .before .before .before .before .before .before .before .before .leads .ensures)
+          ∙ not-false _ (c .before .before .before .before .before .before .before .before .before .if1 .left)),
+      p .4,
+    )
+
 same-length-4 : tie.Need-same-length-4
 same-length-4 c = search needs
 
--- src/follow.rt:110:1
 returns-4 : tie.Need-returns-4
-returns-4 c = ?
+returns-4 c = stepped-shut (sym (c .before .before .before .before .before .before .before .before .before .leads .ensures)
+    ∙ not-false _ (c .before .before .before .before .before .before .before .before .if1 .left))
+    (far-off _ _ _ (c .before .before .before .before .before .before .distance .ensures)
+    (c .before .before .before .before .before .before .before .home-for .ensures .0)
+    ∙ omega arith) (sym (c .before .before .stand-in .ensures) ∙ c .enum-told .given .1)
 
--- src/follow.rt:110:1
 same-length-5 : tie.Need-same-length-5
 same-length-5 c = search needs
 
--- src/follow.rt:110:1
 returns-5 : tie.Need-returns-5
-returns-5 c = ?
+returns-5 c = stepped-free (sym (c .before .before .before .before .before .before .before .before .before .leads .ensures)
+    ∙ not-false _ (c .before .before .before .before .before .before .before .before .if1 .left))
+    (far-off _ _ _ (c .before .before .before .before .before .before .distance .ensures)
+    (c .before .before .before .before .before .before .before .home-for .ensures .0)
+    ∙ omega arith) (sym (c .before .before .stand-in .ensures) ∙ c .enum-told2 .given .1)
+    (c .before .before .before .before .before .before .before .before .before .before .before .before .before .pre .4)
+
+same-length-6 : tie.Need-same-length-6
+same-length-6 c = search needs
+
+returns-6 : tie.Need-returns-6
+returns-6 c = stepped-loose (sym (c .before .before .before .before .before .before .before .before .before .before .before .before
+    .before .leads .ensures) ∙ not-false _ (c .before .before .before .before .before .before .before .before .before .before .before
+    .before .if1 .left)) (far-off _ _ _ (c .before .before .before .before .before .before .before .before .before .before .distance
+    .ensures) (c .before .before .before .before .before .before .before .before .before .before .before .home-for .ensures .0)
+    ∙ omega arith) _ (sym (c .before .before .before .before .before .before .stand-in .ensures)
+    ∙ c .before .before .before .before .enum-told3 .given .1) (c .before .before .before .before .before .before .before .before .before
+    .before .before .before .before .before .before .before .before .pre .0) (c .before .before .push-out .ensures)
 
 pub enter-spec : {M : Type 1} → statement M
 enter-spec =
@@ -94,17 +120,19 @@ enter-spec =
     returns
     home-for-requires
     distance-requires
-    add-if2
     same-length-2
     returns-2
+    sub-if3
+    same-length-3
+    returns-3
     stand-in-requires
     enum-told
     enum-told-2
     enum-told-3
     push-out-requires
-    same-length-3
-    returns-3
     same-length-4
     returns-4
     same-length-5
-    returns-5)
+    returns-5
+    same-length-6
+    returns-6)

@@ -1,80 +1,86 @@
+-- `sheet::follow::follows` meets its contract. The loop's invariant: the answer is what comes of the rest of the route and of the pushes.
+-- Assumes nothing.
+use Prim.Native.Nat.{_-_}
+use mathlib.Core.Path.{sym, _∙_}
+use native.Mathlib.Omega.{arith}
+use borrow.Author.Needs.{needs}
+use lib.ListN.{length}
+use Rattle.sheet.proofs.Following.{Followed, followed-all, followed-more, followed-none, followed-wrong}
 use Rattle.sheet.proofs.follow.follows.Statement.{statement}
 use Rattle.sheet.proofs.follow.follows.Tie as tie
-use Rattle.sheet.proofs.follow.follows.Reads as reads
-use Rattle.sheet.proofs.follow.follows.Lts as lts
-use Rattle.sheet.proofs.follow.enter.Reads as enter-reads
-use Rattle.sheet.proofs.spot.home_for.Reads as home-for-reads
-use Rattle.sheet.proofs.spot.place_for.Reads as place-for-reads
 
 abbrev Inv-loop : tie.InvT-loop
-Inv-loop sheet₀ w start route pushes a₀ k₀ i₀ i-end sheet a k i = ?
+Inv-loop sheet₀ w start route pushes a₀ k₀ i₀ i-end sheet a k i = Followed w start sheet₀ route pushes sheet a k i
 
 abbrev μ-loop : tie.MeasureT-loop
-μ-loop sheet₀ w start route pushes a₀ k₀ i₀ i-end sheet a k i = ?
+μ-loop sheet₀ w start route pushes a₀ k₀ i₀ i-end sheet a k i = length route - i
 
--- src/follow.rt:141:9
 home-for-requires : tie.Need-home-for-requires Inv-loop μ-loop
-home-for-requires c κs = ?
+home-for-requires c κs = c .before .before .before .pre .1
 
--- src/follow.rt:143:5
 loop-holds : tie.Need-loop-holds Inv-loop μ-loop
-loop-holds c = ?
+loop-holds c = followed-none (c .before .before .before .before .pre .0) (c .home-for .ensures .0) (c .home-for .ensures .1)
 
--- src/follow.rt:144:43
 mul-place-for : tie.Need-mul-place-for Inv-loop μ-loop
-mul-place-for c = ?
+mul-place-for c = search needs
 
--- src/follow.rt:144:43
 shared-slice-read-place-for : tie.Need-shared-slice-read-place-for Inv-loop μ-loop
-shared-slice-read-place-for c = ?
+shared-slice-read-place-for c = omega arith
 
--- src/follow.rt:144:43
 cast-place-for : tie.Need-cast-place-for Inv-loop μ-loop
-cast-place-for c = ?
+cast-place-for c = omega (arith, c .shared-slice-known3 .given (c .before .before .loop .i))
 
--- src/follow.rt:144:13
 place-for-requires : tie.Need-place-for-requires Inv-loop μ-loop
-place-for-requires c κs = ?
+place-for-requires c κs = (
+  c .before .before .before .before .before .before .before .pre .1,
+  c .before .before .before .before .before .before .before .pre .2,
+  omega (
+    arith,
+    c .shared-slice-known3 .given (c .before .before .loop .i),
+  ),
+)
 
--- src/follow.rt:145:32
 enter-requires : tie.Need-enter-requires Inv-loop μ-loop
-enter-requires c κs = ?
+enter-requires c κs = let u = c .before .before .before .before .loop .inv in (
+  u .long,
+  c .before .before .before .before .before .before .before .before .before .pre .1,
+  c .before .before .before .before .before .before .before .before .before .pre .2,
+  u .inside,
+  u .few,
+)
 
--- src/follow.rt:145:27
 enum-known-m : tie.Need-enum-known-m Inv-loop μ-loop
-enum-known-m c = ?
+enum-known-m c = search needs
 
--- src/follow.rt:146:13
 enum-told : tie.Need-enum-told Inv-loop μ-loop
-enum-told c = ?
+enum-told c = search needs
 
--- src/follow.rt:146:13
 same-length : tie.Need-same-length Inv-loop μ-loop
-same-length c = ?
+same-length c = c .before .before .before .before .enter .ensures .long
+    ∙ c .before .before .before .before .before .before .before .before .before .loop .inv .long
+    ∙ sym (c .before .before .before .before .before .before .before .before .before .before .before .before .before .before .pre .0)
 
--- src/follow.rt:146:13
 returns : tie.Need-returns Inv-loop μ-loop
-returns c = ?
+returns c = sym (followed-wrong (c .before .before .before .before .before .before .before .before .before .loop .inv) (omega arith)
+    (c .before .before .before .before .before .before .place-for .ensures .0) (c .before .before .before .before .enter .ensures)
+    (c .enum-told .given .1))
 
--- src/follow.rt:143:9
 add-i : tie.Need-add-i Inv-loop μ-loop
-add-i c = ?
+add-i c = omega arith
 
--- src/follow.rt:143:5
 loop-less : tie.Need-loop-less Inv-loop μ-loop
-loop-less c = ?
+loop-less c = omega arith
 
--- src/follow.rt:143:5
 loop-again : tie.Need-loop-again Inv-loop μ-loop
-loop-again c = ?
+loop-again c = followed-more (c .before .before .before .before .before .before .before .before .before .before .loop .inv) (omega arith)
+    (c .before .before .before .before .before .before .before .place-for .ensures .0)
+    (c .before .before .before .before .before .enter .ensures) (c .before .m .given .1)
 
--- src/follow.rt:137:1
 same-length-2 : tie.Need-same-length-2 Inv-loop μ-loop
-same-length-2 c = ?
+same-length-2 c = c .before .loop .inv .long ∙ sym (c .before .before .before .before .before .before .pre .0)
 
--- src/follow.rt:137:1
 returns-2 : tie.Need-returns-2 Inv-loop μ-loop
-returns-2 c = ?
+returns-2 c = sym (followed-all (c .before .loop .inv) (omega arith))
 
 pub follows-spec : {M : Type 1} → statement M
 follows-spec =

@@ -1,62 +1,58 @@
+-- `sheet::follow::leads` meets its contract. The loop's invariant: no step in the directions passed leads there.
+-- Assumes nothing.
+use Prim.Native.Nat.{_-_}
+use mathlib.Core.Path.{sym, _∙_}
+use native.Mathlib.Omega.{arith}
+use borrow.Author.Needs.{needs}
+use Rattle.position.proofs.Tallies.{any-zero}
+use Rattle.sheet.proofs.Taking.{Unled, led, unled, unled-at, unled-off}
 use Rattle.sheet.proofs.follow.leads.Statement.{statement}
 use Rattle.sheet.proofs.follow.leads.Tie as tie
-use Rattle.sheet.proofs.follow.leads.Reads as reads
-use Rattle.sheet.proofs.follow.leads.Lts as lts
-use Rattle.sheet.proofs.next_in.Reads as next-in-reads
 
 abbrev Inv-loop : tie.InvT-loop
-Inv-loop sheet h z d₀ d = ?
+Inv-loop sheet h z d₀ d = Unled sheet h z d
 
 abbrev μ-loop : tie.MeasureT-loop
-μ-loop sheet h z d₀ d = ?
+μ-loop sheet h z d₀ d = 6 - d
 
--- src/follow.rt:28:5
 loop-holds : tie.Need-loop-holds Inv-loop μ-loop
-loop-holds c = ?
+loop-holds c = record { most = omega arith; none = any-zero _ }
 
--- src/follow.rt:29:29
 next-in-requires : tie.Need-next-in-requires Inv-loop μ-loop
-next-in-requires c κs = ?
+next-in-requires c κs = (c .before .before .before .pre .0, c .before .before .before .pre .1, omega arith)
 
--- src/follow.rt:29:24
 enum-known-x : tie.Need-enum-known-x Inv-loop μ-loop
-enum-known-x c = ?
+enum-known-x c = search needs
 
--- src/follow.rt:30:13
 enum-told : tie.Need-enum-told Inv-loop μ-loop
-enum-told c = ?
+enum-told c = search needs
 
--- src/follow.rt:30:13
 add-d : tie.Need-add-d Inv-loop μ-loop
-add-d c = ?
+add-d c = omega arith
 
--- src/follow.rt:28:5
 loop-less : tie.Need-loop-less Inv-loop μ-loop
-loop-less c = ?
+loop-less c = omega arith
 
--- src/follow.rt:28:5
 loop-again : tie.Need-loop-again Inv-loop μ-loop
-loop-again c = ?
+loop-again c = unled-off (c .before .before .before .before .loop .inv) (omega arith) (sym (c .before .before .next-in .ensures)
+    ∙ c .enum-told .given .1)
 
--- src/follow.rt:33:13
 returns : tie.Need-returns Inv-loop μ-loop
-returns c = ?
+returns c = sym (led (c .before .before .before .before .before .before .loop .inv) (omega arith)
+    (sym (c .before .before .before .before .next-in .ensures) ∙ c .before .before .x .given .1) (c .if1 .taken))
 
--- src/follow.rt:28:9
 add-d-2 : tie.Need-add-d-2 Inv-loop μ-loop
-add-d-2 c = ?
+add-d-2 c = omega arith
 
--- src/follow.rt:28:5
 loop-less-2 : tie.Need-loop-less-2 Inv-loop μ-loop
-loop-less-2 c = ?
+loop-less-2 c = omega arith
 
--- src/follow.rt:28:5
 loop-again-2 : tie.Need-loop-again-2 Inv-loop μ-loop
-loop-again-2 c = ?
+loop-again-2 c = unled-at (c .before .before .before .before .before .before .loop .inv) (omega arith)
+    (sym (c .before .before .before .before .next-in .ensures) ∙ c .before .before .x .given .1) (c .if1 .left)
 
--- src/follow.rt:24:1
 returns-2 : tie.Need-returns-2 Inv-loop μ-loop
-returns-2 c = ?
+returns-2 c = sym (unled (c .before .loop .inv) (omega arith))
 
 pub leads-spec : {M : Type 1} → statement M
 leads-spec =

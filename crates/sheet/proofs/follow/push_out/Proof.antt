@@ -1,42 +1,43 @@
+-- `sheet::follow::push_out` meets its contract.
+-- Assumes nothing.
+use mathlib.Core.Path.{refl}
+use native.Mathlib.Omega.{arith}
 use borrow.Author.Needs.{needs}
+use Rattle.sheet.proofs.Searching.{own-ok, own-trail}
+use Rattle.sheet.proofs.Taking.{pushed-to, pushed-wrong}
 use Rattle.sheet.proofs.follow.push_out.Statement.{statement}
 use Rattle.sheet.proofs.follow.push_out.Tie as tie
-use Rattle.sheet.proofs.follow.push_out.Reads as reads
-use Rattle.sheet.proofs.follow.push_out.Lts as lts
-use Rattle.sheet.proofs.follow.take.Reads as take-reads
-use Rattle.sheet.proofs.shift.Reads as shift-reads
 
--- src/follow.rt:102:28
 take-requires : tie.Need-take-requires
-take-requires c κs = search needs
+take-requires c κs = let p = c .before .before .before .pre in (p .0, p .1, p .2, own-ok _ refl refl, omega arith, p .4, p .5)
 
--- src/follow.rt:102:20
 enum-known-y : tie.Need-enum-known-y
 enum-known-y c = search needs
 
--- src/follow.rt:103:9
 enum-told : tie.Need-enum-told
 enum-told c = search needs
 
--- src/follow.rt:103:9
 same-length : tie.Need-same-length
 same-length c = search needs
 
--- src/follow.rt:103:9
 returns : tie.Need-returns
-returns c = ?
+returns c = pushed-wrong (own-trail _ (c .before .before .before .before .before .before .pre .3) refl refl)
+    (c .before .before .take .ensures) (c .enum-told .given .1)
 
--- src/follow.rt:105:5
 shift-requires : tie.Need-shift-requires
-shift-requires c κs = ?
+shift-requires c κs = (
+  c .before .before .before .before .before .before .before .before .pre .0,
+  c .before .before .before .before .before .before .before .before .pre .4,
+  c .before .before .before .before .take .ensures .ends _ _ (c .before .before .y .given .1) .0,
+)
 
--- src/follow.rt:85:1
 same-length-2 : tie.Need-same-length-2
 same-length-2 c = search needs
 
--- src/follow.rt:85:1
 returns-2 : tie.Need-returns-2
-returns-2 c = ?
+returns-2 c = pushed-to (own-trail _ (c .before .before .before .before .before .before .before .before .before .before .before .pre .3)
+    refl refl) (c .before .before .before .before .before .before .before .take .ensures)
+    (c .before .before .before .before .before .y .given .1) (c .before .before .shift .ensures)
 
 pub push-out-spec : {M : Type 1} → statement M
 push-out-spec =

@@ -1,6 +1,19 @@
-use Prim.Native.Nat.{ℕ, _<_}
+-- The proof of the cycle of calls {over, serves, shoves, with_end, with_ends}. Only `serves` calls with fewer steps left; the others, which
+-- it comes to before it calls itself again, have their places between 5k and 5k + 5.
+-- Assumes nothing.
+use Prim.Native.Nat.{ℕ, _+_, _-_, _*_, _<_}
+use mathlib.Core.Path.{refl, sym, ap, _∙_}
+use native.Mathlib.Omega.{arith}
 use borrow.Fn.Kinds.{In}
 use borrow.Fn.PlainCycle.{Measures, is, falls, and}
+use borrow.Author.Needs.{needs}
+use borrow.Author.Tests.{not-false, not-true}
+use lib.ListN.{length, length-set}
+use Rattle.position.proofs.Tallies.{any-zero}
+use Rattle.sheet.proofs.Sheets.{next-below}
+use Rattle.sheet.proofs.Searching.{Unserved, Unended, blank, close-self, gathered, on-sheet, own-ok}
+use Rattle.sheet.proofs.Searching.{over-far, over-free, over-loose, over-shut, served, serves-done, put-back, shoved}
+use Rattle.sheet.proofs.Searching.{unended, unended-not, unended-with, unserved, unserved-off, unserved-over}
 use Rattle.sheet.proofs.search.over.Reads as over
 use Rattle.sheet.proofs.search.over.Kinds as over-kinds
 use Rattle.sheet.proofs.search.+over+serves+shoves+with_end+with_ends.Lts-over as over-lts
@@ -26,20 +39,21 @@ use Rattle.sheet.proofs.search.+over+serves+shoves+with_end+with_ends.{
 use Rattle.sheet.proofs.search.+over+serves+shoves+with_end+with_ends.Tie.{close}
 
 abbrev μ-over : Measures 1 over-kinds.ps ℕ
-μ-over κs a = ?
+μ-over κs a = 5 * a .1 .1 .0 + 4
 
 abbrev μ-serves : Measures 1 serves-kinds.ps ℕ
-μ-serves κs a = ?
+μ-serves κs a = 5 * a .1 .1 .0
 
 abbrev μ-shoves : Measures 1 shoves-kinds.ps ℕ
-μ-shoves κs a = ?
+μ-shoves κs a = 5 * a .1 .1 .0 + 3
 
 abbrev μ-with-end : Measures 1 with-end-kinds.ps ℕ
-μ-with-end κs a = ?
+μ-with-end κs a = 5 * a .1 .1 .0 + 1
 
 abbrev μ-with-ends : Measures 2 with-ends-kinds.ps ℕ
-μ-with-ends κs a = ?
+μ-with-ends κs a = 5 * a .1 .1 .1 .0 + 2
 
+-- what each is given at the measure t, and what a call of it asks below t
 abbrev over-at : ℕ → In 1 over-kinds.ps
 over-at t = and 1 over-kinds.ps (is 1 over-kinds.ps μ-over t) over.Pre
 
@@ -62,18 +76,16 @@ abbrev with-end-at : ℕ → In 1 with-end-kinds.ps
 with-end-at t = and 1 with-end-kinds.ps (is 1 with-end-kinds.ps μ-with-end t) with-end.Pre
 
 abbrev with-end-below : ℕ → In 1 with-end-kinds.ps
-with-end-below t =
-    and 1 with-end-kinds.ps (falls 1 with-end-kinds.ps _<_ μ-with-end t) with-end.Pre
+with-end-below t = and 1 with-end-kinds.ps (falls 1 with-end-kinds.ps _<_ μ-with-end t) with-end.Pre
 
 abbrev with-ends-at : ℕ → In 2 with-ends-kinds.ps
 with-ends-at t = and 2 with-ends-kinds.ps (is 2 with-ends-kinds.ps μ-with-ends t) with-ends.Pre
 
 abbrev with-ends-below : ℕ → In 2 with-ends-kinds.ps
-with-ends-below t =
-    and 2 with-ends-kinds.ps (falls 2 with-ends-kinds.ps _<_ μ-with-ends t) with-ends.Pre
+with-ends-below t = and 2 with-ends-kinds.ps (falls 2 with-ends-kinds.ps _<_ μ-with-ends t) with-ends.Pre
 
--- src/search.rt:71:8
-over-distance-requires : (t : ℕ) → over-lts.Need-distance-requires (
+abbrev over-claims : ℕ → over-lts.Claims
+over-claims t = (
   distance-reads.Asked,
   distance-reads.Learnt,
   stand-in-reads.Asked,
@@ -82,751 +94,276 @@ over-distance-requires : (t : ℕ) → over-lts.Need-distance-requires (
   serves.Post,
   shoves-below t,
   shoves.Post,
-) (over-at t) over.Post
-over-distance-requires t c κs = ?
+)
 
--- src/search.rt:71:61
-over-add-if1 : (t : ℕ) → over-lts.Need-add-if1 (
-  distance-reads.Asked,
-  distance-reads.Learnt,
-  stand-in-reads.Asked,
-  stand-in-reads.Learnt,
-  serves-below t,
-  serves.Post,
-  shoves-below t,
-  shoves.Post,
-) (over-at t) over.Post
-over-add-if1 t c = ?
+over-distance-requires : (t : ℕ) → over-lts.Need-distance-requires (over-claims t) (over-at t) over.Post
+over-distance-requires t c κs = (on-sheet _ (c .before .pre .1 .1), on-sheet _ (c .before .pre .1 .3))
 
--- src/search.rt:72:9
-over-returns : (t : ℕ) → over-lts.Need-returns (
-  distance-reads.Asked,
-  distance-reads.Learnt,
-  stand-in-reads.Asked,
-  stand-in-reads.Learnt,
-  serves-below t,
-  serves.Post,
-  shoves-below t,
-  shoves.Post,
-) (over-at t) over.Post
-over-returns t c = ?
+over-returns : (t : ℕ) → over-lts.Need-returns (over-claims t) (over-at t) over.Post
+over-returns t c = (sym (over-far _ _ _ _ _ _ (λ e. c .if1 .taken (c .before .distance .ensures ∙ e))), refl)
 
--- src/search.rt:74:11
-over-stand-in-requires : (t : ℕ) → over-lts.Need-stand-in-requires (
-  distance-reads.Asked,
-  distance-reads.Learnt,
-  stand-in-reads.Asked,
-  stand-in-reads.Learnt,
-  serves-below t,
-  serves.Post,
-  shoves-below t,
-  shoves.Post,
-) (over-at t) over.Post
-over-stand-in-requires t c κs = ?
+over-stand-in-requires : (t : ℕ) → over-lts.Need-stand-in-requires (over-claims t) (over-at t) over.Post
+over-stand-in-requires t c κs = (c .before .before .before .before .pre .1 .0, c .before .before .before .before .pre .1 .3)
 
--- src/search.rt:75:24
-over-enum-told : (t : ℕ) → over-lts.Need-enum-told (
-  distance-reads.Asked,
-  distance-reads.Learnt,
-  stand-in-reads.Asked,
-  stand-in-reads.Learnt,
-  serves-below t,
-  serves.Post,
-  shoves-below t,
-  shoves.Post,
-) (over-at t) over.Post
-over-enum-told t c = ?
+over-serves-requires : (t : ℕ) → over-lts.Need-serves-requires (over-claims t) (over-at t) over.Post
+over-serves-requires t c κs = let p = c .before .before .before .before .before .before .before .before .pre .1 in
+    (omega arith, (p .0, p .1, p .3, omega arith))
 
--- src/search.rt:76:31
-over-enum-told-2 : (t : ℕ) → over-lts.Need-enum-told-2 (
-  distance-reads.Asked,
-  distance-reads.Learnt,
-  stand-in-reads.Asked,
-  stand-in-reads.Learnt,
-  serves-below t,
-  serves.Post,
-  shoves-below t,
-  shoves.Post,
-) (over-at t) over.Post
-over-enum-told-2 t c = ?
+over-shoves-requires : (t : ℕ) → over-lts.Need-shoves-requires (over-claims t) (over-at t) over.Post
+over-shoves-requires t c κs = (omega arith, c .before .before .before .before .before .before .before .before .pre .1)
 
--- src/search.rt:76:47
-over-add-serves : (t : ℕ) → over-lts.Need-add-serves (
-  distance-reads.Asked,
-  distance-reads.Learnt,
-  stand-in-reads.Asked,
-  stand-in-reads.Learnt,
-  serves-below t,
-  serves.Post,
-  shoves-below t,
-  shoves.Post,
-) (over-at t) over.Post
-over-add-serves t c = ?
+over-returns-2 : (t : ℕ) → over-lts.Need-returns-2 (over-claims t) (over-at t) over.Post
+over-returns-2 t c = (
+  sym (over-shut _ _ _ _ _ _ (sym (c .before .before .before .before .before .distance .ensures)
+      ∙ c .before .before .before .before .if1 .left) (sym (c .before .before .stand-in .ensures) ∙ c .enum-told .given .1)),
+  refl,
+)
 
--- src/search.rt:76:24
-over-serves-requires : (t : ℕ) → over-lts.Need-serves-requires (
-  distance-reads.Asked,
-  distance-reads.Learnt,
-  stand-in-reads.Asked,
-  stand-in-reads.Learnt,
-  serves-below t,
-  serves.Post,
-  shoves-below t,
-  shoves.Post,
-) (over-at t) over.Post
-over-serves-requires t c κs = ?
+over-returns-3 : (t : ℕ) → over-lts.Need-returns-3 (over-claims t) (over-at t) over.Post
+over-returns-3 t c = (
+  c .before .before .serves .ensures .0 ∙ sym (over-free _ _ _ _ _ _
+      (sym (c .before .before .before .before .before .before .before .before .before .distance .ensures)
+      ∙ c .before .before .before .before .before .before .before .before .if1 .left)
+      (sym (c .before .before .before .before .before .before .stand-in .ensures)
+      ∙ c .before .before .before .before .enum-told2 .given .1)),
+  c .before .before .serves .ensures .1,
+)
 
--- src/search.rt:77:32
-over-enum-told-3 : (t : ℕ) → over-lts.Need-enum-told-3 (
-  distance-reads.Asked,
-  distance-reads.Learnt,
-  stand-in-reads.Asked,
-  stand-in-reads.Learnt,
-  serves-below t,
-  serves.Post,
-  shoves-below t,
-  shoves.Post,
-) (over-at t) over.Post
-over-enum-told-3 t c = ?
-
--- src/search.rt:77:25
-over-shoves-requires : (t : ℕ) → over-lts.Need-shoves-requires (
-  distance-reads.Asked,
-  distance-reads.Learnt,
-  stand-in-reads.Asked,
-  stand-in-reads.Learnt,
-  serves-below t,
-  serves.Post,
-  shoves-below t,
-  shoves.Post,
-) (over-at t) over.Post
-over-shoves-requires t c κs = ?
-
--- src/search.rt:67:1
-over-same-length : (t : ℕ) → over-lts.Need-same-length (
-  distance-reads.Asked,
-  distance-reads.Learnt,
-  stand-in-reads.Asked,
-  stand-in-reads.Learnt,
-  serves-below t,
-  serves.Post,
-  shoves-below t,
-  shoves.Post,
-) (over-at t) over.Post
-over-same-length t c = ?
-
--- src/search.rt:67:1
-over-returns-2 : (t : ℕ) → over-lts.Need-returns-2 (
-  distance-reads.Asked,
-  distance-reads.Learnt,
-  stand-in-reads.Asked,
-  stand-in-reads.Learnt,
-  serves-below t,
-  serves.Post,
-  shoves-below t,
-  shoves.Post,
-) (over-at t) over.Post
-over-returns-2 t c = ?
-
--- src/search.rt:67:1
-over-same-length-2 : (t : ℕ) → over-lts.Need-same-length-2 (
-  distance-reads.Asked,
-  distance-reads.Learnt,
-  stand-in-reads.Asked,
-  stand-in-reads.Learnt,
-  serves-below t,
-  serves.Post,
-  shoves-below t,
-  shoves.Post,
-) (over-at t) over.Post
-over-same-length-2 t c = ?
-
--- src/search.rt:67:1
-over-returns-3 : (t : ℕ) → over-lts.Need-returns-3 (
-  distance-reads.Asked,
-  distance-reads.Learnt,
-  stand-in-reads.Asked,
-  stand-in-reads.Learnt,
-  serves-below t,
-  serves.Post,
-  shoves-below t,
-  shoves.Post,
-) (over-at t) over.Post
-over-returns-3 t c = ?
-
--- src/search.rt:67:1
-over-same-length-3 : (t : ℕ) → over-lts.Need-same-length-3 (
-  distance-reads.Asked,
-  distance-reads.Learnt,
-  stand-in-reads.Asked,
-  stand-in-reads.Learnt,
-  serves-below t,
-  serves.Post,
-  shoves-below t,
-  shoves.Post,
-) (over-at t) over.Post
-over-same-length-3 t c = ?
-
--- src/search.rt:67:1
-over-returns-4 : (t : ℕ) → over-lts.Need-returns-4 (
-  distance-reads.Asked,
-  distance-reads.Learnt,
-  stand-in-reads.Asked,
-  stand-in-reads.Learnt,
-  serves-below t,
-  serves.Post,
-  shoves-below t,
-  shoves.Post,
-) (over-at t) over.Post
-over-returns-4 t c = ?
+over-returns-4 : (t : ℕ) → over-lts.Need-returns-4 (over-claims t) (over-at t) over.Post
+over-returns-4 t c = (
+  c .before .before .shoves .ensures .0 ∙ sym (over-loose _ _ _ _ _ _
+      (sym (c .before .before .before .before .before .before .before .before .before .distance .ensures)
+      ∙ c .before .before .before .before .before .before .before .before .if1 .left)
+      (sym (c .before .before .before .before .before .before .stand-in .ensures)
+      ∙ c .before .before .before .before .enum-told3 .given .1)),
+  c .before .before .shoves .ensures .1,
+)
 
 abbrev serves-Inv-loop : serves-lts.InvT-loop
-serves-Inv-loop sheet₀ home k i a d₀ sheet d = ?
+serves-Inv-loop sheet₀ home k i a d₀ sheet d = Unserved home sheet₀ k i a sheet d
 
 abbrev serves-μ-loop : serves-lts.MeasureT-loop
-serves-μ-loop sheet₀ home k i a d₀ sheet d = ?
+serves-μ-loop sheet₀ home k i a d₀ sheet d = 6 - d
 
--- src/search.rt:87:9
-serves-returns : (t : ℕ) → serves-lts.Need-returns (
-  next-in-reads.Asked,
-  next-in-reads.Learnt,
-  over-below t,
-  over.Post,
-) (serves-at t) serves.Post serves-Inv-loop serves-μ-loop
-serves-returns t c = ?
+abbrev serves-claims : ℕ → serves-lts.Claims
+serves-claims t = (next-in-reads.Asked, next-in-reads.Learnt, over-below t, over.Post)
 
--- src/search.rt:89:5
-serves-loop-holds : (t : ℕ) → serves-lts.Need-loop-holds (
-  next-in-reads.Asked,
-  next-in-reads.Learnt,
-  over-below t,
-  over.Post,
-) (serves-at t) serves.Post serves-Inv-loop serves-μ-loop
-serves-loop-holds t c = ?
+serves-returns : (t : ℕ) → serves-lts.Need-returns (serves-claims t) (serves-at t) serves.Post serves-Inv-loop serves-μ-loop
+serves-returns t c = (sym (serves-done _ _ _ _ _ (c .if1 .taken)), refl)
 
--- src/search.rt:90:29
-serves-next-in-requires : (t : ℕ) → serves-lts.Need-next-in-requires (
-  next-in-reads.Asked,
-  next-in-reads.Learnt,
-  over-below t,
-  over.Post,
-) (serves-at t) serves.Post serves-Inv-loop serves-μ-loop
-serves-next-in-requires t c κs = ?
+serves-loop-holds : (t : ℕ) → serves-lts.Need-loop-holds (serves-claims t) (serves-at t) serves.Post serves-Inv-loop serves-μ-loop
+serves-loop-holds t c = record { same = refl; most = omega arith; none = any-zero _ }
 
--- src/search.rt:90:24
-serves-enum-known-x : (t : ℕ) → serves-lts.Need-enum-known-x (
-  next-in-reads.Asked,
-  next-in-reads.Learnt,
-  over-below t,
-  over.Post,
-) (serves-at t) serves.Post serves-Inv-loop serves-μ-loop
-serves-enum-known-x t c = ?
+serves-next-in-requires : (t : ℕ) → serves-lts.Need-next-in-requires (serves-claims t)
+    (serves-at t) serves.Post serves-Inv-loop serves-μ-loop
+serves-next-in-requires t c κs = (
+  ap length (c .before .before .loop .inv .same) ∙ c .before .before .before .before .before .pre .1 .0,
+  c .before .before .before .before .before .pre .1 .2,
+  omega arith,
+)
 
--- src/search.rt:91:13
-serves-enum-told : (t : ℕ) → serves-lts.Need-enum-told (
-  next-in-reads.Asked,
-  next-in-reads.Learnt,
-  over-below t,
-  over.Post,
-) (serves-at t) serves.Post serves-Inv-loop serves-μ-loop
-serves-enum-told t c = ?
+serves-loop-again : (t : ℕ) → serves-lts.Need-loop-again (serves-claims t) (serves-at t) serves.Post serves-Inv-loop serves-μ-loop
+serves-loop-again t c = unserved-off (c .before .before .before .before .before .loop .inv) (omega arith)
+    (sym (c .before .before .next-in .ensures) ∙ c .enum-told .given .1)
 
--- src/search.rt:91:13
-serves-add-d : (t : ℕ) → serves-lts.Need-add-d (
-  next-in-reads.Asked,
-  next-in-reads.Learnt,
-  over-below t,
-  over.Post,
-) (serves-at t) serves.Post serves-Inv-loop serves-μ-loop
-serves-add-d t c = ?
+serves-sub-over : (t : ℕ) → serves-lts.Need-sub-over (serves-claims t) (serves-at t) serves.Post serves-Inv-loop serves-μ-loop
+serves-sub-over t c = omega (arith, c .before .before .before .before .before .before .before .before .if1 .left)
 
--- src/search.rt:89:5
-serves-loop-less : (t : ℕ) → serves-lts.Need-loop-less (
-  next-in-reads.Asked,
-  next-in-reads.Learnt,
-  over-below t,
-  over.Post,
-) (serves-at t) serves.Post serves-Inv-loop serves-μ-loop
-serves-loop-less t c = ?
+serves-over-requires : (t : ℕ) → serves-lts.Need-over-requires (serves-claims t) (serves-at t) serves.Post serves-Inv-loop serves-μ-loop
+serves-over-requires t c κs = let p = c .before .before .before .before .before .before .before .before .before .before .pre .1 in (
+  omega arith,
+  (
+    ap length (c .before .before .before .before .before .before .before .loop .inv .same) ∙ p .0,
+    p .1,
+    p .2,
+    next-below _ _ _ _ (sym (c .before .before .before .before .next-in .ensures) ∙ c .before .before .x .given .1),
+    omega arith,
+  ),
+)
 
--- src/search.rt:89:5
-serves-loop-again : (t : ℕ) → serves-lts.Need-loop-again (
-  next-in-reads.Asked,
-  next-in-reads.Learnt,
-  over-below t,
-  over.Post,
-) (serves-at t) serves.Post serves-Inv-loop serves-μ-loop
-serves-loop-again t c = ?
+serves-same-length : (t : ℕ) → serves-lts.Need-same-length (serves-claims t) (serves-at t) serves.Post serves-Inv-loop serves-μ-loop
+serves-same-length t c = ap length (c .before .before .before .over .ensures .1
+    ∙ c .before .before .before .before .before .before .before .before .before .before .before .loop .inv .same)
 
--- src/search.rt:93:30
-serves-sub-over : (t : ℕ) → serves-lts.Need-sub-over (
-  next-in-reads.Asked,
-  next-in-reads.Learnt,
-  over-below t,
-  over.Post,
-) (serves-at t) serves.Post serves-Inv-loop serves-μ-loop
-serves-sub-over t c = ?
+serves-returns-2 : (t : ℕ) → serves-lts.Need-returns-2 (serves-claims t) (serves-at t) serves.Post serves-Inv-loop serves-μ-loop
+serves-returns-2 t c = (
+  sym (served (c .before .before .before .before .before .before .before .before .before .before .before .loop .inv)
+      (c .before .before .before .before .before .before .before .before .before .before .before .before .if1 .left) (omega arith)
+      (sym (c .before .before .before .before .before .before .before .before .next-in .ensures)
+      ∙ c .before .before .before .before .before .before .x .given .1) (sym (c .before .before .before .over .ensures .0)
+      ∙ c .if2 .taken)),
+  c .before .before .before .over .ensures .1
+      ∙ c .before .before .before .before .before .before .before .before .before .before .before .loop .inv .same,
+)
 
--- src/search.rt:93:12
-serves-over-requires : (t : ℕ) → serves-lts.Need-over-requires (
-  next-in-reads.Asked,
-  next-in-reads.Learnt,
-  over-below t,
-  over.Post,
-) (serves-at t) serves.Post serves-Inv-loop serves-μ-loop
-serves-over-requires t c κs = ?
+serves-loop-again-2 : (t : ℕ) → serves-lts.Need-loop-again-2 (serves-claims t) (serves-at t) serves.Post serves-Inv-loop serves-μ-loop
+serves-loop-again-2 t c = unserved-over (c .before .before .before .before .before .before .before .before .before .before .before .loop
+    .inv) (omega arith) (sym (c .before .before .before .before .before .before .before .before .next-in .ensures)
+    ∙ c .before .before .before .before .before .before .x .given .1) (sym (c .before .before .before .over .ensures .0)
+    ∙ c .if2 .left) (c .before .before .before .over .ensures .1)
 
--- src/search.rt:94:13
-serves-same-length : (t : ℕ) → serves-lts.Need-same-length (
-  next-in-reads.Asked,
-  next-in-reads.Learnt,
-  over-below t,
-  over.Post,
-) (serves-at t) serves.Post serves-Inv-loop serves-μ-loop
-serves-same-length t c = ?
+serves-returns-3 : (t : ℕ) → serves-lts.Need-returns-3 (serves-claims t) (serves-at t) serves.Post serves-Inv-loop serves-μ-loop
+serves-returns-3 t c = (sym (unserved (c .before .loop .inv) (c .before .before .if1 .left) (omega arith)), c .before .loop .inv .same)
 
--- src/search.rt:94:13
-serves-returns-2 : (t : ℕ) → serves-lts.Need-returns-2 (
-  next-in-reads.Asked,
-  next-in-reads.Learnt,
-  over-below t,
-  over.Post,
-) (serves-at t) serves.Post serves-Inv-loop serves-μ-loop
-serves-returns-2 t c = ?
+abbrev shoves-claims : ℕ → shoves-lts.Claims
+shoves-claims t = (with-ends-below t, with-ends.Post)
 
--- src/search.rt:89:9
-serves-add-d-2 : (t : ℕ) → serves-lts.Need-add-d-2 (
-  next-in-reads.Asked,
-  next-in-reads.Learnt,
-  over-below t,
-  over.Post,
-) (serves-at t) serves.Post serves-Inv-loop serves-μ-loop
-serves-add-d-2 t c = ?
+shoves-with-ends-requires : (t : ℕ) → shoves-lts.Need-with-ends-requires (shoves-claims t) (shoves-at t) shoves.Post
+shoves-with-ends-requires t c κs = let p = c .before .before .before .pre .1 in (omega arith, (p .0, blank, p .1, p .2, p .3, p .4))
 
--- src/search.rt:89:5
-serves-loop-less-2 : (t : ℕ) → serves-lts.Need-loop-less-2 (
-  next-in-reads.Asked,
-  next-in-reads.Learnt,
-  over-below t,
-  over.Post,
-) (serves-at t) serves.Post serves-Inv-loop serves-μ-loop
-serves-loop-less-2 t c = ?
+shoves-returns : (t : ℕ) → shoves-lts.Need-returns (shoves-claims t) (shoves-at t) shoves.Post
+shoves-returns t c = c .before .before .before .with-ends .ensures
 
--- src/search.rt:89:5
-serves-loop-again-2 : (t : ℕ) → serves-lts.Need-loop-again-2 (
-  next-in-reads.Asked,
-  next-in-reads.Learnt,
-  over-below t,
-  over.Post,
-) (serves-at t) serves.Post serves-Inv-loop serves-μ-loop
-serves-loop-again-2 t c = ?
+abbrev with-end-claims : ℕ → with-end-lts.Claims
+with-end-claims t = (shift-reads.Asked, shift-reads.Learnt, serves-below t, serves.Post)
 
--- src/search.rt:82:1
-serves-same-length-2 : (t : ℕ) → serves-lts.Need-same-length-2 (
-  next-in-reads.Asked,
-  next-in-reads.Learnt,
-  over-below t,
-  over.Post,
-) (serves-at t) serves.Post serves-Inv-loop serves-μ-loop
-serves-same-length-2 t c = ?
+with-end-shift-requires : (t : ℕ) → with-end-lts.Need-shift-requires (with-end-claims t) (with-end-at t) with-end.Post
+with-end-shift-requires t c κs = let p = c .before .before .before .before .pre .1 in (p .0, p .2, p .3)
 
--- src/search.rt:82:1
-serves-returns-3 : (t : ℕ) → serves-lts.Need-returns-3 (
-  next-in-reads.Asked,
-  next-in-reads.Learnt,
-  over-below t,
-  over.Post,
-) (serves-at t) serves.Post serves-Inv-loop serves-μ-loop
-serves-returns-3 t c = ?
+with-end-serves-requires : (t : ℕ) → with-end-lts.Need-serves-requires (with-end-claims t) (with-end-at t) with-end.Post
+with-end-serves-requires t c κs = let p = c .before .before .before .before .before .before .before .before .pre .1 in
+    (omega arith, (c .before .before .before .shift .kept .0 ∙ p .0, p .1, p .2, omega arith))
 
--- src/search.rt:63:22
-shoves-slice-aggregate-with-ends : (t : ℕ) → shoves-lts.Need-slice-aggregate-with-ends (
-  with-ends-below t,
-  with-ends.Post,
-) (shoves-at t) shoves.Post
-shoves-slice-aggregate-with-ends t c = ?
+with-end-slice-write-sheet : (t : ℕ) → with-end-lts.Need-slice-write-sheet (with-end-claims t) (with-end-at t) with-end.Post
+with-end-slice-write-sheet t c = omega (
+  arith,
+  c .before .before .before .before .before .before .before .before .before .before .before
+      .pre .1 .0,
+  c .before .before .before .before .before .before .shift .kept .0,
+  ap length (c .before .before .serves .ensures .1),
+)
 
--- src/search.rt:63:5
-shoves-with-ends-requires : (t : ℕ) → shoves-lts.Need-with-ends-requires (
-  with-ends-below t,
-  with-ends.Post,
-) (shoves-at t) shoves.Post
-shoves-with-ends-requires t c κs = ?
+with-end-slice-write-sheet-2 : (t : ℕ) → with-end-lts.Need-slice-write-sheet-2 (with-end-claims t) (with-end-at t) with-end.Post
+with-end-slice-write-sheet-2 t c = simp length-set (omega (
+  arith,
+  c .before .before .before .before .before .before .before .before .before .before .before .pre .1 .0,
+  c .before .before .before .before .before .before .shift .kept .0,
+  ap length (c .before .before .serves .ensures .1),
+))
 
--- src/search.rt:58:1
-shoves-same-length :
-    (t : ℕ) →
-    shoves-lts.Need-same-length (with-ends-below t, with-ends.Post) (shoves-at t) shoves.Post
-shoves-same-length t c = ?
+with-end-same-length : (t : ℕ) → with-end-lts.Need-same-length (with-end-claims t) (with-end-at t) with-end.Post
+with-end-same-length t c = ap length (put-back _ _ (c .before .before .before .before .before .before .shift .ensures)
+    (c .before .before .serves .ensures .1))
 
--- src/search.rt:58:1
-shoves-returns :
-    (t : ℕ) →
-    shoves-lts.Need-returns (with-ends-below t, with-ends.Post) (shoves-at t) shoves.Post
-shoves-returns t c = ?
-
--- src/search.rt:18:16
-with-end-slice-read-from : (t : ℕ) → with-end-lts.Need-slice-read-from (
-  shift-reads.Asked,
-  shift-reads.Learnt,
-  serves-below t,
-  serves.Post,
-) (with-end-at t) with-end.Post
-with-end-slice-read-from t c = ?
-
--- src/search.rt:19:14
-with-end-slice-read-to : (t : ℕ) → with-end-lts.Need-slice-read-to (
-  shift-reads.Asked,
-  shift-reads.Learnt,
-  serves-below t,
-  serves.Post,
-) (with-end-at t) with-end.Post
-with-end-slice-read-to t c = ?
-
--- src/search.rt:20:5
-with-end-shift-requires : (t : ℕ) → with-end-lts.Need-shift-requires (
-  shift-reads.Asked,
-  shift-reads.Learnt,
-  serves-below t,
-  serves.Post,
-) (with-end-at t) with-end.Post
-with-end-shift-requires t c κs = ?
-
--- src/search.rt:21:40
-with-end-add-serves : (t : ℕ) → with-end-lts.Need-add-serves (
-  shift-reads.Asked,
-  shift-reads.Learnt,
-  serves-below t,
-  serves.Post,
-) (with-end-at t) with-end.Post
-with-end-add-serves t c = ?
-
--- src/search.rt:21:9
-with-end-serves-requires : (t : ℕ) → with-end-lts.Need-serves-requires (
-  shift-reads.Asked,
-  shift-reads.Learnt,
-  serves-below t,
-  serves.Post,
-) (with-end-at t) with-end.Post
-with-end-serves-requires t c κs = ?
-
--- src/search.rt:22:5
-with-end-slice-write-sheet : (t : ℕ) → with-end-lts.Need-slice-write-sheet (
-  shift-reads.Asked,
-  shift-reads.Learnt,
-  serves-below t,
-  serves.Post,
-) (with-end-at t) with-end.Post
-with-end-slice-write-sheet t c = ?
-
--- src/search.rt:23:5
-with-end-slice-write-sheet-2 : (t : ℕ) → with-end-lts.Need-slice-write-sheet-2 (
-  shift-reads.Asked,
-  shift-reads.Learnt,
-  serves-below t,
-  serves.Post,
-) (with-end-at t) with-end.Post
-with-end-slice-write-sheet-2 t c = ?
-
--- src/search.rt:14:1
-with-end-same-length : (t : ℕ) → with-end-lts.Need-same-length (
-  shift-reads.Asked,
-  shift-reads.Learnt,
-  serves-below t,
-  serves.Post,
-) (with-end-at t) with-end.Post
-with-end-same-length t c = ?
-
--- src/search.rt:14:1
-with-end-returns : (t : ℕ) → with-end-lts.Need-returns (
-  shift-reads.Asked,
-  shift-reads.Learnt,
-  serves-below t,
-  serves.Post,
-) (with-end-at t) with-end.Post
-with-end-returns t c = ?
+with-end-returns : (t : ℕ) → with-end-lts.Need-returns (with-end-claims t) (with-end-at t) with-end.Post
+with-end-returns t c = (
+  c .before .before .serves .ensures .0 ∙ rw (c .before .before .before .before .before .before .shift .ensures),
+  put-back _ _ (c .before .before .before .before .before .before .shift .ensures) (c .before .before .serves .ensures .1),
+)
 
 abbrev with-ends-Inv-loop : with-ends-lts.InvT-loop
-with-ends-Inv-loop sheet₀ ends home k i a x y₀ sheet y = ?
+with-ends-Inv-loop sheet₀ ends home k i a x y₀ sheet y = Unended home sheet₀ ends k i a x sheet y
 
 abbrev with-ends-μ-loop : with-ends-lts.MeasureT-loop
-with-ends-μ-loop sheet₀ ends home k i a x y₀ sheet y = ?
+with-ends-μ-loop sheet₀ ends home k i a x y₀ sheet y = 182 - y
 
--- src/search.rt:45:5
-with-ends-gather-requires : (t : ℕ) → with-ends-lts.Need-gather-requires (
-  gather-reads.Asked,
-  gather-reads.Learnt,
-  ends-in-reads.Asked,
-  ends-in-reads.Learnt,
-  with-end-below t,
-  with-end.Post,
-) (with-ends-at t) with-ends.Post with-ends-Inv-loop with-ends-μ-loop
-with-ends-gather-requires t c κs = ?
+abbrev with-ends-claims : ℕ → with-ends-lts.Claims
+with-ends-claims t = (gather-reads.Asked, gather-reads.Learnt, ends-in-reads.Asked, ends-in-reads.Learnt, with-end-below t, with-end.Post)
 
--- src/search.rt:46:5
-with-ends-loop-holds : (t : ℕ) → with-ends-lts.Need-loop-holds (
-  gather-reads.Asked,
-  gather-reads.Learnt,
-  ends-in-reads.Asked,
-  ends-in-reads.Learnt,
-  with-end-below t,
-  with-end.Post,
-) (with-ends-at t) with-ends.Post with-ends-Inv-loop with-ends-μ-loop
-with-ends-loop-holds t c = ?
+with-ends-gather-requires : (t : ℕ) → with-ends-lts.Need-gather-requires (with-ends-claims t)
+    (with-ends-at t) with-ends.Post with-ends-Inv-loop with-ends-μ-loop
+with-ends-gather-requires t c κs = let p = c .before .before .before .before .pre .1 in
+    (p .0, p .1 .long, p .4, omega arith, own-ok _ refl refl, close-self _ (p .4))
 
--- src/search.rt:47:13
-with-ends-ends-in-requires : (t : ℕ) → with-ends-lts.Need-ends-in-requires (
-  gather-reads.Asked,
-  gather-reads.Learnt,
-  ends-in-reads.Asked,
-  ends-in-reads.Learnt,
-  with-end-below t,
-  with-end.Post,
-) (with-ends-at t) with-ends.Post with-ends-Inv-loop with-ends-μ-loop
-with-ends-ends-in-requires t c κs = ?
+with-ends-loop-holds : (t : ℕ) → with-ends-lts.Need-loop-holds (with-ends-claims t)
+    (with-ends-at t) with-ends.Post with-ends-Inv-loop with-ends-μ-loop
+with-ends-loop-holds t c = let p = c .before .before .before .before .before .before .before .pre .1 in
+    record {
+      same = refl;
+      long = p .0;
+      inside = p .4;
+      told = gathered _ _ (p .0) (p .3) refl refl (c .before .before .gather .ensures)
+          (p .1) (p .4);
+      most = omega arith;
+      none = any-zero _;
+    }
 
--- src/search.rt:48:13
-with-ends-add-y : (t : ℕ) → with-ends-lts.Need-add-y (
-  gather-reads.Asked,
-  gather-reads.Learnt,
-  ends-in-reads.Asked,
-  ends-in-reads.Learnt,
-  with-end-below t,
-  with-end.Post,
-) (with-ends-at t) with-ends.Post with-ends-Inv-loop with-ends-μ-loop
-with-ends-add-y t c = ?
+with-ends-ends-in-requires : (t : ℕ) → with-ends-lts.Need-ends-in-requires (with-ends-claims t)
+    (with-ends-at t) with-ends.Post with-ends-Inv-loop with-ends-μ-loop
+with-ends-ends-in-requires t c κs = (
+  c .before .before .before .before .before .gather .kept .1 .0
+      ∙ c .before .before .before .before .before .before .before .before .before .before .pre .1 .1 .long,
+  c .before .before .before .before .before .before .before .before .before .before .pre .1 .4,
+  omega arith,
+)
 
--- src/search.rt:46:5
-with-ends-loop-less : (t : ℕ) → with-ends-lts.Need-loop-less (
-  gather-reads.Asked,
-  gather-reads.Learnt,
-  ends-in-reads.Asked,
-  ends-in-reads.Learnt,
-  with-end-below t,
-  with-end.Post,
-) (with-ends-at t) with-ends.Post with-ends-Inv-loop with-ends-μ-loop
-with-ends-loop-less t c = ?
+with-ends-loop-again : (t : ℕ) → with-ends-lts.Need-loop-again (with-ends-claims t)
+    (with-ends-at t) with-ends.Post with-ends-Inv-loop with-ends-μ-loop
+with-ends-loop-again t c = unended-not (c .before .before .before .before .loop .inv) (omega arith) (sym (c .before .ends-in .ensures)
+    ∙ not-true _ (c .if1 .taken))
 
--- src/search.rt:46:5
-with-ends-loop-again : (t : ℕ) → with-ends-lts.Need-loop-again (
-  gather-reads.Asked,
-  gather-reads.Learnt,
-  ends-in-reads.Asked,
-  ends-in-reads.Learnt,
-  with-end-below t,
-  with-end.Post,
-) (with-ends-at t) with-ends.Post with-ends-Inv-loop with-ends-μ-loop
-with-ends-loop-again t c = ?
+with-ends-with-end-requires : (t : ℕ) → with-ends-lts.Need-with-end-requires (with-ends-claims t)
+    (with-ends-at t) with-ends.Post with-ends-Inv-loop with-ends-μ-loop
+with-ends-with-end-requires t c κs = let p = c .before .before .before .before .before .before .before .before .before .before .before
+    .before .before .pre .1 in (
+      omega arith,
+      (
+        ap length (c .before .before .before .before .before .loop .inv .same) ∙ p .0,
+        p .2,
+        p .4,
+        omega arith,
+        p .5,
+      ),
+    )
 
--- src/search.rt:50:12
-with-ends-with-end-requires : (t : ℕ) → with-ends-lts.Need-with-end-requires (
-  gather-reads.Asked,
-  gather-reads.Learnt,
-  ends-in-reads.Asked,
-  ends-in-reads.Learnt,
-  with-end-below t,
-  with-end.Post,
-) (with-ends-at t) with-ends.Post with-ends-Inv-loop with-ends-μ-loop
-with-ends-with-end-requires t c κs = ?
+with-ends-same-length : (t : ℕ) → with-ends-lts.Need-same-length (with-ends-claims t)
+    (with-ends-at t) with-ends.Post with-ends-Inv-loop with-ends-μ-loop
+with-ends-same-length t c = ap length (c .before .before .before .with-end .ensures .1
+    ∙ c .before .before .before .before .before .before .before .before .before .loop .inv .same)
 
--- src/search.rt:51:13
-with-ends-same-length : (t : ℕ) → with-ends-lts.Need-same-length (
-  gather-reads.Asked,
-  gather-reads.Learnt,
-  ends-in-reads.Asked,
-  ends-in-reads.Learnt,
-  with-end-below t,
-  with-end.Post,
-) (with-ends-at t) with-ends.Post with-ends-Inv-loop with-ends-μ-loop
-with-ends-same-length t c = ?
+with-ends-same-length-2 : (t : ℕ) → with-ends-lts.Need-same-length-2 (with-ends-claims t)
+    (with-ends-at t) with-ends.Post with-ends-Inv-loop with-ends-μ-loop
+with-ends-same-length-2 t c = c .before .before .before .before .before .before .before .before .before .before .before .before .gather
+    .kept .1 .0
 
--- src/search.rt:51:13
-with-ends-same-length-2 : (t : ℕ) → with-ends-lts.Need-same-length-2 (
-  gather-reads.Asked,
-  gather-reads.Learnt,
-  ends-in-reads.Asked,
-  ends-in-reads.Learnt,
-  with-end-below t,
-  with-end.Post,
-) (with-ends-at t) with-ends.Post with-ends-Inv-loop with-ends-μ-loop
-with-ends-same-length-2 t c = ?
+with-ends-returns : (t : ℕ) → with-ends-lts.Need-returns (with-ends-claims t)
+    (with-ends-at t) with-ends.Post with-ends-Inv-loop with-ends-μ-loop
+with-ends-returns t c = (
+  sym (shoved (c .before .before .before .before .before .before .before .before .before .loop .inv) (omega arith)
+      (sym (c .before .before .before .before .before .before .ends-in .ensures)
+      ∙ not-false _ (c .before .before .before .before .before .if1 .left)) (sym (c .before .before .before .with-end .ensures .0)
+      ∙ c .if2 .taken)),
+  c .before .before .before .with-end .ensures .1
+      ∙ c .before .before .before .before .before .before .before .before .before .loop .inv .same,
+)
 
--- src/search.rt:51:13
-with-ends-returns : (t : ℕ) → with-ends-lts.Need-returns (
-  gather-reads.Asked,
-  gather-reads.Learnt,
-  ends-in-reads.Asked,
-  ends-in-reads.Learnt,
-  with-end-below t,
-  with-end.Post,
-) (with-ends-at t) with-ends.Post with-ends-Inv-loop with-ends-μ-loop
-with-ends-returns t c = ?
+with-ends-loop-again-2 : (t : ℕ) → with-ends-lts.Need-loop-again-2 (with-ends-claims t)
+    (with-ends-at t) with-ends.Post with-ends-Inv-loop with-ends-μ-loop
+with-ends-loop-again-2 t c = unended-with (c .before .before .before .before .before .before .before .before .before .loop .inv)
+    (omega arith) (sym (c .before .before .before .before .before .before .ends-in .ensures)
+    ∙ not-false _ (c .before .before .before .before .before .if1 .left)) (sym (c .before .before .before .with-end .ensures .0)
+    ∙ c .if2 .left) (c .before .before .before .with-end .ensures .1)
 
--- src/search.rt:46:9
-with-ends-add-y-2 : (t : ℕ) → with-ends-lts.Need-add-y-2 (
-  gather-reads.Asked,
-  gather-reads.Learnt,
-  ends-in-reads.Asked,
-  ends-in-reads.Learnt,
-  with-end-below t,
-  with-end.Post,
-) (with-ends-at t) with-ends.Post with-ends-Inv-loop with-ends-μ-loop
-with-ends-add-y-2 t c = ?
+with-ends-same-length-3 : (t : ℕ) → with-ends-lts.Need-same-length-3 (with-ends-claims t)
+    (with-ends-at t) with-ends.Post with-ends-Inv-loop with-ends-μ-loop
+with-ends-same-length-3 t c = ap length (c .before .loop .inv .same)
 
--- src/search.rt:46:5
-with-ends-loop-less-2 : (t : ℕ) → with-ends-lts.Need-loop-less-2 (
-  gather-reads.Asked,
-  gather-reads.Learnt,
-  ends-in-reads.Asked,
-  ends-in-reads.Learnt,
-  with-end-below t,
-  with-end.Post,
-) (with-ends-at t) with-ends.Post with-ends-Inv-loop with-ends-μ-loop
-with-ends-loop-less-2 t c = ?
+with-ends-same-length-4 : (t : ℕ) → with-ends-lts.Need-same-length-4 (with-ends-claims t)
+    (with-ends-at t) with-ends.Post with-ends-Inv-loop with-ends-μ-loop
+with-ends-same-length-4 t c = c .before .before .before .before .gather .kept .1 .0
 
--- src/search.rt:46:5
-with-ends-loop-again-2 : (t : ℕ) → with-ends-lts.Need-loop-again-2 (
-  gather-reads.Asked,
-  gather-reads.Learnt,
-  ends-in-reads.Asked,
-  ends-in-reads.Learnt,
-  with-end-below t,
-  with-end.Post,
-) (with-ends-at t) with-ends.Post with-ends-Inv-loop with-ends-μ-loop
-with-ends-loop-again-2 t c = ?
-
--- src/search.rt:28:1
-with-ends-same-length-3 : (t : ℕ) → with-ends-lts.Need-same-length-3 (
-  gather-reads.Asked,
-  gather-reads.Learnt,
-  ends-in-reads.Asked,
-  ends-in-reads.Learnt,
-  with-end-below t,
-  with-end.Post,
-) (with-ends-at t) with-ends.Post with-ends-Inv-loop with-ends-μ-loop
-with-ends-same-length-3 t c = ?
-
--- src/search.rt:28:1
-with-ends-same-length-4 : (t : ℕ) → with-ends-lts.Need-same-length-4 (
-  gather-reads.Asked,
-  gather-reads.Learnt,
-  ends-in-reads.Asked,
-  ends-in-reads.Learnt,
-  with-end-below t,
-  with-end.Post,
-) (with-ends-at t) with-ends.Post with-ends-Inv-loop with-ends-μ-loop
-with-ends-same-length-4 t c = ?
-
--- src/search.rt:28:1
-with-ends-returns-2 : (t : ℕ) → with-ends-lts.Need-returns-2 (
-  gather-reads.Asked,
-  gather-reads.Learnt,
-  ends-in-reads.Asked,
-  ends-in-reads.Learnt,
-  with-end-below t,
-  with-end.Post,
-) (with-ends-at t) with-ends.Post with-ends-Inv-loop with-ends-μ-loop
-with-ends-returns-2 t c = ?
+with-ends-returns-2 : (t : ℕ) → with-ends-lts.Need-returns-2 (with-ends-claims t)
+    (with-ends-at t) with-ends.Post with-ends-Inv-loop with-ends-μ-loop
+with-ends-returns-2 t c = (sym (unended (c .before .loop .inv) (omega arith)), c .before .loop .inv .same)
 
 pub +over+serves+shoves+with-end+with-ends-spec : {M : Type 1} → statement M
 +over+serves+shoves+with-end+with-ends-spec =
-    close μ-over μ-serves μ-shoves μ-with-end μ-with-ends (λ t. over-lts.spec (
-      distance-reads.Asked,
-      distance-reads.Learnt,
-      stand-in-reads.Asked,
-      stand-in-reads.Learnt,
-      serves-below t,
-      serves.Post,
-      shoves-below t,
-      shoves.Post,
-    )
-    (over-at t)
-    over.Post
-    (over-distance-requires t)
-    (over-add-if1 t)
-    (over-returns t)
-    (over-stand-in-requires t)
-    (over-enum-told t)
-    (over-enum-told-2 t)
-    (over-add-serves t)
-    (over-serves-requires t)
-    (over-enum-told-3 t)
-    (over-shoves-requires t)
-    (over-same-length t)
-    (over-returns-2 t)
-    (over-same-length-2 t)
-    (over-returns-3 t)
-    (over-same-length-3 t)
+    close μ-over μ-serves μ-shoves μ-with-end μ-with-ends
+    (λ t. over-lts.spec (over-claims t) (over-at t) over.Post (over-distance-requires t) (λ c. omega arith) (over-returns t)
+    (over-stand-in-requires t) (λ c. search needs) (λ c. search needs) (λ c. omega arith) (over-serves-requires t) (λ c. search needs)
+    (over-shoves-requires t) (λ c. search needs) (over-returns-2 t) (λ c. search needs) (over-returns-3 t) (λ c. search needs)
     (over-returns-4 t))
-    (λ t. serves-lts.spec
-    (next-in-reads.Asked, next-in-reads.Learnt, over-below t, over.Post)
-    (serves-at t)
-    serves.Post
-    serves-Inv-loop
-    serves-μ-loop
-    (serves-returns t)
-    (serves-loop-holds t)
-    (serves-next-in-requires t)
-    (serves-enum-known-x t)
-    (serves-enum-told t)
-    (serves-add-d t)
-    (serves-loop-less t)
-    (serves-loop-again t)
-    (serves-sub-over t)
-    (serves-over-requires t)
-    (serves-same-length t)
-    (serves-returns-2 t)
-    (serves-add-d-2 t)
-    (serves-loop-less-2 t)
-    (serves-loop-again-2 t)
-    (serves-same-length-2 t)
-    (serves-returns-3 t))
-    (λ t. shoves-lts.spec
-    (with-ends-below t, with-ends.Post)
-    (shoves-at t)
-    shoves.Post
-    (shoves-slice-aggregate-with-ends t)
-    (shoves-with-ends-requires t)
-    (shoves-same-length t)
-    (shoves-returns t))
-    (λ t. with-end-lts.spec
-    (shift-reads.Asked, shift-reads.Learnt, serves-below t, serves.Post)
-    (with-end-at t)
-    with-end.Post
-    (with-end-slice-read-from t)
-    (with-end-slice-read-to t)
-    (with-end-shift-requires t)
-    (with-end-add-serves t)
-    (with-end-serves-requires t)
-    (with-end-slice-write-sheet t)
-    (with-end-slice-write-sheet-2 t)
-    (with-end-same-length t)
-    (with-end-returns t))
-    λ t. with-ends-lts.spec (
-      gather-reads.Asked,
-      gather-reads.Learnt,
-      ends-in-reads.Asked,
-      ends-in-reads.Learnt,
-      with-end-below t,
-      with-end.Post,
-    )
-    (with-ends-at t)
-    with-ends.Post
-    with-ends-Inv-loop
-    with-ends-μ-loop
-    (with-ends-gather-requires t)
-    (with-ends-loop-holds t)
-    (with-ends-ends-in-requires t)
-    (with-ends-add-y t)
-    (with-ends-loop-less t)
-    (with-ends-loop-again t)
-    (with-ends-with-end-requires t)
-    (with-ends-same-length t)
-    (with-ends-same-length-2 t)
-    (with-ends-returns t)
-    (with-ends-add-y-2 t)
-    (with-ends-loop-less-2 t)
-    (with-ends-loop-again-2 t)
-    (with-ends-same-length-3 t)
-    (with-ends-same-length-4 t)
-    (with-ends-returns-2 t)
+    (λ t. serves-lts.spec (serves-claims t) (serves-at t) serves.Post serves-Inv-loop serves-μ-loop (serves-returns t)
+    (serves-loop-holds t) (serves-next-in-requires t) (λ c. search needs) (λ c. search needs) (λ c. omega arith) (λ c. omega arith)
+    (serves-loop-again t) (serves-sub-over t) (serves-over-requires t) (serves-same-length t) (serves-returns-2 t) (λ c. omega arith)
+    (λ c. omega arith) (serves-loop-again-2 t) (λ c. search needs) (serves-returns-3 t))
+    (λ t. shoves-lts.spec (shoves-claims t) (shoves-at t) shoves.Post (λ c. search needs) (shoves-with-ends-requires t)
+    (λ c. search needs) (shoves-returns t))
+    (λ t. with-end-lts.spec (with-end-claims t) (with-end-at t) with-end.Post (λ c. omega arith) (λ c. omega arith)
+    (with-end-shift-requires t) (λ c. omega arith) (with-end-serves-requires t) (with-end-slice-write-sheet t)
+    (with-end-slice-write-sheet-2 t) (with-end-same-length t) (with-end-returns t))
+    (λ t. with-ends-lts.spec (with-ends-claims t) (with-ends-at t) with-ends.Post with-ends-Inv-loop with-ends-μ-loop
+    (with-ends-gather-requires t) (with-ends-loop-holds t) (with-ends-ends-in-requires t) (λ c. omega arith) (λ c. omega arith)
+    (with-ends-loop-again t) (with-ends-with-end-requires t) (with-ends-same-length t) (with-ends-same-length-2 t) (with-ends-returns t)
+    (λ c. omega arith) (λ c. omega arith) (with-ends-loop-again-2 t) (with-ends-same-length-3 t) (with-ends-same-length-4 t)
+    (with-ends-returns-2 t))

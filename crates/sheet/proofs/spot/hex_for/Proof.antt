@@ -1,65 +1,89 @@
+-- `sheet::spot::hex_for` meets its contract, edge by edge.
+-- Assumes nothing.
+use Prim.Native.Nat.{ℕ, _+_, _-_, _*_, _/_, _%_}
+use mathlib.Core.Path.{sym, ap, _∙_}
+use native.Mathlib.Omega.{arith}
+use Rattle.grid.specs.declared.Beside.the-variants.{At}
+use Rattle.grid.proofs.Arith.{small, column, row}
+use Rattle.sheet.proofs.Places.{hex-west, hex-east, hex-north, hex-south, hex-there}
 use borrow.Author.Needs.{needs}
 use Rattle.sheet.proofs.spot.hex_for.Statement.{statement}
 use Rattle.sheet.proofs.spot.hex_for.Tie as tie
-use Rattle.sheet.proofs.spot.hex_for.Reads as reads
-use Rattle.sheet.proofs.spot.hex_for.Lts as lts
-use Rattle.sheet.proofs.spot.home_column.Reads as home-column-reads
 
--- src/spot.rt:61:36
 rem-column : tie.Need-rem-column
 rem-column c = search needs
 
--- src/spot.rt:61:18
 add-column : tie.Need-add-column
-add-column c = ?
+add-column c = let o = c .pre .0 in omega (arith, column o, o .wide64)
 
--- src/spot.rt:62:33
 div-row : tie.Need-div-row
 div-row c = search needs
 
--- src/spot.rt:62:15
 add-row : tie.Need-add-row
-add-row c = ?
+add-row c = let o = c .pre .0 in omega (arith, row o, o .high64)
 
--- src/spot.rt:63:9
 home-column-requires : tie.Need-home-column-requires
 home-column-requires c κs = search needs
 
--- src/spot.rt:65:9
 returns : tie.Need-returns
-returns c = ?
+returns c =
+    let a = c .before .before .args in
+    let k = c .before .home-column .ensures .0 in
+    sym (hex-west (a .w) (a .h) (a .start) (a .i) (omega (arith, k, c .if1 .taken)))
 
--- src/spot.rt:67:8
 add-if2 : tie.Need-add-if2
 add-if2 c = search needs
 
--- src/spot.rt:68:9
 returns-2 : tie.Need-returns-2
-returns-2 c = ?
+returns-2 c =
+    let a = c .before .before .before .args in
+    let k = c .before .before .home-column .ensures .0 in
+    sym (hex-east (a .w) (a .h) (a .start) (a .i) (omega (arith, k, c .before .if1 .left)) (omega (arith, k, c .if2 .taken)))
 
--- src/spot.rt:71:9
 returns-3 : tie.Need-returns-3
-returns-3 c = ?
+returns-3 c =
+    let a = c .before .before .before .before .args in
+    let k = c .before .before .before .home-column .ensures .0 in
+    sym
+    (hex-north (a .w) (a .h) (a .start) (a .i) (omega (arith, k, c .before .before .if1 .left)) (omega (arith, k, c .before .if2 .left))
+    (c .if3 .taken))
 
--- src/spot.rt:73:8
 add-if4 : tie.Need-add-if4
 add-if4 c = search needs
 
--- src/spot.rt:74:9
 returns-4 : tie.Need-returns-4
-returns-4 c = ?
+returns-4 c =
+    let a = c .before .before .before .before .before .args in
+    let k = c .before .before .before .before .home-column .ensures .0 in
+    sym
+    (hex-south (a .w) (a .h) (a .start) (a .i) (omega (arith, k, c .before .before .before .if1 .left))
+    (omega (arith, k, c .before .before .if2 .left)) (c .before .if3 .left) (c .if4 .taken))
 
--- src/spot.rt:76:16
 mul-t9 : tie.Need-mul-t9
-mul-t9 c = ?
+mul-t9 c =
+    let a = c .before .before .before .before .before .args in
+    let o = c .before .before .before .before .before .pre .0 in
+    omega (arith, small {a = a .i / 14 + a .start / a .w - 6} {b = a .w} (omega (arith, c .if4 .left, o .high64)) (o .wide64))
 
--- src/spot.rt:76:16
 add-t12 : tie.Need-add-t12
-add-t12 c = ?
+add-t12 c =
+    let a = c .before .before .before .before .before .args in
+    let o = c .before .before .before .before .before .pre .0 in
+    omega (
+      arith,
+      small {a = a .i / 14 + a .start / a .w - 6} {b = a .w} (omega (arith, c .if4 .left, o .high64)) (o .wide64),
+      c .before .before .if2 .left,
+      o .wide64,
+    )
 
--- src/spot.rt:57:1
 returns-5 : tie.Need-returns-5
-returns-5 c = ?
+returns-5 c =
+    let a = c .before .before .before .before .before .args in
+    let k = c .before .before .before .before .home-column .ensures .0 in
+    ap (λ (n : ℕ). At ((a .i / 14 + a .start / a .w - 6) * a .w + (a .i % 14 + a .start % a .w - n))) k
+    ∙ sym
+    (hex-there (a .w) (a .h) (a .start) (a .i) (omega (arith, k, c .before .before .before .if1 .left))
+    (omega (arith, k, c .before .before .if2 .left)) (c .before .if3 .left) (c .if4 .left))
 
 pub hex-for-spec : {M : Type 1} → statement M
 hex-for-spec =
