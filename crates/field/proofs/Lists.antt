@@ -3,7 +3,7 @@
 use Prim.Native.Nat.{_+_, _<_, _≤_, suc, zero, ℕ}
 use mathlib.Core.Bool.{Bool, and-false, cond, false, or-false, or-true, true}
 use mathlib.Core.List.{List, [], _++_, _∷_, append-nil, map}
-use mathlib.Core.Path.{_∙_, _≡_, ap, ap₂, refl}
+use mathlib.Core.Path.{_∙_, _≡_, ap, ap₂, refl, subst}
 use native.Mathlib.Numerals.{add-one}
 use native.Mathlib.Omega.{arith}
 use borrow.Author.Count.{below-more}
@@ -14,10 +14,10 @@ use lib.Seq.{getD-append-seam, getD-take, length-take-le, take-suc}
 use Rattle.position.proofs.Tallies.{either, neither, same-or}
 use Rattle.position.specs.Board.{Board, board}
 use Rattle.position.specs.Tally.{tally}
-use Rattle.ruling.proofs.Going.{Gone, gone-more}
+use Rattle.ruling.proofs.Going.{Gone, GoneFrom, gone-end, gone-more, gone-none, gone-stop}
 use Rattle.ruling.proofs.Meets.{pass, stop}
 use Rattle.ruling.specs.Judged.{Passes, Stops}
-use Rattle.field.specs.Listed.{listLength, named, noUnit, offMap, sieve}
+use Rattle.field.specs.Listed.{Charted, listLength, named, noUnit, offMap, onMapFrom, sieve}
 
 module _ (units : List ℕ) where
   pub list-short : length units < 1 → listLength units ≡ false
@@ -134,18 +134,41 @@ module _ (p : List ℕ) (b : Board) (s x k : ℕ) where
   unfolding offMap
   off-map m l v = stop (le-leb (b .map .hexes) x m)
 
--- refusal 3 along the path, passed up to place i
-pub record OnMap (p path : List ℕ) (i : ℕ) : Type 0 where
-  pub gone : Gone p (offMap (board p)) (λ s x. s) 0 path i 0
+-- refusal 3 along the path, whose places are counted from k on, passed before element i
+pub record OnMap (k : ℕ) (p path : List ℕ) (i : ℕ) : Type 0 where
+  pub gone : GoneFrom k p (offMap (board p)) (λ s x. s) 0 path i 0
   pub charted : (j : ℕ) → j < i → getD path j 0 < board p .map .hexes
 
+pub map-none : {k : ℕ} {p path : List ℕ} → OnMap k p path 0
+map-none = record { gone = gone-none; charted = λ j l. absurd (omega arith) }
+
 pub map-more :
-    {p path : List ℕ} {i : ℕ} → OnMap p path i → i < length path → getD path i 0 < board p .map .hexes → OnMap p path (i + 1)
-map-more {p} {path} {i} o l t =
+    {k : ℕ} {p path : List ℕ} {i : ℕ} → OnMap k p path i → i < length path → getD path i 0 < board p .map .hexes
+    → OnMap k p path (i + 1)
+map-more {k} {p} {path} {i} o l t =
     record {
-      gone = gone-more (o .gone) l (on-map p (board p) 0 (getD path i 0) (i + 1) t);
+      gone = gone-more (o .gone) l (on-map p (board p) 0 (getD path i 0) (i + k) t);
       charted = below-more (λ j. getD path j 0 < board p .map .hexes) i (o .charted) t;
     }
+
+-- at a number that is no hex, and past the last
+module _ {k : ℕ} {p path : List ℕ} {i : ℕ} (o : OnMap k p path i) where
+  pub map-stop : i < length path → board p .map .hexes ≤ getD path i 0 → Stops p (onMapFrom (board p) path k) 3 (i + k)
+  unfolding onMapFrom
+  map-stop l t v = λ w. gone-stop (o .gone) l (off-map p (board p) 0 (getD path i 0) (i + k) t) v (λ s. w)
+
+  pub map-end : length path ≤ i → Passes p (onMapFrom (board p) path k)
+  unfolding onMapFrom
+  map-end m l v a q r w = gone-end (o .gone) m l (λ s. v) a q r w
+
+-- a list of hexes of the map passes
+map-reaches : (k : ℕ) (p path : List ℕ) → Charted (board p) path → (i : ℕ) → i ≤ length path → OnMap k p path i
+map-reaches k p path c zero l = map-none
+map-reaches k p path c (suc i) l =
+    subst (OnMap k p path) (add-one i) (map-more (map-reaches k p path c i (omega arith)) (omega arith) (c i (omega arith)))
+
+pub map-all : (k : ℕ) (p path : List ℕ) → Charted (board p) path → Passes p (onMapFrom (board p) path k)
+map-all k p path c = map-end (map-reaches k p path c (length path) (omega arith)) (omega arith)
 
 -- the numbers that pass, of one number more
 module _ (t : ℕ → Bool) where

@@ -31,7 +31,7 @@ pub fn on_map_from(p: &[u8], v: View, path: &[u16], k: usize) -> Tested
     let hexes = v.hexes;
     for i in 0..path.len() {
         if hexes <= path[i] as usize {
-            return Tested::Stopped(3, k + i);
+            return Tested::Stopped(3, i + k);
         }
     }
     Tested::Passed

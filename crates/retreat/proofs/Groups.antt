@@ -1,11 +1,11 @@
 -- Laws of the questions of a retreat: each test by its cases, and the first of the group.
 -- Assumes nothing.
-use Prim.Native.Nat.{_<_, _≤_, suc, zero, ℕ}
+use Prim.Native.Nat.{_+_, _<_, _≤_, suc, zero, ℕ}
 use mathlib.Core.Bool.{Bool, cond, false, not, true}
 use mathlib.Core.List.{List, [], _∷_}
 use mathlib.Core.Path.{_∙_, _≡_, ap, ap₂, refl, sym}
 use native.Mathlib.Omega.{arith}
-use borrow.Author.Tests.{eq-eqb, le-leb, le-ltb, lt-leb, lt-ltb, ne-eqb, not-false}
+use borrow.Author.Tests.{eq-eqb, le-leb, le-ltb, lt-leb, lt-ltb, ne-eqb}
 use lib.Dec.{eqb, leb, ltb}
 use lib.ListN.{List·getD-append, getD, length}
 use Rattle.position.proofs.Tallies.{neither, same-or, tally-pos}
@@ -21,22 +21,17 @@ use Rattle.ruling.specs.Judged.{Passes, Stops}
 use Rattle.ruling.specs.Verdict.{Met, Ruling, Verdict}
 use Rattle.ruling.specs.Verdict.Verdict.{refuseIf}
 use Rattle.field.proofs.Lists.{sieve-long}
-use Rattle.field.specs.Listed.{onMapAll, sieve}
+use Rattle.field.specs.Listed.{onMapAll, onMapFrom, sieve}
 use Rattle.routes.specs.Legal.{legal}
 use Rattle.routes.specs.Search.{firstRoute, found}
 use Rattle.routes.specs.declared.Found.{Found}
-use Rattle.retreat.specs.Retreat.{Owing, doomed, group, groupChecks, groupForce, notLegal, walksFrom}
+use Rattle.pushes.specs.Pushes.{served}
+use Rattle.pushes.specs.declared.Served.{Served}
+use Rattle.shoves.specs.Group.{group, groupForce}
+use Rattle.retreat.specs.Retreat.{Owing, groupChecks, hasRoute, walksFrom}
 
 -- each test by its cases
 module _ (b : Board) (h u : ℕ) where
-  pub owes-not : (b .units .role u ≡ 1 → ⊥) → owesAt b h u ≡ false
-  unfolding owesAt
-  owes-not n = simp (ne-eqb (b .units .role u) 1 n)
-
-  pub owes-where : b .units .role u ≡ 1 → owesAt b h u ≡ eqb (b .units .hex u) h
-  unfolding owesAt
-  owes-where e = simp (eq-eqb (b .units .role u) 1 e)
-
   pub walks-not : owesAt b h u ≡ false → walksFrom b h u ≡ false
   unfolding walksFrom
   walks-not e = simp e
@@ -44,32 +39,6 @@ module _ (b : Board) (h u : ℕ) where
   pub walks-kind : owesAt b h u ≡ true → walksFrom b h u ≡ not (eqb (b .units .kind u) 5)
   unfolding walksFrom
   walks-kind e = simp e
-
-module _ (b : Board) (h : ℕ) where
-  pub doomed-supply : any (walksFrom b h) (b .units .count) ≡ false → doomed b h ≡ true
-  unfolding doomed
-  doomed-supply e = simp e
-
-  pub doomed-route :
-      any (walksFrom b h) (b .units .count) ≡ true → doomed b h ≡ not (found (firstRoute b (groupForce b h) h (b .desk .owed)))
-  unfolding doomed
-  doomed-route e = simp e
-
-  -- a group that is not destroyed has a route
-  pub spared-route : doomed b h ≡ false → found (firstRoute b (groupForce b h) h (b .desk .owed)) ≡ true
-  unfolding doomed
-  spared-route e =
-      let t = found (firstRoute b (groupForce b h) h (b .desk .owed)) in
-      not-false t (neither (not (any (walksFrom b h) (b .units .count))) (not t) e .1)
-
-  module _ (route : List ℕ) where
-    pub any-route : doomed b h ≡ true → notLegal b h route ≡ false
-    unfolding notLegal
-    any-route e = simp e
-
-    pub this-route : doomed b h ≡ false → notLegal b h route ≡ not (legal b (groupForce b h) h (b .desk .owed) route)
-    unfolding notLegal
-    this-route e = simp e
 
 -- the first number that passes
 module _ (t : ℕ → Bool) where
@@ -105,7 +74,8 @@ module _ (b : Board) (h : ℕ) where
 -- what is found, of the numbers as they were read
 pub found-as :
     (b : Board) (h : ℕ) {f n : ℕ} {y : Found} {t : Bool} → f ≡ groupForce b h → n ≡ b .desk .owed → y ≡ firstRoute b f h n → found y ≡ t
-    → t ≡ found (firstRoute b (groupForce b h) h (b .desk .owed))
+    → t ≡ hasRoute b h
+unfolding hasRoute
 found-as b h ef en ey et = sym et ∙ ap found ey ∙ ap₂ (λ (f n : ℕ). found (firstRoute b f h n)) ef en
 
 -- and whether a route is legal, of them
@@ -114,37 +84,58 @@ pub legal-as :
     → t ≡ legal b (groupForce b h) h (b .desk .owed) route
 legal-as b h route ef en et = et ∙ ap₂ (λ (f n : ℕ). legal b f h n route) ef en
 
+-- and what comes of pushes, of them
+pub served-as :
+    (b : Board) (h : ℕ) (route pushes : List ℕ) {f n : ℕ} {y : Served} → f ≡ groupForce b h → n ≡ b .desk .owed
+    → y ≡ served b f h n route pushes → y ≡ served b (groupForce b h) h (b .desk .owed) route pushes
+served-as b h route pushes ef en ey = ey ∙ ap₂ (λ (f n : ℕ). served b f h n route pushes) ef en
+
 -- the questions of the group, in their order
-module _ (p : List ℕ) (b : Board) (h : ℕ) (route : List ℕ) where
-  pub stops-long : 3 < length route → Stops p (groupChecks b h route) 3 0
+module _ (p : List ℕ) (b : Board) (h : ℕ) (route pushes : List ℕ) where
+  pub stops-long : 3 < length route → Stops p (groupChecks b h route pushes) 3 0
   stops-long m l v = stop (lt-ltb 3 (length route) m)
 
   module _ (m : length route ≤ 3) where
-    pub stops-hex : b .map .hexes ≤ h → Stops p (groupChecks b h route) 3 0
-    stops-hex k l v = pass (le-ltb 3 (length route) m) (stop (le-leb (b .map .hexes) h k))
+    pub stops-many : 9 < length pushes → Stops p (groupChecks b h route pushes) 3 0
+    stops-many n l v = pass (le-ltb 3 (length route) m) (stop (lt-ltb 9 (length pushes) n))
 
-    module _ (k : h < b .map .hexes) where
-      numbers :
-          {l : List ℕ} {v : Verdict} {a : Ruling} {q x : List ℕ} → Met p l v a q x
-          → Met p l (refuseIf (ltb 3 (length route)) 3 0 (refuseIf (leb (b .map .hexes) h) 3 0 v)) a q x
-      numbers w = pass (le-ltb 3 (length route) m) (pass (lt-leb (b .map .hexes) h k) w)
+    module _ (n : length pushes ≤ 9) where
+      pub stops-hex : b .map .hexes ≤ h → Stops p (groupChecks b h route pushes) 3 0
+      stops-hex k l v =
+          pass (le-ltb 3 (length route) m) (pass (le-ltb 9 (length pushes) n) (stop (le-leb (b .map .hexes) h k)))
 
-      pub stops-route : {n j : ℕ} → Stops p (onMapAll b route) n j → Stops p (groupChecks b h route) n j
-      stops-route s l v = numbers (s l _)
+      module _ (k : h < b .map .hexes) where
+        numbers :
+            {l : List ℕ} {v : Verdict} {a : Ruling} {q x : List ℕ} → Met p l v a q x
+            → Met p l
+            (refuseIf (ltb 3 (length route)) 3 0 (refuseIf (ltb 9 (length pushes)) 3 0 (refuseIf (leb (b .map .hexes) h) 3 0 v)))
+            a q x
+        numbers w = pass (le-ltb 3 (length route) m) (pass (le-ltb 9 (length pushes) n) (pass (lt-leb (b .map .hexes) h k) w))
 
-      module _ (o : Passes p (onMapAll b route)) where
-        pub stops-stage : (b .desk .stage ≡ 1 → ⊥) → Stops p (groupChecks b h route) 2 0
-        stops-stage e l v = numbers (o l _ _ _ _ (stop (ap not (ne-eqb (b .desk .stage) 1 e))))
+        pub stops-route : {n j : ℕ} → Stops p (onMapAll b route) n j → Stops p (groupChecks b h route pushes) n j
+        stops-route s l v = numbers (s l _)
 
-        module _ (e : b .desk .stage ≡ 1) where
-          pub stops-role : any (owesAt b h) (b .units .count) ≡ false → Stops p (groupChecks b h route) 4 0
-          stops-role f l v = numbers (o l _ _ _ _ (pass (ap not (eq-eqb (b .desk .stage) 1 e)) (stop (ap not f))))
+        module _ (o : Passes p (onMapAll b route)) where
+          pub stops-pushes :
+              {n j : ℕ} → Stops p (onMapFrom b pushes (length route + 1)) n j → Stops p (groupChecks b h route pushes) n j
+          stops-pushes s l v = numbers (o l _ _ _ _ (s l _))
 
-          pub passes-group : any (owesAt b h) (b .units .count) ≡ true → Passes p (groupChecks b h route) × Owing b h
-          passes-group f = (
-            λ l v a q x w. numbers (o l _ a q x (pass (ap not (eq-eqb (b .desk .stage) 1 e)) (pass (ap not f) w))),
-            record { there = k; now = e },
-          )
+          module _ (i : Passes p (onMapFrom b pushes (length route + 1))) where
+            pub stops-stage : (b .desk .stage ≡ 1 → ⊥) → Stops p (groupChecks b h route pushes) 2 0
+            stops-stage e l v = numbers (o l _ _ _ _ (i l _ _ _ _ (stop (ap not (ne-eqb (b .desk .stage) 1 e)))))
+
+            module _ (e : b .desk .stage ≡ 1) where
+              pub stops-role : any (owesAt b h) (b .units .count) ≡ false → Stops p (groupChecks b h route pushes) 4 0
+              stops-role f l v =
+                  numbers (o l _ _ _ _ (i l _ _ _ _ (pass (ap not (eq-eqb (b .desk .stage) 1 e)) (stop (ap not f)))))
+
+              pub passes-group :
+                  any (owesAt b h) (b .units .count) ≡ true → Passes p (groupChecks b h route pushes) × Owing b h
+              passes-group f = (
+                λ l v a q x w.
+                    numbers (o l _ a q x (i l _ a q x (pass (ap not (eq-eqb (b .desk .stage) 1 e)) (pass (ap not f) w)))),
+                record { there = k; now = e },
+              )
 
 -- "Stage 1: n is 1..3", and a hex is a 16-bit number
 pub owed-of : {p : List ℕ} {h : ℕ} → Accepted p → Owing (board p) h → In 1 (board p .desk .owed) 3

@@ -1,56 +1,78 @@
--- A group is destroyed exactly if no legal route exists or only supply units owe; else the route sent is accepted exactly if it is legal.
+-- A group is destroyed exactly if neither a vacant route nor a series of pushes exists or only supply units owe; else what was sent is
+-- accepted exactly if it is legal.
 -- Assumes nothing.
-use Prim.Native.Nat.{_≤_, suc, zero, ℕ}
+use Prim.Native.Nat.{ℕ}
 use mathlib.Core.Bool.{Bool, false, not, true}
 use mathlib.Core.List.{List, [], _∷_}
-use mathlib.Core.Logic.{_⊎_, inl, inr}
-use mathlib.Core.Path.{_∙_, _≡_, ap, refl, subst, sym}
-use native.Mathlib.Numerals.{add-one}
+use mathlib.Core.Logic.{_↔_, _⊎_, inl, inr}
+use mathlib.Core.Path.{_∙_, _≡_, ap, refl, sym}
 use native.Mathlib.Omega.{arith}
-use borrow.Author.Tests.{eq-eqb, eqb-true, not-false, not-true}
+use borrow.Author.Tests.{eq-eqb, eqb-true, not-false}
 use lib.Dec.{eqb}
-use lib.ListN.{getD, length}
+use lib.ListN.{getD}
 use Rattle.position.proofs.Tallies.{any-false, any-never, any-true, both-yes, either, not-both, same-or, tally-pos}
 use Rattle.position.specs.Board.{Board, board, forceOf}
 use Rattle.position.specs.Crowd.{owesAt}
 use Rattle.position.specs.Tally.{any}
-use Rattle.ruling.proofs.Going.{gone-end, gone-none}
 use Rattle.ruling.specs.Judged.{Passes}
 use Rattle.ruling.specs.Verdict.{Ruling}
 use Rattle.ruling.specs.Verdict.Ruling.{accepted, refused}
-use Rattle.field.proofs.Lists.{OnMap, map-more, sieve-at, sieve-long}
-use Rattle.field.specs.Listed.{Charted, onMapAll, sieve}
+use Rattle.field.proofs.Lists.{map-all, sieve-at, sieve-long}
+use Rattle.field.specs.Listed.{onMapAll, onMapFrom, sieve}
 use Rattle.routes.proofs.First.{found-right}
 use Rattle.routes.proofs.Legal.{legal-right}
 use Rattle.routes.specs.Legal.{legal}
-use Rattle.routes.specs.Search.{firstRoute, found}
-use Rattle.retreat.specs.Retreat.{doomed, endOf, group, groupChecks, groupForce, walksFrom}
-use Rattle.retreat.specs.Words.{DestroyedRight, Due, GroupRight, NoneExists, OnlySupply, RefusedRight, RetreatedRight, answerTo}
-use Rattle.retreat.proofs.Groups.{doomed-route, doomed-supply, passes-group, walks-kind, walks-not}
-use Rattle.retreat.proofs.Rulings.{ends-doomed, ends-going, stops-illegal}
-
--- a route of hexes of the map passes refusal 3
-reached : (p path : List ℕ) → Charted (board p) path → (i : ℕ) → i ≤ length path → OnMap p path i
-reached p path k zero l = record { gone = gone-none; charted = λ j m. absurd (omega arith) }
-reached p path k (suc i) l =
-    subst (OnMap p path) (add-one i) (map-more (reached p path k i (omega arith)) (omega arith) (k i (omega arith)))
-
-all-on : (p path : List ℕ) → Charted (board p) path → Passes p (onMapAll (board p) path)
-unfolding onMapAll
-all-on p path k l v a q m w = gone-end (reached p path k (length path) (omega arith) .gone) (omega arith) l (λ s. v) a q m w
+use Rattle.chains.proofs.Follows.{legal-pushes-right}
+use Rattle.chains.proofs.Serves.{serves-right}
+use Rattle.chains.specs.Follows.{none}
+use Rattle.shoves.specs.Group.{group, groupForce}
+use Rattle.retreat.specs.Retreat.{doomed, endOf, groupChecks, hasRoute, hasSeries, walksFrom}
+use Rattle.retreat.specs.Fate.{fateOf}
+use Rattle.retreat.specs.Words.{
+  DestroyedRight,
+  Due,
+  GroupRight,
+  LegalFor,
+  Neither,
+  OnlySupply,
+  Pushed,
+  PushedRight,
+  RetreatedRight,
+  Vacant,
+  answerTo,
+}
+use Rattle.retreat.specs.declared.fate.Fate.{Fate}
+use Rattle.retreat.specs.declared.fate.Fate.the-variants as F
+use Rattle.retreat.proofs.Fates.{
+  FateSays,
+  doomed-neither,
+  doomed-supply,
+  fate-doomed,
+  fate-no-pushes,
+  fate-no-route,
+  fate-pushing,
+  fate-says,
+  fate-vacant,
+  fits,
+  serves,
+  spared-route,
+  spared-series,
+}
+use Rattle.retreat.proofs.Groups.{passes-group, walks-kind, walks-not}
+use Rattle.retreat.proofs.Rulings.{ends-doomed, ends-going, stops-pushes, stops-route}
 
 -- the group is asked for, and it is there
-pub passes-due : {p : List ℕ} {h : ℕ} {route : List ℕ} → Due p h route → Passes p (groupChecks (board p) h route)
-passes-due {p} {h} {route} d =
-    passes-group p (board p) h route (d .short) (d .there) (all-on p route (d .charted)) (d .stage)
+pub passes-due :
+    {p : List ℕ} {h : ℕ} {route pushes : List ℕ} → Due p h route pushes → Passes p (groupChecks (board p) h route pushes)
+unfolding onMapAll onMapFrom
+passes-due {p} {h} {route} {pushes} d =
+    passes-group p (board p) h route pushes (d .short) (d .few) (d .there) (map-all 1 p route (d .charted))
+    (map-all _ p pushes (d .pushed)) (d .stage)
     (any-true (owesAt (board p) h) (board p .units .count) (d .unit) (d .counted) (d .owes))
     .0
 
--- the test is true exactly of the groups that are lost
+-- each test is true exactly of what it asks for
 module _ (b : Board) (h : ℕ) where
-  abbrev some : Bool
-  some = found (firstRoute b (groupForce b h) h (b .desk .owed))
-
   only-supply : any (walksFrom b h) (b .units .count) ≡ false → OnlySupply b h
   only-supply e u l o =
       let z = any-false (walksFrom b h) (b .units .count) u e l in
@@ -64,37 +86,57 @@ module _ (b : Board) (h : ℕ) where
       (λ e. walks-kind b h u e ∙ ap not (eq-eqb (b .units .kind u) 5 (s u l e)))
       (λ e. walks-not b h u e))
 
-  none-found : some ≡ false → NoneExists b h
-  none-found e r = not-both some (found-right b (groupForce b h) h (b .desk .owed) .1 r) e
+  walks : (OnlySupply b h → ⊥) → any (walksFrom b h) (b .units .count) ≡ true
+  walks n = either (any (walksFrom b h) (b .units .count)) (λ e. e) (λ e. absurd (n (only-supply e)))
 
-  found-none : NoneExists b h → some ≡ false
-  found-none n = either some (λ e. absurd (n (found-right b (groupForce b h) h (b .desk .owed) .0 e))) (λ e. e)
+  pub route-right : (hasRoute b h ≡ true) ↔ Vacant b h
+  unfolding hasRoute
+  route-right = found-right b (groupForce b h) h (b .desk .owed)
 
-  lost : doomed b h ≡ true → NoneExists b h ⊎ OnlySupply b h
+  pub series-right : (hasSeries b h ≡ true) ↔ Pushed b h
+  unfolding hasSeries
+  series-right = serves-right b (groupForce b h) h (b .desk .owed)
+
+-- a test that is true exactly of P fails exactly where P does not hold
+fails : {P : Type 0} (t : Bool) → (t ≡ true) ↔ P → (t ≡ false) ↔ (P → ⊥)
+fails t r = (λ e y. not-both t (r .1 y) e, λ n. either t (λ e. absurd (n (r .0 e))) (λ e. e))
+
+-- the test is true exactly of the groups that are lost
+module _ (b : Board) (h : ℕ) where
+  lost : doomed b h ≡ true → Neither b h ⊎ OnlySupply b h
   lost e =
       either (any (walksFrom b h) (b .units .count))
-      (λ w. inl (none-found (not-true some (sym (doomed-route b h w) ∙ e))))
-      (λ w. inr (only-supply w))
+      (λ w.
+      inl (
+        λ y. not-both (doomed b h) e (spared-route b h w (route-right b h .1 y)),
+        λ y. not-both (doomed b h) e (spared-series b h w (series-right b h .1 y)),
+      ))
+      (λ w. inr (only-supply b h w))
 
-  lost-supply : OnlySupply b h → doomed b h ≡ true
-  lost-supply s = doomed-supply b h (none-walks s)
+  lost-any : Neither b h ⊎ OnlySupply b h → doomed b h ≡ true
+  lost-any (inl n) =
+      doomed-neither b h (fails (hasRoute b h) (route-right b h) .1 (n .0)) (fails (hasSeries b h) (series-right b h) .1 (n .1))
+  lost-any (inr s) = doomed-supply b h (none-walks b h s)
 
-  lost-route : NoneExists b h → doomed b h ≡ true
-  lost-route n =
-      either (any (walksFrom b h) (b .units .count))
-      (λ w. doomed-route b h w ∙ ap not (found-none n))
-      (doomed-supply b h)
+-- what is answered, by the group's fate
+abbrev answerOf : ℕ → Fate → Ruling
+answerOf end F.Lost = accepted (2 ∷ [])
+answerOf end F.NoRoute = refused 14 0
+answerOf end F.NoPushes = refused 17 0
+answerOf end F.Vacant = accepted (1 ∷ end ∷ [])
+answerOf end F.Pushing = accepted (1 ∷ end ∷ [])
 
-  lost-any : NoneExists b h ⊎ OnlySupply b h → doomed b h ≡ true
-  lost-any (inl n) = lost-route n
-  lost-any (inr s) = lost-supply s
+module _ {p : List ℕ} {h : ℕ} {route pushes : List ℕ} (d : Due p h route pushes) where
+  answers : (f : Fate) → FateSays (board p) h route pushes f → answerTo p h route pushes ≡ answerOf (endOf (board p) route) f
+  answers F.Lost e = sym (ends-doomed h route pushes (d .whole) (passes-due d) e refl .answers)
+  answers F.NoRoute e = sym (stops-route h route pushes (d .whole) (passes-due d) e .answers)
+  answers F.NoPushes e = sym (stops-pushes h route pushes (d .whole) (passes-due d) (e .0) (e .1) .answers)
+  answers F.Vacant g = sym (ends-going h route pushes (d .whole) (passes-due d) g refl refl .answers)
+  answers F.Pushing g = sym (ends-going h route pushes (d .whole) (passes-due d) g refl refl .answers)
 
-  lost-neither : NoneExists b h ⊎ OnlySupply b h → (NoneExists b h → ⊥) → (OnlySupply b h → ⊥) → ⊥
-  lost-neither (inl n) f g = f n
-  lost-neither (inr s) f g = g s
-
-  kept : (NoneExists b h → ⊥) → (OnlySupply b h → ⊥) → doomed b h ≡ false
-  kept f g = either (doomed b h) (λ e. absurd (lost-neither (lost e) f g)) (λ e. e)
+  answered : {f : Fate} → fateOf (board p) h route pushes ≡ f → answerTo p h route pushes ≡ answerOf (endOf (board p) route) f
+  answered e =
+      answers (fateOf (board p) h route pushes) (fate-says (board p) h route pushes) ∙ ap (answerOf (endOf (board p) route)) e
 
 -- answers of different kinds differ
 abbrev sort : Ruling → ℕ
@@ -102,47 +144,79 @@ sort (refused n k) = 0
 sort (accepted []) = 0
 sort (accepted (x ∷ xs)) = x
 
-module _ {p : List ℕ} {h : ℕ} {route : List ℕ} (d : Due p h route) where
-  abbrev fits : Bool
-  fits = legal (board p) (groupForce (board p) h) h (board p .desk .owed) route
+-- where the answer hangs on one test, each of two answers is given exactly if it holds, or does not
+module _ {P : Type 0} {t : Bool} {x y n : Ruling} (r : (t ≡ true) ↔ P) (yes : t ≡ true → x ≡ y) (no : t ≡ false → x ≡ n)
+    (other : sort y ≡ sort n → ⊥) where
+  when-yes : (x ≡ y) ↔ P
+  when-yes = (λ e. either t (r .0) (λ z. absurd (other (ap sort (sym e ∙ no z)))), λ h. yes (r .1 h))
 
-  says-destroyed : doomed (board p) h ≡ true → answerTo p h route ≡ accepted (2 ∷ [])
-  says-destroyed e = sym (ends-doomed h route (d .whole) (passes-due d) e refl .answers)
-
-  says-refused : doomed (board p) h ≡ false → fits ≡ false → answerTo p h route ≡ refused 14 0
-  says-refused e g = sym (stops-illegal h route (d .whole) (passes-due d) e g .answers)
-
-  says-retreated : doomed (board p) h ≡ false → fits ≡ true → answerTo p h route ≡ accepted (1 ∷ endOf (board p) route ∷ [])
-  says-retreated e g = sym (ends-going h route (d .whole) (passes-due d) e g refl refl .answers)
+  when-no : (x ≡ n) ↔ (P → ⊥)
+  when-no = (λ e h. other (ap sort (sym (yes (r .1 h)) ∙ e)), λ h. no (fails t r .1 h))
 
 pub destroyed-right : DestroyedRight
-destroyed-right p h route d = (
-  λ a.
-      either (doomed (board p) h) (lost (board p) h)
-      (λ e.
-      either (fits d)
-      (λ g. let z : _≡_ {A = ℕ} 1 2 = ap sort (sym (says-retreated d e g) ∙ a) in absurd (omega arith))
-      (λ g. let z : _≡_ {A = ℕ} 0 2 = ap sort (sym (says-refused d e g) ∙ a) in absurd (omega arith))),
-  λ l. says-destroyed d (lost-any (board p) h l),
-)
+destroyed-right p h route pushes d =
+    let b = board p in
+    let x = answerTo p h route pushes in
+    let other : (f : Fate) → x ≡ answerOf (endOf b route) f → (sort (answerOf (endOf b route) f) ≡ 2 → ⊥) → x ≡ accepted (2 ∷ []) → ⊥ =
+    λ f e k a. k (ap sort (sym e ∙ a)) in (
+      λ a.
+          either (doomed b h) (lost b h)
+          (λ e.
+          absurd
+          (either (hasRoute b h)
+          (λ r.
+          either (fits b h route pushes)
+          (λ f. other F.Vacant (answered d (fate-vacant b h route pushes e r f)) (λ z. omega arith) a)
+          (λ f. other F.NoRoute (answered d (fate-no-route b h route pushes e r f)) (λ z. omega arith) a))
+          (λ r.
+          either (serves b h route pushes)
+          (λ f. other F.Pushing (answered d (fate-pushing b h route pushes e r f)) (λ z. omega arith) a)
+          (λ f. other F.NoPushes (answered d (fate-no-pushes b h route pushes e r f)) (λ z. omega arith) a)))),
+      λ l. answered d (fate-doomed b h route pushes (lost-any b h l)),
+    )
+
+-- a vacant route was sent, and nothing beside it
+no-pushes : (xs : List ℕ) → none xs ≡ true → xs ≡ []
+no-pushes [] e = refl
+no-pushes (x ∷ xs) e = not-both false e refl
+
+fits-right : (b : Board) (h : ℕ) (route pushes : List ℕ) → (fits b h route pushes ≡ true) ↔ LegalFor b h route × (pushes ≡ [])
+fits-right b h route pushes =
+    let r = legal-right b (groupForce b h) h (b .desk .owed) route in (
+      λ e.
+          let z = both-yes (legal b (groupForce b h) h (b .desk .owed) route) (none pushes) e in
+          (r .0 (z .0), no-pushes pushes (z .1)),
+      λ l. simp (r .1 (l .0), ap none (l .1)),
+    )
 
 pub retreated-right : RetreatedRight
-retreated-right p h route d f g =
-    let e = kept (board p) h f g in
-    let r = legal-right (board p) (groupForce (board p) h) h (board p .desk .owed) route in (
-      λ a.
-          either (fits d) (λ y. r .0 y)
-          (λ y. let z : _≡_ {A = ℕ} 0 1 = ap sort (sym (says-refused d e y) ∙ a) in absurd (omega arith)),
-      λ l. says-retreated d e (r .1 l),
-    )
+retreated-right p h route pushes d y n =
+    let b = board p in
+    let r = route-right b h .1 y in
+    let e = spared-route b h (walks b h n) r in
+    let yes : fits b h route pushes ≡ true → answerTo p h route pushes ≡ accepted (1 ∷ endOf b route ∷ []) =
+    λ f. answered d (fate-vacant b h route pushes e r f) in
+    let no : fits b h route pushes ≡ false → answerTo p h route pushes ≡ refused 14 0 =
+    λ f. answered d (fate-no-route b h route pushes e r f) in
+    record {
+      retreats = when-yes (fits-right b h route pushes) yes no (λ z. omega arith);
+      refuses = when-no (fits-right b h route pushes) yes no (λ z. omega arith);
+    }
 
-pub refused-right : RefusedRight
-refused-right p h route d f g =
-    let e = kept (board p) h f g in
-    let r = legal-right (board p) (groupForce (board p) h) h (board p .desk .owed) route in (
-      λ a l. let z : _≡_ {A = ℕ} 1 0 = ap sort (sym (says-retreated d e (r .1 l)) ∙ a) in omega arith,
-      λ n. says-refused d e (either (fits d) (λ y. absurd (n (r .0 y))) (λ y. y)),
-    )
+pub pushed-right : PushedRight
+pushed-right p h route pushes d m y n =
+    let b = board p in
+    let r = fails (hasRoute b h) (route-right b h) .1 m in
+    let e = spared-series b h (walks b h n) (series-right b h .1 y) in
+    let t = legal-pushes-right b (groupForce b h) h (b .desk .owed) route pushes in
+    let yes : serves b h route pushes ≡ true → answerTo p h route pushes ≡ accepted (1 ∷ endOf b route ∷ []) =
+    λ f. answered d (fate-pushing b h route pushes e r f) in
+    let no : serves b h route pushes ≡ false → answerTo p h route pushes ≡ refused 17 0 =
+    λ f. answered d (fate-no-pushes b h route pushes e r f) in
+    record {
+      retreats = when-yes t yes no (λ z. omega arith);
+      refuses = when-no t yes no (λ z. omega arith);
+    }
 
 -- units of two forces do not both owe
 pub group-right : GroupRight

@@ -64,7 +64,8 @@ GroupRight =
     (p : List ℕ) (h u : ℕ) → Accepted p → u < board p .units .count → owesAt (board p) h u ≡ true
     → forceOf (board p) u ≡ groupForce (board p) h
 
--- "The group is destroyed exactly if neither a vacant route nor such a series of pushes exists", or only supply units owe, whatever was sent
+-- "The group is destroyed exactly if neither a vacant route nor such a series of pushes exists", or only supply units owe, whatever was
+-- sent
 abbrev pub DestroyedRight : Type 0
 DestroyedRight =
     (p : List ℕ) (h : ℕ) (route pushes : List ℕ) → Due p h route pushes

@@ -119,7 +119,7 @@ fn by_pushes(p: &[u8], v: View, h: usize, route: &[u16], pushes: &[u16]) -> Fate
 }
 
 // What comes of the group in hex `h`, which was sent this route and these pushes.
-pub fn fate(p: &[u8], v: View, h: usize, route: &[u16], pushes: &[u16]) -> Fate
+pub fn decide(p: &[u8], v: View, h: usize, route: &[u16], pushes: &[u16]) -> Fate
     requires { ⌜ Laid (now p) v × (h < v .hexes) × (1 ≤ board (now p) .desk .owed) × (board (now p) .desk .owed ≤ 3) ⌝ }
     ensures { λ r. ⌜ r ≡ fateOf (board (now (p .entry))) h (now (route .entry)) (now (pushes .entry)) ⌝ }
 {

@@ -29,7 +29,7 @@ pub fn retreat(p: &mut [u8], hex: usize, route: &[u16], pushes: &[u16]) -> Retre
     if let Tested::Stopped(n, k) = asking::judge_group(p, v, hex, route, pushes) {
         return Retreated::Refused(n, k);
     }
-    match fate::fate(p, v, hex, route, pushes) {
+    match fate::decide(p, v, hex, route, pushes) {
         Fate::Lost => {
             going::fall(p, v, hex);
             Retreated::Destroyed

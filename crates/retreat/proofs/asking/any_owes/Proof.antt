@@ -39,7 +39,9 @@ loop-again c = one-more (c .before .before .before .loop .inv) (omega arith) (sy
 returns-2 : tie.Need-returns-2 Inv-loop μ-loop
 returns-2 c =
     let s = c .before .before .before in
-    sym (ap (any (owesAt (board (s .args .p .now)) (s .args .h))) (sym (s .pre .view .count)) ∙ none-at-all (c .before .loop .inv) (omega arith))
+    sym
+    (ap (any (owesAt (board (s .args .p .now)) (s .args .h))) (sym (s .pre .view .count))
+    ∙ none-at-all (c .before .loop .inv) (omega arith))
 
 pub any-owes-spec : {M : Type 1} → statement M
 any-owes-spec = tie.close (tie.spec Inv-loop μ-loop loop-holds owes-at-requires returns add-u loop-less loop-again returns-2)

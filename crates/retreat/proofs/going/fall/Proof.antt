@@ -16,19 +16,26 @@ set-route-requires : tie.Need-set-route-requires
 set-route-requires c κs = search needs
 
 fall-all-requires : tie.Need-fall-all-requires
-fall-all-requires c κs = rw (c .before .before .before .set-route .ensures) (laid-make (c .before .before .before .before .before .before .before .before .pre .0) _)
+fall-all-requires c κs =
+    let n = c .before .before .before in
+    rw (n .set-route .ensures) (laid-make (n .before .before .before .before .before .pre .0) _)
 
 pass-on-requires : tie.Need-pass-on-requires
-pass-on-requires c κs = laid-makes _ (rw (c .before .before .before .before .before .before .before .set-route .ensures) (laid-make (c .before .before .before .before .before .before .before .before .before .before .before .before .pre .0) _)) (c .before .before .before .fall-all .ensures)
+pass-on-requires c κs =
+    let n = c .before .before .before .before .before .before .before in
+    laid-makes _ (rw (n .set-route .ensures) (laid-make (n .before .before .before .before .before .pre .0) _))
+    (c .before .before .before .fall-all .ensures)
 
 same-length : tie.Need-same-length
 same-length c = search needs
 
 returns : tie.Need-returns
 returns c =
-    let s = (c .before .before .before .before .before .before .before .before .before .before .before .before .before .before .before) in
+    let n = c .before .before .before .before .before .before .before .before .before .before in
+    let s = (n .before .before .before .before .before) in
     then-on (s .pre .0 .shaped) (doomChanges (board (s .args .p .now)) (s .args .h))
-    (fallen (s .pre .0 .shaped) (s .args .h) (c .before .before .before .before .before .before .before .before .before .before .before .before .routes .ensures .is) (c .before .before .before .before .before .before .before .before .before .before .set-route .ensures) (c .before .before .before .before .before .before .fall-all .ensures))
+    (fallen (s .pre .0 .shaped) (s .args .h) (n .before .before .routes .ensures .is) (n .set-route .ensures)
+    (c .before .before .before .before .before .before .fall-all .ensures))
     (c .before .before .pass-on .ensures)
 
 pub fall-spec : {M : Type 1} → statement M

@@ -3,7 +3,8 @@
 use mathlib.Core.Path.{sym, _∙_}
 use borrow.Author.Needs.{needs}
 use borrow.Author.Tests.{not-false, not-true}
-use Rattle.retreat.proofs.Leaving.{falls-made, leave-other, leave-own}
+use Rattle.shoves.proofs.Turns.{dealt-with, left-alone}
+use Rattle.retreat.proofs.Leaving.{falls-made}
 use Rattle.retreat.proofs.going.fall_one.Statement.{statement}
 use Rattle.retreat.proofs.going.fall_one.Tie as tie
 
@@ -14,7 +15,7 @@ same-length : tie.Need-same-length
 same-length c = search needs
 
 returns : tie.Need-returns
-returns c = leave-other _ _ _ _ (sym (c .before .owes-at .ensures) ∙ not-true _ (c .if1 .taken))
+returns c = left-alone _ _ _ (sym (c .before .owes-at .ensures) ∙ not-true _ (c .if1 .taken))
 
 destroy-requires : tie.Need-destroy-requires
 destroy-requires c κs = search needs
@@ -24,7 +25,9 @@ same-length-2 c = search needs
 
 returns-2 : tie.Need-returns-2
 returns-2 c =
-    leave-own _ _ _ _ (sym (c .before .before .before .before .before .owes-at .ensures) ∙ not-false _ (c .before .before .before .before .if1 .left)) (falls-made _ _ (c .before .before .destroy .ensures))
+    let o = c .before .before .before .before in
+    dealt-with _ _ _ (sym (o .before .owes-at .ensures) ∙ not-false _ (o .if1 .left))
+    (falls-made _ _ (c .before .before .destroy .ensures))
 
 pub fall-one-spec : {M : Type 1} → statement M
 fall-one-spec = tie.close (tie.spec owes-at-requires same-length returns destroy-requires same-length-2 returns-2)

@@ -18,20 +18,27 @@ same-length : tie.Need-same-length
 same-length c = search needs
 
 returns : tie.Need-returns
-returns c = leave-supply _ _ _ (sym (c .before .before .before .before .before .kind .ensures .is) ∙ c .before .before .before .before .if1 .taken) (c .before .before .destroy .ensures)
+returns c =
+    leave-supply _ _ _ (sym (c .before .before .before .before .before .kind .ensures .is) ∙ c .before .before .before .before .if1 .taken)
+    (c .before .before .destroy .ensures)
 
 place-requires : tie.Need-place-requires
 place-requires c κs = search needs
 
 assign-requires : tie.Need-assign-requires
 assign-requires c κs =
-    (rw (c .before .before .before .place .ensures) (laid-make (c .before .before .before .before .before .before .before .before .before .pre) _), omega arith)
+    let l = c .before .before .before .before .before .before .before .before .before in
+    (rw (c .before .before .before .place .ensures) (laid-make (l .pre) _), omega arith)
 
 same-length-2 : tie.Need-same-length-2
 same-length-2 c = search needs
 
 returns-2 : tie.Need-returns-2
-returns-2 c = leave-walks _ _ _ (λ e. c .before .before .before .before .before .before .before .before .if1 .left (c .before .before .before .before .before .before .before .before .before .kind .ensures .is ∙ e)) (c .before .before .before .before .before .before .place .ensures) (c .before .before .assign .ensures)
+returns-2 c =
+    let o = c .before .before .before .before .before .before .before .before in
+    leave-walks _ _ _ (λ e. o .if1 .left (o .before .kind .ensures .is ∙ e))
+    (c .before .before .before .before .before .before .place .ensures)
+    (c .before .before .assign .ensures)
 
 pub leave-spec : {M : Type 1} → statement M
 leave-spec =

@@ -8,18 +8,20 @@ use borrow.Author.Needs.{needs}
 use Rattle.position.specs.Board.{board}
 use Rattle.position.specs.Change.{makes}
 use Rattle.retreat.specs.Retreat.{leaves}
-use Rattle.retreat.proofs.Leaving.{Leaving, gather-leaves, leaves-same, leaving-all, leaving-more, leaving-none, own-leaves}
+use Rattle.shoves.proofs.Sweeps.{Sweep, alike-owing, owing, sweep-all, sweep-more, sweep-none}
+use Rattle.shoves.specs.Group.{group}
+use Rattle.retreat.proofs.Leaving.{gather-leaves, leaves-same, own-leaves}
 use Rattle.retreat.proofs.going.leave_all.Statement.{statement}
 use Rattle.retreat.proofs.going.leave_all.Tie as tie
 
 abbrev Inv-loop : tie.InvT-loop
-Inv-loop p₀ v h end count u₀ p u = Leaving (leaves (board p₀) end) p₀ v h u p
+Inv-loop p₀ v h end count u₀ p u = Sweep (owing h) (leaves (board p₀) end) p₀ v u p
 
 abbrev μ-loop : tie.MeasureT-loop
 μ-loop p₀ v h end count u₀ p u = count - u
 
 loop-holds : tie.Need-loop-holds Inv-loop μ-loop
-loop-holds c = leaving-none (c .before .pre)
+loop-holds c = sweep-none (c .before .pre)
 
 leave-one-requires : tie.Need-leave-one-requires Inv-loop μ-loop
 leave-one-requires c κs = c .before .before .loop .inv .laid
@@ -33,15 +35,17 @@ loop-less c = search needs
 loop-again : tie.Need-loop-again Inv-loop μ-loop
 loop-again c =
     let s = c .before .before .before .before .before in
-    leaving-more (own-leaves _ _) (s .loop .inv) (omega arith) _ (leaves-same _ _ _ _ (s .loop .inv .kinds)) (c .before .before .leave-one .ensures)
+    sweep-more (alike-owing _) (own-leaves _ _) (s .loop .inv) (omega arith) _ (leaves-same _ _ _ _ (s .loop .inv .kinds))
+    (c .before .before .leave-one .ensures)
 
 same-length : tie.Need-same-length Inv-loop μ-loop
 same-length c = omega (arith, c .before .loop .inv .laid .fits .whole, c .before .before .before .pre .fits .whole)
 
 returns : tie.Need-returns Inv-loop μ-loop
+unfolding group
 returns c =
     let s = c .before .before .before in
-    leaving-all (c .before .loop .inv) (omega arith) (s .pre .view .count) ∙ ap (makes (s .args .p .now)) (gather-leaves _ _ _)
+    sweep-all (c .before .loop .inv) (omega arith) (s .pre .view .count) ∙ ap (makes (s .args .p .now)) (gather-leaves _ _ _)
 
 pub leave-all-spec : {M : Type 1} → statement M
 leave-all-spec = tie.close (tie.spec Inv-loop μ-loop loop-holds leave-one-requires add-u loop-less loop-again same-length returns)

@@ -1,11 +1,11 @@
--- `asking::group_force` meets its contract: the force of the first that owes.
+-- `fate::group_force` meets its contract: the force of the first that owes.
 -- Assumes nothing.
 use mathlib.Core.Path.{ap, _∙_}
 use borrow.Author.Needs.{needs}
 use Rattle.position.specs.Board.{board, forceOf}
-use Rattle.retreat.specs.Retreat.{groupForce}
-use Rattle.retreat.proofs.asking.group_force.Statement.{statement}
-use Rattle.retreat.proofs.asking.group_force.Tie as tie
+use Rattle.shoves.specs.Group.{groupForce}
+use Rattle.retreat.proofs.fate.group_force.Statement.{statement}
+use Rattle.retreat.proofs.fate.group_force.Tie as tie
 
 leader-requires : tie.Need-leader-requires
 leader-requires c κs = search needs

@@ -1,4 +1,4 @@
--- `asking::walks_from` meets its contract: whether the unit owes there is asked first, then its type.
+-- `fate::walks_from` meets its contract: whether the unit owes there is asked first, then its type.
 -- Assumes nothing.
 use Prim.Native.Nat.{ℕ}
 use mathlib.Core.Bool.{not}
@@ -7,8 +7,8 @@ use borrow.Author.Needs.{needs}
 use borrow.Author.Tests.{not-false, not-true}
 use lib.Dec.{eqb}
 use Rattle.retreat.proofs.Groups.{walks-kind, walks-not}
-use Rattle.retreat.proofs.asking.walks_from.Statement.{statement}
-use Rattle.retreat.proofs.asking.walks_from.Tie as tie
+use Rattle.retreat.proofs.fate.walks_from.Statement.{statement}
+use Rattle.retreat.proofs.fate.walks_from.Tie as tie
 
 owes-at-requires : tie.Need-owes-at-requires
 owes-at-requires c κs = search needs

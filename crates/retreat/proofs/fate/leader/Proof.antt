@@ -1,4 +1,4 @@
--- `asking::leader` meets its contract. The loop's invariant: no unit passed owes there. The measure is how many are left.
+-- `fate::leader` meets its contract. The loop's invariant: no unit passed owes there. The measure is how many are left.
 -- Assumes nothing.
 use Prim.Native.Nat.{_-_}
 use mathlib.Core.Path.{_∙_, ap, sym}
@@ -9,8 +9,8 @@ use Rattle.position.specs.Board.{board}
 use Rattle.position.specs.Tally.{any}
 use Rattle.position.specs.Crowd.{owesAt}
 use Rattle.field.proofs.Zones.{None, none-at-all, none-yet, one-more}
-use Rattle.retreat.proofs.asking.leader.Statement.{statement}
-use Rattle.retreat.proofs.asking.leader.Tie as tie
+use Rattle.retreat.proofs.fate.leader.Statement.{statement}
+use Rattle.retreat.proofs.fate.leader.Tie as tie
 
 abbrev Inv-loop : tie.InvT-loop
 Inv-loop p v h count u₀ u = None (owesAt (board p) h) u count
@@ -25,7 +25,9 @@ owes-at-requires : tie.Need-owes-at-requires Inv-loop μ-loop
 owes-at-requires c κs = search needs
 
 returns : tie.Need-returns Inv-loop μ-loop
-returns c = first-owing _ _ (c .before .before .before .loop .u) (c .before .before .before .loop .inv .none) (omega arith) (sym (c .before .owes-at .ensures) ∙ c .if1 .taken)
+returns c =
+    let l = c .before .before .before in
+    first-owing _ _ (l .loop .u) (l .loop .inv .none) (omega arith) (sym (c .before .owes-at .ensures) ∙ c .if1 .taken)
 
 add-u : tie.Need-add-u Inv-loop μ-loop
 add-u c = search needs
@@ -39,7 +41,9 @@ loop-again c = one-more (c .before .before .before .loop .inv) (omega arith) (sy
 returns-2 : tie.Need-returns-2 Inv-loop μ-loop
 returns-2 c =
     let s = c .before .before .before in
-    none-owing _ _ (ap (any (owesAt (board (s .args .p .now)) (s .args .h))) (sym (s .pre .view .count)) ∙ none-at-all (c .before .loop .inv) (omega arith))
+    none-owing _ _
+    (ap (any (owesAt (board (s .args .p .now)) (s .args .h))) (sym (s .pre .view .count))
+    ∙ none-at-all (c .before .loop .inv) (omega arith))
 
 pub leader-spec : {M : Type 1} → statement M
 leader-spec = tie.close (tie.spec Inv-loop μ-loop loop-holds owes-at-requires returns add-u loop-less loop-again returns-2)

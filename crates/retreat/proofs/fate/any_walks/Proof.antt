@@ -1,4 +1,5 @@
--- `asking::any_walks` meets its contract. The loop's invariant: no unit passed owes there, but for supply units. The measure is how many are left.
+-- `fate::any_walks` meets its contract. The loop's invariant: no unit passed owes there, but for supply units.
+-- The measure is how many are left.
 -- Assumes nothing.
 use Prim.Native.Nat.{_-_}
 use mathlib.Core.Path.{_∙_, ap, sym}
@@ -9,8 +10,8 @@ use Rattle.position.specs.Board.{board}
 use Rattle.position.specs.Tally.{any}
 use Rattle.retreat.specs.Retreat.{walksFrom}
 use Rattle.field.proofs.Zones.{None, none-at-all, none-yet, one-more}
-use Rattle.retreat.proofs.asking.any_walks.Statement.{statement}
-use Rattle.retreat.proofs.asking.any_walks.Tie as tie
+use Rattle.retreat.proofs.fate.any_walks.Statement.{statement}
+use Rattle.retreat.proofs.fate.any_walks.Tie as tie
 
 abbrev Inv-loop : tie.InvT-loop
 Inv-loop p v h count u₀ u = None (walksFrom (board p) h) u count
@@ -39,7 +40,9 @@ loop-again c = one-more (c .before .before .before .loop .inv) (omega arith) (sy
 returns-2 : tie.Need-returns-2 Inv-loop μ-loop
 returns-2 c =
     let s = c .before .before .before in
-    sym (ap (any (walksFrom (board (s .args .p .now)) (s .args .h))) (sym (s .pre .view .count)) ∙ none-at-all (c .before .loop .inv) (omega arith))
+    sym
+    (ap (any (walksFrom (board (s .args .p .now)) (s .args .h))) (sym (s .pre .view .count))
+    ∙ none-at-all (c .before .loop .inv) (omega arith))
 
 pub any-walks-spec : {M : Type 1} → statement M
 any-walks-spec = tie.close (tie.spec Inv-loop μ-loop loop-holds walks-from-requires returns add-u loop-less loop-again returns-2)

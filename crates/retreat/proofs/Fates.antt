@@ -1,0 +1,143 @@
+-- What comes of a group, by the tests that decide it, and what each fate says of the refusals.
+-- Assumes nothing.
+use Prim.Native.Nat.{_<_, _≤_, ℕ}
+use mathlib.Core.Bool.{Bool, _&&_, and-false, false, or-true, true}
+use mathlib.Core.List.{List, [], _∷_}
+use mathlib.Core.Path.{_≡_, refl, sym}
+use native.Mathlib.Omega.{arith}
+use lib.ListN.{length}
+use Rattle.position.proofs.Tallies.{either}
+use Rattle.position.specs.Board.{Board}
+use Rattle.position.specs.Tally.{any}
+use Rattle.routes.specs.Legal.{legal}
+use Rattle.chains.specs.Follows.{legalPushes, none}
+use Rattle.chains.specs.Serves.{pushesServe}
+use Rattle.pushes.specs.Pushes.{served}
+use Rattle.shoves.specs.Group.{groupForce}
+use Rattle.retreat.specs.declared.fate.Fate.{Fate}
+use Rattle.retreat.specs.declared.fate.Fate.the-variants.{Lost, NoPushes, NoRoute, Pushing, Vacant}
+use Rattle.retreat.specs.Retreat.{doomed, hasRoute, hasSeries, notPushed, notVacant, walksFrom}
+use Rattle.retreat.specs.Fate.{fateOf, pushFate, routeFate, servedFate}
+
+-- who is destroyed
+module _ (b : Board) (h : ℕ) where
+  pub doomed-supply : any (walksFrom b h) (b .units .count) ≡ false → doomed b h ≡ true
+  unfolding doomed
+  doomed-supply e = simp e
+
+  pub doomed-neither : hasRoute b h ≡ false → hasSeries b h ≡ false → doomed b h ≡ true
+  unfolding doomed
+  doomed-neither r s = simp (r, s, or-true)
+
+  module _ (w : any (walksFrom b h) (b .units .count) ≡ true) where
+    pub spared-route : hasRoute b h ≡ true → doomed b h ≡ false
+    unfolding doomed
+    spared-route r = simp (w, r)
+
+    pub spared-series : hasSeries b h ≡ true → doomed b h ≡ false
+    unfolding doomed
+    spared-series s = simp (w, s, or-true)
+
+pub none-empty : (xs : List ℕ) → length xs ≤ 0 → none xs ≡ true
+none-empty [] l = refl
+none-empty (x ∷ xs) l = absurd (omega arith)
+
+pub none-some : (xs : List ℕ) → 0 < length xs → none xs ≡ false
+none-some [] l = absurd (omega arith)
+none-some (x ∷ xs) l = refl
+
+-- the fate of a group, as the tests come one after another
+module _ (b : Board) (h : ℕ) (route pushes : List ℕ) where
+  abbrev pub fits : Bool
+  fits = legal b (groupForce b h) h (b .desk .owed) route && none pushes
+
+  abbrev pub serves : Bool
+  serves = legalPushes b (groupForce b h) h (b .desk .owed) route pushes
+
+  pub fate-doomed : doomed b h ≡ true → fateOf b h route pushes ≡ Lost
+  unfolding fateOf
+  fate-doomed e = simp e
+
+  module _ (e : doomed b h ≡ false) where
+    module _ (r : hasRoute b h ≡ true) where
+      pub fate-vacant : fits ≡ true → fateOf b h route pushes ≡ Vacant
+      unfolding fateOf routeFate
+      fate-vacant f = simp (e, r, f)
+
+      pub fate-no-route : fits ≡ false → fateOf b h route pushes ≡ NoRoute
+      unfolding fateOf routeFate
+      fate-no-route f = simp (e, r, f)
+
+    module _ (r : hasRoute b h ≡ false) where
+      pub fate-pushing : serves ≡ true → fateOf b h route pushes ≡ Pushing
+      unfolding fateOf pushFate
+      fate-pushing f = simp (e, r, f)
+
+      pub fate-no-pushes : serves ≡ false → fateOf b h route pushes ≡ NoPushes
+      unfolding fateOf pushFate
+      fate-no-pushes f = simp (e, r, f)
+
+  module _ (w : any (walksFrom b h) (b .units .count) ≡ true) where
+    -- where no vacant route exists
+    pub fate-served :
+        hasRoute b h ≡ false → servedFate (served b (groupForce b h) h (b .desk .owed) route pushes) ≡ fateOf b h route pushes
+    unfolding served hasSeries
+    fate-served r =
+        either (pushesServe b (groupForce b h) h (b .desk .owed))
+        (λ s.
+        either serves
+        (λ f. simp (s, f) (sym (fate-pushing (spared-series b h w s) r f)))
+        (λ f. simp (s, f) (sym (fate-no-pushes (spared-series b h w s) r f))))
+        (λ s. simp s (sym (fate-doomed (doomed-neither b h r s))))
+
+    -- where one does
+    module _ (r : hasRoute b h ≡ true) where
+      pub fate-sent : 0 < length pushes → NoRoute ≡ fateOf b h route pushes
+      fate-sent l = sym (fate-no-route (spared-route b h w r) r (simp (none-some pushes l, and-false)))
+
+      pub fate-illegal : legal b (groupForce b h) h (b .desk .owed) route ≡ false → NoRoute ≡ fateOf b h route pushes
+      fate-illegal f = sym (fate-no-route (spared-route b h w r) r (simp f))
+
+      pub fate-legal :
+          length pushes ≤ 0 → legal b (groupForce b h) h (b .desk .owed) route ≡ true → Vacant ≡ fateOf b h route pushes
+      fate-legal l f = sym (fate-vacant (spared-route b h w r) r (simp (f, none-empty pushes l)))
+
+-- what a fate says of the tests of 14 and 17, and of what follows them
+pub record Goes (b : Board) (h : ℕ) (route pushes : List ℕ) (r : Bool) : Type 0 where
+  pub spared : doomed b h ≡ false
+  pub way : hasRoute b h ≡ r
+  pub vacant : notVacant b h route pushes ≡ false
+  pub pushed : notPushed b h route pushes ≡ false
+
+abbrev pub FateSays : Board → ℕ → List ℕ → List ℕ → Fate → Type 0
+FateSays b h route pushes Lost = doomed b h ≡ true
+FateSays b h route pushes NoRoute = notVacant b h route pushes ≡ true
+FateSays b h route pushes NoPushes = (notVacant b h route pushes ≡ false) × (notPushed b h route pushes ≡ true)
+FateSays b h route pushes Vacant = Goes b h route pushes true
+FateSays b h route pushes Pushing = Goes b h route pushes false
+
+pub fate-says : (b : Board) (h : ℕ) (route pushes : List ℕ) → FateSays b h route pushes (fateOf b h route pushes)
+unfolding notVacant notPushed
+fate-says b h route pushes =
+    either (doomed b h)
+    (λ e. rw (fate-doomed b h route pushes e) e)
+    (λ e.
+    either (hasRoute b h)
+    (λ r.
+    either (fits b h route pushes)
+    (λ f. rw (fate-vacant b h route pushes e r f) (record { spared = e; way = r; vacant = simp (e, r, f); pushed = simp (e, r) }))
+    (λ f. rw (fate-no-route b h route pushes e r f) (simp (e, r, f))))
+    (λ r.
+    either (serves b h route pushes)
+    (λ f. rw (fate-pushing b h route pushes e r f) (record { spared = e; way = r; vacant = simp (e, r); pushed = simp (e, r, f) }))
+    (λ f. rw (fate-no-pushes b h route pushes e r f) (simp (e, r), simp (e, r, f)))))
+
+-- who is destroyed is refused by neither
+module _ (b : Board) (h : ℕ) (route pushes : List ℕ) (e : doomed b h ≡ true) where
+  pub doomed-vacant : notVacant b h route pushes ≡ false
+  unfolding notVacant
+  doomed-vacant = simp e
+
+  pub doomed-pushed : notPushed b h route pushes ≡ false
+  unfolding notPushed
+  doomed-pushed = simp e
