@@ -11,6 +11,7 @@ pub enum Stage {
     Key,
     Gap,
     Number,
+    Slash,
     Digits,
     Tail,
     Comment,
@@ -18,12 +19,13 @@ pub enum Stage {
 }
 
 // The line's first word as a number of base 256, the number that is being read, how many there are (40 stands for more too),
-// how many bytes the hex digits have made, and the first digit of a pair, or 16.
+// after how many of them a slash stood, or `NONE`; how many bytes the hex digits have made, and the first digit of a pair, or 16.
 pub struct Line {
     pub stage: Stage,
     pub key: u64,
     pub number: u16,
     pub count: usize,
+    pub slash: usize,
     pub bytes: usize,
     pub half: u8,
 }
@@ -34,6 +36,7 @@ pub fn empty() -> Line {
         key: 0,
         number: 0,
         count: 0,
+        slash: rooms::NONE,
         bytes: 0,
         half: 16,
     }
@@ -46,6 +49,7 @@ pub fn enter(l: Line, stage: Stage) -> Line {
         key: l.key,
         number: l.number,
         count: l.count,
+        slash: l.slash,
         bytes: l.bytes,
         half: l.half,
     }

@@ -79,3 +79,14 @@ pub fn listed(l: Line) -> usize
     }
     k
 }
+
+// How many of the listed numbers stand before the slash: all, if there is none.
+pub fn parted(l: Line, listed: usize) -> usize
+    ensures { λ r. ⌜ r ≤ listed ⌝ }
+{
+    let at = l.slash;
+    if at < listed {
+        return at;
+    }
+    listed
+}

@@ -3,13 +3,17 @@ use crate::Line;
 use crate::Stage;
 use crate::hex;
 use crate::number;
+use crate::rooms::NONE;
 use crate::rooms::Numbers;
 use crate::rooms::Room;
 
-// Two words, as numbers of base 256: hex digits follow the first, `off` may follow the second, and neither is followed by numbers.
+// Three words, as numbers of base 256: hex digits follow the first, `off` may follow the second, and neither is followed by numbers; a
+// slash may part the numbers of the third.
 pub const POSITION: u64 = 0x706f736974696f6e;
 
 pub const ECHO: u64 = 0x6563686f;
+
+pub const RETREAT: u64 = 0x72657472656174;
 
 // One letter more of the first word, which has at most eight. A longer one is no word.
 fn letter(l: Line, b: u8) -> Line {
@@ -59,6 +63,33 @@ fn joined(l: Line) -> Line {
     after
 }
 
+// A slash parts the numbers before it from those behind. There is one at most.
+fn slash(l: Line) -> Line {
+    let at = l.slash;
+    if at != NONE {
+        return crate::bad(l);
+    }
+    let mut after = crate::enter(l, Stage::Slash);
+    after.slash = l.count;
+    after
+}
+
+// A slash is a word of its own.
+fn after_slash(l: Line, b: u8) -> Line {
+    if crate::is_blank(b) {
+        return crate::enter(l, Stage::Gap);
+    }
+    crate::tail(l, b)
+}
+
+// The first byte of a number, or a slash.
+fn in_lists(l: Line, b: u8, nums: &mut Numbers) -> Line {
+    if b == b'/' {
+        return slash(l);
+    }
+    number::more(l, b, nums)
+}
+
 // Between two words: the byte that begins the next one belongs to it.
 fn in_gap(l: Line, b: u8, next: &mut Room, nums: &mut Numbers) -> Line {
     if crate::is_blank(b) {
@@ -74,6 +105,9 @@ fn in_gap(l: Line, b: u8, next: &mut Room, nums: &mut Numbers) -> Line {
     if key == ECHO {
         return letter(joined(l), b);
     }
+    if key == RETREAT {
+        return in_lists(l, b, nums);
+    }
     number::more(l, b, nums)
 }
 
@@ -86,6 +120,7 @@ pub fn step(l: Line, b: u8, next: &mut Room, nums: &mut Numbers) -> Line {
         Stage::Key => in_key(l, b),
         Stage::Gap => in_gap(l, b, next, nums),
         Stage::Number => number::more(l, b, nums),
+        Stage::Slash => after_slash(l, b),
         Stage::Digits => hex::more(l, b, next),
         Stage::Tail => crate::tail(l, b),
         Stage::Comment => l,

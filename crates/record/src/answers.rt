@@ -64,20 +64,39 @@ pub fn fought(g: Game, a: Fought, p: &[u8], out: &mut Output) -> Game {
     }
 }
 
-// What a retreat came to; the route that was written.
-fn written(g: Game, full: usize, route: &[u16], out: &mut Output) -> Game {
+// The end hex; the route that was written, and where friends were pushed to.
+fn off(g: Game, hex: usize, route: &[u16], pushes: &[u16], out: &mut Output) -> Game {
+    let f = page::word(out, g.full, b"retreated ", hex);
     if g.echo {
-        let f = page::text(out, full, b"  ");
-        return end(g, story::route(out, f, route), out);
+        let h = page::text(out, f, b"  ");
+        let k = story::route(out, h, route);
+        return end(g, story::pushes(out, k, pushes), out);
     }
-    end(g, full, out)
+    end(g, f, out)
 }
 
-// Hex and route of the order are written, or the hex alone.
-pub fn retreated(g: Game, a: Retreated, sent: &[u16], alone: &[u16], out: &mut Output) -> Game {
+// The group is destroyed; the route that was written.
+fn lost(g: Game, route: &[u16], out: &mut Output) -> Game {
+    let f = page::text(out, g.full, b"destroyed");
+    if g.echo {
+        let h = page::text(out, f, b"  ");
+        return end(g, story::route(out, h, route), out);
+    }
+    end(g, f, out)
+}
+
+// Hex and route of the order are written with its pushes, or the hex alone.
+pub fn retreated(
+    g: Game,
+    a: Retreated,
+    route: &[u16],
+    pushes: &[u16],
+    alone: &[u16],
+    out: &mut Output,
+) -> Game {
     match a {
-        Retreated::To(hex) => written(g, page::word(out, g.full, b"retreated ", hex), sent, out),
-        Retreated::Destroyed => written(g, page::text(out, g.full, b"destroyed"), alone, out),
+        Retreated::To(hex) => off(g, hex, route, pushes, out),
+        Retreated::Destroyed => lost(g, alone, out),
         Retreated::Refused(n, place) => refused(g, Call::Retreat, n, place, out),
     }
 }

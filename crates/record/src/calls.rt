@@ -130,13 +130,22 @@ pub fn attack_call(
 
 pub fn retreat_call(g: Game, l: Line, pos: &mut [u8], nums: &Numbers, out: &mut Output) -> Game {
     let words = number::listed(l);
-    if words < 1 {
+    let cut = number::parted(l, words);
+    if cut < 1 {
         return game::what(g, out);
     }
     let size = page::within(g.size, pos);
     let list: &[u16] = nums;
-    let a = rules::retreat(&mut pos[..size], number::wide(nums[0]), &list[1..words]);
-    answers::retreated(game::called(g, 0), a, &list[0..words], &list[0..1], out)
+    let hex = number::wide(nums[0]);
+    let a = rules::retreat(&mut pos[..size], hex, &list[1..cut], &list[cut..words]);
+    answers::retreated(
+        game::called(g, 0),
+        a,
+        &list[0..cut],
+        &list[cut..words],
+        &list[0..1],
+        out,
+    )
 }
 
 pub fn losses_call(g: Game, l: Line, pos: &mut [u8], nums: &Numbers, out: &mut Output) -> Game {

@@ -11,6 +11,7 @@ use reading::rooms::Numbers;
 use reading::rooms::Room;
 use reading::words::ECHO;
 use reading::words::POSITION;
+use reading::words::RETREAT;
 
 // The words as numbers of base 256.
 const BUFFER: u64 = 0x627566666572;
@@ -26,8 +27,6 @@ const MOVE: u64 = 0x6d6f7665;
 const END: u64 = 0x656e64;
 
 const ATTACK: u64 = 0x61747461636b;
-
-const RETREAT: u64 = 0x72657472656174;
 
 const LOSSES: u64 = 0x6c6f73736573;
 

@@ -74,6 +74,15 @@ pub fn route(out: &mut Output, full: usize, hexes: &[u16]) -> usize {
     table::hexes(out, f, hexes)
 }
 
+// The hexes that stacks were pushed to, if any were.
+pub fn pushes(out: &mut Output, full: usize, hexes: &[u16]) -> usize {
+    if hexes.len() == 0 {
+        return full;
+    }
+    let f = page::text(out, full, b", pushes");
+    table::hexes(out, f, hexes)
+}
+
 // Map, units and desk of a position that is accepted.
 fn drawn(out: &mut Output, full: usize, p: &[u8], v: View, nationality: usize) -> usize
     requires { ⌜ Laid (now p) v ⌝ }

@@ -17,7 +17,7 @@ fn the_calls(out: &mut Output, full: usize) -> usize {
     let e = page::text(
         out,
         d,
-        b"retreat HEX HEX..          the units that owe in a hex go along a route\n",
+        b"retreat HEX HEX.. / HEX..  units that owe go along a route / where pushed friends go\n",
     );
     let f = page::text(out, e, b"losses UNIT..              an exchange is paid\n");
     let g = page::text(

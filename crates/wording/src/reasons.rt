@@ -2,13 +2,14 @@
 use crate::Call;
 use page::Output;
 
-// "step 2 ", "number 2 of the list ", or nothing where no place is named.
+// "step 2 ", "number 2 of the list ", "number 2 of route and pushes ", or nothing where no place is named.
 fn subject(out: &mut Output, full: usize, call: Call, place: usize) -> usize {
     if place == 0 {
         return full;
     }
     match call {
         Call::Attack | Call::Losses => listed(out, full, place),
+        Call::Retreat => sent(out, full, place),
         _ => step(out, full, place),
     }
 }
@@ -21,6 +22,12 @@ fn step(out: &mut Output, full: usize, place: usize) -> usize {
 fn listed(out: &mut Output, full: usize, place: usize) -> usize {
     let f = page::word(out, full, b"number ", place);
     page::text(out, f, b" of the list ")
+}
+
+// The places of a retreat count on through both of its lists.
+fn sent(out: &mut Output, full: usize, place: usize) -> usize {
+    let f = page::word(out, full, b"number ", place);
+    page::text(out, f, b" of route and pushes ")
 }
 
 // Wrong phase or stage.
@@ -58,7 +65,7 @@ fn out_of_range(out: &mut Output, full: usize, call: Call) -> usize {
             full,
             b"no such target or die, not 1 to 18 units, or a wrong scratch",
         ),
-        Call::Retreat => page::text(out, full, b"no such hex, or more than 3 steps"),
+        Call::Retreat => page::text(out, full, b"no such hex, or more than 3 steps or 9 pushes"),
         Call::Losses => page::text(out, full, b"not 1 to 18 units"),
         Call::Advance => page::text(out, full, b"no such unit or hex"),
         _ => page::text(out, full, b"a scratch of another length than the map's"),
@@ -143,12 +150,17 @@ fn plain(out: &mut Output, full: usize, n: usize) -> usize {
         14 => page::text(
             out,
             full,
-            b"the route is not legal, and there is one that is",
+            b"there is a vacant route: this is none, or pushes were sent",
         ),
         15 => page::text(
             out,
             full,
             b"the losses are short, or spare special infantry",
+        ),
+        17 => page::text(
+            out,
+            full,
+            b"only pushes serve, and route or pushes are not legal",
         ),
         _ => page::text(out, full, b"it is the last phase of the last turn"),
     }
