@@ -1,4 +1,5 @@
 pub mod Chains
 pub mod Follows
 pub mod Serves
+pub mod Find
 pub mod Fold

@@ -20,10 +20,11 @@ use Rattle.chains.specs.Chain.{Stands, rests, yields, leadsTo, leads, ha
 use Rattle.chains.specs.Series.{Land, landOf}
 use Rattle.chains.specs.Follows.{upTo, wrong, takes, follows, legalPushes}
 use Rattle.chains.specs.Serves.{endsIn, onWith, onOver, serves, pushesServe}
+use Rattle.chains.specs.Find.{pick, stepFor, pushOn, chainTo, still, entering, seekWith, seekOver, seekAt, seriesOf, seriesFor}
 
 -- 'unfolding pushing' opens all that a series is computed by
 unfoldable pub pushing : ℕ
-unfolding searching any isAt named owesAt forceOf apart firm bars stand rests yields leadsTo leads hasRest after landOf takes follows legalPushes endsIn onWith onOver serves pushesServe
+unfolding searching any isAt named owesAt forceOf apart firm bars stand rests yields leadsTo leads hasRest after landOf takes follows legalPushes endsIn onWith onOver serves pushesServe pick stepFor pushOn chainTo still entering seekWith seekOver seekAt seriesOf seriesFor
 pushing = 0
 
 -- a road of hexes 0 to 5, and hex 6 beside hex 1
@@ -86,6 +87,12 @@ pub far-off : serves road (held (1 ∷ []) (6 ∷ [])) 3 0 0 ≡ true
 unfolding pushing
 far-off = refl
 
+-- and which they are; a chain of three is found too
+pub found-off : (seriesOf road (held (1 ∷ []) (6 ∷ [])) 3 0 0 ≡ record { route = 1 ∷ 2 ∷ 3 ∷ []; pushes = 2 ∷ 3 ∷ 4 ∷ [] })
+    × (seriesOf road (held (1 ∷ 2 ∷ 3 ∷ []) (6 ∷ [])) 1 0 0 ≡ record { route = 1 ∷ []; pushes = 2 ∷ 3 ∷ 4 ∷ [] })
+unfolding pushing
+found-off = (refl, refl)
+
 -- a table for units 0 to 3
 abbrev pub fourOf : ℕ → ℕ → ℕ → ℕ → ℕ → ℕ
 fourOf a b c d zero = a
@@ -130,3 +137,8 @@ out-of-the-corner = (refl, refl, refl)
 pub corner-serves : (pushesServe crowded 0 0 1 ≡ true) × (pushesServe crowded 0 0 2 ≡ true)
 unfolding pushing
 corner-serves = (refl, refl)
+
+-- the stack is sent to hex 6
+pub corner-found : seriesFor crowded 0 0 1 ≡ record { route = 1 ∷ []; pushes = 6 ∷ [] }
+unfolding pushing
+corner-found = refl
