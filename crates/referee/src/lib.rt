@@ -97,10 +97,10 @@ pub extern "C" fn ia_attack(
 }
 
 #[no_mangle]
-pub extern "C" fn ia_retreat(pos: &mut [u8], hex: u32, route: &[u16]) -> u64
-    ensures { λ r. ⌜ Exported (now (pos .entry)) [] (verdict (now (pos .entry)) (retreat hex (now (route .entry))) []) r (now (pos .exit)) [] ⌝ }
+pub extern "C" fn ia_retreat(pos: &mut [u8], hex: u32, route: &[u16], pushes: &[u16]) -> u64
+    ensures { λ r. ⌜ Exported (now (pos .entry)) [] (verdict (now (pos .entry)) (retreat hex (now (route .entry)) (now (pushes .entry))) []) r (now (pos .exit)) [] ⌝ }
 {
-    pack_retreated(rules::retreat(pos, hex as usize, route))
+    pack_retreated(rules::retreat(pos, hex as usize, route, pushes))
 }
 
 #[no_mangle]

@@ -1,7 +1,7 @@
 -- Everything that is certain of this referee holds.
 -- Assumes nothing.
 use mathlib.Core.Path.{refl}
-use Rattle.retreat.proofs.Words.{group-right, destroyed-right, retreated-right, refused-right}
+use Rattle.retreat.proofs.Words.{group-right, destroyed-right, retreated-right, pushed-right}
 use Rattle.rules.specs.Order.{step}
 use Rattle.rules.specs.Referee.{Meets}
 use Rattle.rules.specs.Certain.{DemandOne, DemandTwo, Certain}
@@ -26,7 +26,7 @@ demand-two =
       group = group-right;
       destroyed = destroyed-right;
       retreated = retreated-right;
-      refused = refused-right;
+      pushed = pushed-right;
       keeps = stays-accepted;
       small = small-rulings;
       useless = four-useless;

@@ -1,8 +1,9 @@
--- A retreat goes on: the first group that owes is sent a legal route, or any where it is destroyed, and fewer units owe afterwards.
+-- A retreat goes on: the first group that owes is sent a legal route or series of pushes, or nothing where it is destroyed, and fewer
+-- units owe afterwards.
 -- Assumes nothing.
 use Prim.Native.Nat.{ℕ, _≤_, _<_}
 use mathlib.Core.Path.{_≡_, refl, sym, ap, subst, _∙_}
-use mathlib.Core.Bool.{true, false, not, cond}
+use mathlib.Core.Bool.{true, false}
 use mathlib.Core.List.{List, [], _∷_}
 use native.Mathlib.Omega.{arith}
 use lib.ListN.{getD, length, take}
@@ -11,8 +12,9 @@ use Rattle.position.specs.Board.{Board, board, nowhere}
 use Rattle.position.specs.Crowd.{owingHexes}
 use Rattle.position.specs.Shape.{In}
 use Rattle.position.specs.Effect.{changes}
+use Rattle.position.specs.Tally.{any}
 use Rattle.position.proofs.Shapes.{hexes-most}
-use Rattle.position.proofs.Tallies.{both-yes, either, tally-pos, tally-some}
+use Rattle.position.proofs.Tallies.{both-yes, either, not-both, tally-pos, tally-some}
 use Rattle.acceptance.specs.Accepted.{Accepted, Lawful}
 use Rattle.acceptance.specs.Broken.{broken-false}
 use Rattle.acceptance.proofs.Lawfuls.{standable-on}
@@ -20,27 +22,40 @@ use Rattle.acceptance.proofs.Owings.{owes}
 use Rattle.ruling.proofs.Meets.{pass, ruled}
 use Rattle.field.specs.Listed.{Charted}
 use Rattle.field.proofs.Lists.{sieve-at, sieve-long}
-use Rattle.routes.specs.Legal.{legal}
 use Rattle.routes.specs.Run.{LegalRoute}
 use Rattle.routes.specs.Search.{Searched, firstRoute, found, routeOf}
 use Rattle.routes.specs.declared.Found.{Found}
 use Rattle.routes.specs.declared.Found.the-variants.{Nothing, Route}
 use Rattle.routes.proofs.First.{first-right}
 use Rattle.routes.proofs.Legal.{legal-right}
+use Rattle.chains.specs.Series.{LegalSeries}
+use Rattle.chains.specs.Serves.{pushesServe}
+use Rattle.chains.proofs.Find.{find-right, series-charted, series-few}
+use Rattle.chains.proofs.Follows.{legal-pushes-right}
+use Rattle.shoves.specs.Group.{groupForce}
 use Rattle.aftermath.specs.Losses as Losses
 use Rattle.aftermath.specs.Stage.{thenOn}
-use Rattle.retreat.specs.Retreat.{doomChanges, doomed, groupForce, notLegal, retreatChanges, retreatRule}
+use Rattle.retreat.specs.Retreat.{doomed, hasRoute, hasSeries, leaveChanges, notPushed, notVacant, retreatRule, walksFrom}
 use Rattle.retreat.specs.Words.{Due}
-use Rattle.retreat.proofs.Groups.{any-route, spared-route, this-route}
 use Rattle.retreat.proofs.KeepGroup.{Owes, start-stands}
 use Rattle.retreat.proofs.KeepRetreat.{retreat-lightens}
 use Rattle.retreat.proofs.KeepRoute.{run-charted}
 use Rattle.retreat.proofs.Words.{passes-due}
 use Rattle.rules.specs.Order.{ruleOf}
 use Rattle.rules.specs.Order.Order.{retreat}
-use Rattle.rules.specs.Onward.{allOwing, firstOwing, left, retreatOnward, routeFor, sentRoute}
+use Rattle.rules.specs.Onward.{allOwing, firstOwing, left, pushedFor, pushesFor, retreatOnward, routeFor, sentRoute}
 use Rattle.rules.proofs.OnwardCall.{Goes, goes-met}
 use Rattle.rules.proofs.OnwardStage.{falls-then-on, left-retreats}
+
+-- what the two questions ask
+module _ (b : Board) (h : ℕ) where
+  has-found : hasRoute b h ≡ true → found (firstRoute b (groupForce b h) h (b .desk .owed)) ≡ true
+  unfolding hasRoute
+  has-found e = e
+
+  has-served : hasSeries b h ≡ true → pushesServe b (groupForce b h) h (b .desk .owed) ≡ true
+  unfolding hasSeries
+  has-served e = e
 
 -- the first unit that owes, where a hex owes
 module _ (b : Board) (some : 1 ≤ owingHexes b) where
@@ -69,58 +84,78 @@ sent-same n (x ∷ y ∷ []) e l = ap (λ (k : ℕ). take k (x ∷ y ∷ nowhere
 sent-same n (x ∷ y ∷ z ∷ []) e l = ap (λ (k : ℕ). take k (x ∷ y ∷ z ∷ [])) (sym e)
 sent-same n (x ∷ y ∷ z ∷ w ∷ route) e l = absurd (omega arith)
 
--- what a group is sent: a legal route, or none where none was found
-data Given (b : Board) (f h n : ℕ) (y : Found) (route : List ℕ) : Type 0 where
-  legally : LegalRoute b f h n route → Given b f h n y route
-  bare : found y ≡ false → route ≡ [] → Given b f h n y route
-
-given : (b : Board) (f h n : ℕ) → n ≤ 3 → (y : Found) → Searched b f h n y → Given b f h n y (sentRoute n y)
+-- the route that was found, as it is sent
+sent-legally : (b : Board) (f h n : ℕ) → n ≤ 3 → (y : Found) → found y ≡ true → Searched b f h n y → LegalRoute b f h n (sentRoute n y)
 unfolding sentRoute
-given b f h n l (Route x y z) s =
+sent-legally b f h n l (Route x y z) t s =
     let k = s .1 .legal in
     let e : s .0 ≡ sentRoute n (Route x y z) = sym (sent-same n (s .0) (k .long) l) ∙ ap (sentRoute n) (s .2) in
-    legally (subst (λ (r : List ℕ). LegalRoute b f h n r) e k)
-given b f h n l Nothing s = bare refl refl
+    subst (λ (r : List ℕ). LegalRoute b f h n r) e k
+sent-legally b f h n l Nothing t s = not-both false t refl
 
-module _ {b : Board} {f h n : ℕ} (l : n ≤ 3) {y : Found} {route : List ℕ} where
-  given-short : Given b f h n y route → length route ≤ 3
-  given-short (legally k) = omega (arith, k .long)
-  given-short (bare e q) = rw q (omega arith)
+-- what a group is sent: a legal route, a legal series of pushes, or nothing where neither exists
+data Given (b : Board) (h : ℕ) (route pushes : List ℕ) : Type 0 where
+  vacantly : hasRoute b h ≡ true → LegalRoute b (groupForce b h) h (b .desk .owed) route → pushes ≡ [] → Given b h route pushes
+  pushing : hasRoute b h ≡ false → LegalSeries b (groupForce b h) h (b .desk .owed) route pushes → Given b h route pushes
+  bare : hasRoute b h ≡ false → hasSeries b h ≡ false → route ≡ [] → pushes ≡ [] → Given b h route pushes
 
-  given-charted : Given b f h n y route → Charted b route
-  given-charted (legally k) = run-charted (k .run)
-  given-charted (bare e q) = rw q (λ j i. absurd (omega arith))
+module _ {b : Board} (h : ℕ) (l : b .desk .owed ≤ 3) {route pushes : List ℕ} where
+  given-short : Given b h route pushes → (length route ≤ 3) × (length pushes ≤ 9)
+  given-short (vacantly e k q) = (omega (arith, k .long), rw q (omega arith))
+  given-short (pushing e k) = (omega (arith, k .long), series-few l k)
+  given-short (bare e f q r) = (rw q (omega arith), rw r (omega arith))
 
-  given-legal : Given b f h n y route → found y ≡ true → legal b f h n route ≡ true
-  given-legal (legally k) e = legal-right b f h n route .1 k
-  given-legal (bare q r) e = absurd (let z : _≡_ {A = ℕ} 0 1 = cc in omega arith)
+  given-charted : Given b h route pushes → Charted b route × Charted b pushes
+  given-charted (vacantly e k q) = (run-charted (k .run), rw q (λ j i. absurd (omega arith)))
+  given-charted (pushing e k) = series-charted k
+  given-charted (bare e f q r) = (rw q (λ j i. absurd (omega arith)), rw r (λ j i. absurd (omega arith)))
+
+  neither-doomed : hasRoute b h ≡ false → hasSeries b h ≡ false → doomed b h ≡ true
+  unfolding doomed
+  neither-doomed e f = simp (e, f) (either (any (walksFrom b h) (b .units .count)) (λ w. simp w) (λ w. simp w))
+
+  -- it is refused neither by 14 nor by 17
+  given-vacant : Given b h route pushes → notVacant b h route pushes ≡ false
+  unfolding notVacant
+  given-vacant (vacantly e k q) =
+      simp (e, q, legal-right b (groupForce b h) h (b .desk .owed) route .1 k) (either (doomed b h) (λ d. simp d) (λ d. simp d))
+  given-vacant (pushing e k) = simp e (either (doomed b h) (λ d. simp d) (λ d. simp d))
+  given-vacant (bare e f q r) = simp e (either (doomed b h) (λ d. simp d) (λ d. simp d))
+
+  given-pushed : Given b h route pushes → notPushed b h route pushes ≡ false
+  unfolding notPushed
+  given-pushed (vacantly e k q) = simp e (either (doomed b h) (λ d. simp d) (λ d. simp d))
+  given-pushed (pushing e k) =
+      simp (e, legal-pushes-right b (groupForce b h) h (b .desk .owed) route pushes .1 k) (either (doomed b h) (λ d. simp d) (λ d. simp d))
+  given-pushed (bare e f q r) = simp (neither-doomed e f)
 
 module _ {b : Board} (l : Lawful b) (most : b .map .hexes ≤ nowhere) (e : b .desk .stage ≡ 1) (h u : ℕ) (m : Owes b h u) where
   abbrev sent : List ℕ
   sent = routeFor b h
 
+  abbrev shoved : List ℕ
+  shoved = pushesFor b h
+
   owed : In 1 (b .desk .owed) 3
   owed = l .stage .during .retreats e .owed
 
-  is-given :
-      Given b (groupForce b h) h (b .desk .owed) (firstRoute b (groupForce b h) h (b .desk .owed)) sent
-  unfolding routeFor
+  is-given : Given b h sent shoved
+  unfolding routeFor pushesFor pushedFor
   is-given =
-      given b (groupForce b h) h (b .desk .owed) (owed .high) (firstRoute b (groupForce b h) h (b .desk .owed))
-      (first-right b (groupForce b h) h (b .desk .owed))
+      let f = groupForce b h in
+      let n = b .desk .owed in
+      either (hasRoute b h)
+      (λ t. simp t (vacantly t (sent-legally b f h n (owed .high) (firstRoute b f h n) (has-found b h t) (first-right b f h n)) refl))
+      (λ t.
+      either (hasSeries b h)
+      (λ s. simp (t, s) (pushing t (find-right b f h n (has-served b h s))))
+      (λ s. simp (t, s) (bare t s refl refl)))
 
-  -- it is not refused by 14
-  sent-legal : notLegal b h sent ≡ false
-  sent-legal =
-      either (doomed b h)
-      (λ d. any-route b h sent d)
-      (λ d. this-route b h sent d ∙ ap not (given-legal (owed .high) is-given (spared-route b h d)))
-
-  retreat-falls :
-      left (changes b (thenOn b (cond (doomed b h) (doomChanges b h) (retreatChanges b h sent)))) < left b
+  retreat-falls : left (changes b (thenOn b (leaveChanges b h sent shoved))) < left b
   retreat-falls =
-      let xs = cond (doomed b h) (doomChanges b h) (retreatChanges b h sent) in
-      let o = retreat-lightens l most e h u m sent sent-legal in
+      let xs = leaveChanges b h sent shoved in
+      let g = is-given in
+      let o = retreat-lightens l most e h u m sent shoved (given-vacant h (owed .high) g) (given-pushed h (owed .high) g) in
       let k = left-retreats b e in
       falls-then-on xs (o .since) (omega arith) (λ _. omega arith)
       (λ _. omega (arith, left-retreats (changes b xs) (o .stage), o .fewer))
@@ -132,7 +167,7 @@ module _ {p : List ℕ} (a : Accepted p) (e : board p .desk .stage ≡ 1) where
   some : 1 ≤ owingHexes (board p)
   some = a .lawful .stage .during .retreats e .some
 
-  due : Due p start (routeFor (board p) start)
+  due : Due p start (routeFor (board p) start) (pushesFor (board p) start)
   due =
       let b = board p in
       let m = leads b some in
@@ -142,12 +177,14 @@ module _ {p : List ℕ} (a : Accepted p) (e : board p .desk .stage ≡ 1) where
       record {
         whole = a;
         stage = e;
-        there = standable-on b start (start-stands (a .lawful) start (leader b some) (m .0) (m .1));
+        there = standable-on b start (start-stands (a .lawful) start (leader b some) m);
         unit = leader b some;
         counted = m .0;
         owes = m .1;
-        short = given-short l g;
-        charted = given-charted l g;
+        short = given-short start l g .0;
+        few = given-short start l g .1;
+        charted = given-charted start l g .0;
+        pushed = given-charted start l g .1;
       }
 
   pub retreat-goes : Goes p (record { order = retreatOnward (board p); lent = [] })
@@ -157,9 +194,12 @@ module _ {p : List ℕ} (a : Accepted p) (e : board p .desk .stage ≡ 1) where
       let m = leads b some in
       let most : b .map .hexes ≤ nowhere = omega (arith, hexes-most (a .shaped)) in
       let route = routeFor b start in
-      goes-met (a .shaped) (record { order = retreat start route; lent = [] })
-      (thenOn b (cond (doomed b start) (doomChanges b start) (retreatChanges b start route)))
+      let pushes = pushesFor b start in
+      let g = is-given (a .lawful) most e start (leader b some) m in
+      let l = owed (a .lawful) most e start (leader b some) m .high in
+      goes-met (a .shaped) (record { order = retreat start route pushes; lent = [] })
+      (thenOn b (leaveChanges b start route pushes))
       (pass (broken-false a)
       (passes-due due [] _ _ _ _
-      (pass (sent-legal (a .lawful) most e start (leader b some) m) (ruled refl))))
+      (pass (given-vacant start l g) (pass (given-pushed start l g) (ruled refl)))))
       (retreat-falls (a .lawful) most e start (leader b some) m)

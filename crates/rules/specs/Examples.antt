@@ -12,7 +12,9 @@ use Rattle.field.specs.Listed.{sieve}
 use Rattle.routes.specs.Examples.{searching}
 use Rattle.clock.specs.Clock.{isLast}
 use Rattle.aftermath.specs.Losses.{owes}
-use Rattle.retreat.specs.Retreat.{group, groupForce}
+use Rattle.chains.specs.Examples.{pushing}
+use Rattle.shoves.specs.Group.{group, groupForce}
+use Rattle.retreat.specs.Retreat.{hasRoute, hasSeries}
 use Rattle.rules.specs.Order.Order.{close, endPhase, losses, retreat}
 use Rattle.rules.specs.Onward.{
   allOwing,
@@ -22,6 +24,7 @@ use Rattle.rules.specs.Onward.{
   onward,
   over,
   phasesLeft,
+  pushesFor,
   retreatOnward,
   routeFor,
   sentRoute,
@@ -51,8 +54,8 @@ whole = refl
 -- unit 0 retreats from hex 2 to hex 1, which unit 1 has left
 pub orders :
     map (λ p. onward (board p)) (roster ∷ retreating ∷ losing ∷ advancing ∷ [])
-    ≡ endPhase ∷ retreat 2 (1 ∷ []) ∷ losses (0 ∷ []) ∷ close ∷ []
-unfolding computing searching sieve owes group groupForce allOwing firstOwing sentRoute routeFor retreatOnward onward
+    ≡ endPhase ∷ retreat 2 (1 ∷ []) [] ∷ losses (0 ∷ []) ∷ close ∷ []
+unfolding computing searching pushing sieve owes group groupForce hasRoute hasSeries allOwing firstOwing sentRoute routeFor pushesFor retreatOnward onward
 orders = refl
 
 pub ends : map (λ p. over (board p)) (roster ∷ retreating ∷ lastPhase ∷ []) ≡ false ∷ false ∷ true ∷ []

@@ -20,7 +20,9 @@ use Rattle.routes.specs.Search.{firstRoute}
 use Rattle.clock.specs.Clock.{isLast}
 use Rattle.march.specs.EndPhase.{clock}
 use Rattle.aftermath.specs.Losses.{owes}
-use Rattle.retreat.specs.Retreat.{groupForce}
+use Rattle.chains.specs.Find.{Sought, seriesFor}
+use Rattle.shoves.specs.Group.{groupForce}
+use Rattle.retreat.specs.Retreat.{hasRoute, hasSeries}
 use Rattle.rules.specs.Order.{Order, step}
 use Rattle.rules.specs.Order.Order.{endPhase, retreat, losses, close}
 
@@ -41,13 +43,24 @@ unfoldable pub sentRoute : ℕ → Found → List ℕ
 sentRoute n (Route x y z) = take n (x ∷ y ∷ z ∷ [])
 sentRoute n Nothing = []
 
--- "If none exists, .. the group is destroyed whatever route was sent": the group of hex h is sent the first legal route, or none
+-- a series of pushes for the group of hex h
+unfoldable pub pushedFor : Board → ℕ → Sought
+pushedFor b h = seriesFor b (groupForce b h) h (b .desk .owed)
+
+-- "If neither exists .. the group is destroyed whatever was sent": the group of hex h is sent the first vacant route, else a series of
+-- pushes, else nothing
 unfoldable pub routeFor : Board → ℕ → List ℕ
-routeFor b h = sentRoute (b .desk .owed) (firstRoute b (groupForce b h) h (b .desk .owed))
+routeFor b h =
+    cond (hasRoute b h)
+    (sentRoute (b .desk .owed) (firstRoute b (groupForce b h) h (b .desk .owed)))
+    (cond (hasSeries b h) (pushedFor b h .route) [])
+
+unfoldable pub pushesFor : Board → ℕ → List ℕ
+pushesFor b h = cond (hasRoute b h) [] (cond (hasSeries b h) (pushedFor b h .pushes) [])
 
 -- the order that a retreat is sent: the first group goes
 unfoldable pub retreatOnward : Board → Order
-retreatOnward b = retreat (firstOwing b) (routeFor b (firstOwing b))
+retreatOnward b = retreat (firstOwing b) (routeFor b (firstOwing b)) (pushesFor b (firstOwing b))
 
 -- "wrong stage (move, attack, end phase 0; retreat 1; losses 2; advance, close 3)": an order for each stage, and losses that name all
 unfoldable pub onward : Board → Order

@@ -20,8 +20,8 @@ pub data Order : Type 0 where
   endPhase : Order
   -- target, units, die
   attack : ℕ → List ℕ → ℕ → Order
-  -- hex and route
-  retreat : ℕ → List ℕ → Order
+  -- hex, route and pushes
+  retreat : ℕ → List ℕ → List ℕ → Order
   losses : List ℕ → Order
   -- unit and hex
   advance : ℕ → ℕ → Order
@@ -32,7 +32,7 @@ ruleOf b (supply n) long = supplyRule b n long
 ruleOf b (move u path) long = moveRule b u path
 ruleOf b endPhase long = endRule b long
 ruleOf b (attack target units die) long = attackRule b target units die long
-ruleOf b (retreat hex route) long = retreatRule b hex route
+ruleOf b (retreat hex route pushes) long = retreatRule b hex route pushes
 ruleOf b (losses units) long = lossesRule b units
 ruleOf b (advance unit hex) long = advanceRule b unit hex
 ruleOf b close long = closeRule b

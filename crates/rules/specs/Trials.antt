@@ -10,19 +10,37 @@ use Rattle.position.specs.Effect.{upd, reroute, unfilled, change, changes}
 use Rattle.acceptance.specs.Examples.{computing}
 use Rattle.ruling.specs.Verdict.{judged, outcome, along}
 use Rattle.ruling.specs.Secret.{Sent}
-use Rattle.field.specs.Listed.{offMap, onMapAll, sieve}
+use Rattle.field.specs.Listed.{offMap, onMapAll, onMapFrom, sieve}
 use Rattle.routes.specs.Examples.{searching}
 use Rattle.supply.specs.Supply.{supplyRule}
 use Rattle.clock.specs.Clock.{nextClock, isLast, judgesSupply}
 use Rattle.march.specs.EndPhase.{rested, restAll, supplyChanges, endChanges, endRule}
 use Rattle.aftermath.specs.Stage.{passesOn, thenOn}
-use Rattle.retreat.specs.Retreat.{group, groupForce, walksFrom, doomed, notLegal, endOf, leaves, goesOff, retreatChanges, doomChanges, retreatValues, retreatRule}
+use Rattle.chains.specs.Examples.{pushing}
+use Rattle.shoves.specs.Group.{group, groupForce}
+use Rattle.retreat.specs.Retreat.{
+  walksFrom,
+  hasRoute,
+  hasSeries,
+  doomed,
+  notVacant,
+  notPushed,
+  endOf,
+  leaves,
+  goesOff,
+  noteOf,
+  retreatChanges,
+  doomChanges,
+  leaveChanges,
+  retreatValues,
+  retreatRule,
+}
 use Rattle.rules.specs.Order.{Order, ruleOf}
 use Rattle.rules.specs.Order.Order.{supply, endPhase, retreat}
 
 -- 'unfolding playing' opens what these calls compute by
 unfoldable pub playing : ℕ
-unfolding computing searching with without faced setUnit setDesk setHex setMarks setRole setClock setStage setRouteHex setRoute clearRoutes make makes upd reroute unfilled change changes judged outcome along offMap onMapAll sieve supplyRule nextClock isLast judgesSupply rested restAll supplyChanges endChanges endRule passesOn thenOn group groupForce walksFrom doomed notLegal endOf leaves goesOff retreatChanges doomChanges retreatValues retreatRule ruleOf
+unfolding computing searching pushing with without faced setUnit setDesk setHex setMarks setRole setClock setStage setRouteHex setRoute clearRoutes make makes upd reroute unfilled change changes judged outcome along offMap onMapAll onMapFrom sieve supplyRule nextClock isLast judgesSupply rested restAll supplyChanges endChanges endRule passesOn thenOn group groupForce walksFrom hasRoute hasSeries doomed notVacant notPushed endOf leaves goesOff noteOf retreatChanges doomChanges leaveChanges retreatValues retreatRule ruleOf
 playing = 0
 
 -- on the roster's position: the end of the phase, with a scratch of three bytes; and the supply of a nationality that there is not
@@ -62,11 +80,11 @@ twoOwe = above ++ (units 1 1 2 ++ (retreats ++ replicate 48 255))
 
 -- the first stack goes to hex 0; then unit 1 alone owes, and the road from hex 1 to hex 0 is written
 abbrev pub firstGoes : Sent Order
-firstGoes = record { order = retreat 1 (0 ∷ []); lent = [] }
+firstGoes = record { order = retreat 1 (0 ∷ []) []; lent = [] }
 
 abbrev pub oneOwes : List ℕ
 oneOwes = above ++ (units 0 0 2 ++ (retreats ++ (1 ∷ 0 ∷ 0 ∷ 0 ∷ replicate 44 255)))
 
 -- the second stack goes to hex 3
 abbrev pub secondGoes : Sent Order
-secondGoes = record { order = retreat 2 (3 ∷ []); lent = [] }
+secondGoes = record { order = retreat 2 (3 ∷ []) []; lent = [] }

@@ -14,7 +14,7 @@ use Rattle.ruling.specs.Verdict.{Ruling, Outcome}
 use Rattle.ruling.specs.Verdict.Ruling.{refused, accepted}
 use Rattle.ruling.specs.Secret.{Sent, Referee, OneStrength, RunsAlike}
 use Rattle.aftermath.specs.Stage.{thenOn}
-use Rattle.retreat.specs.Retreat.{group}
+use Rattle.shoves.specs.Group.{group}
 use Rattle.rules.specs.Order.{Order, verdict, step}
 use Rattle.rules.specs.Order.Order.{supply, move, endPhase, attack, retreat, losses, advance, close}
 use Rattle.rules.specs.Referee.{Meets}
@@ -38,7 +38,7 @@ struckOff p h (accepted vs) = makes p (thenOn (board p) (map (λ u. assigned u 0
 
 -- a retreat's outcome, if no route is written yet; else the group is struck off
 abbrev pub firstOnly : List ℕ → Order → Outcome → Outcome
-firstOnly p (retreat h route) o =
+firstOnly p (retreat h route pushes) o =
     cond (leb 1 (routes (board p))) (record { answer = o .answer; position = struckOff p h (o .answer); lent = o .lent }) o
 firstOnly p (supply n) o = o
 firstOnly p (move u path) o = o

@@ -44,10 +44,10 @@ pub fn attack(p: &mut [u8], target: usize, units: &[u16], die: usize, scratch: &
 }
 
 // The units that owe in a hex go off along a route, or are destroyed.
-pub fn retreat(p: &mut [u8], hex: usize, route: &[u16]) -> Retreated
-    ensures { λ r. ⌜ Met (now (p .entry)) [] (verdict (now (p .entry)) (retreat hex (now (route .entry))) []) (retreatedAs r) (now (p .exit)) [] ⌝ }
+pub fn retreat(p: &mut [u8], hex: usize, route: &[u16], pushes: &[u16]) -> Retreated
+    ensures { λ r. ⌜ Met (now (p .entry)) [] (verdict (now (p .entry)) (retreat hex (now (route .entry)) (now (pushes .entry))) []) (retreatedAs r) (now (p .exit)) [] ⌝ }
 {
-    retreat::retreat(p, hex, route)
+    retreat::retreat(p, hex, route, pushes)
 }
 
 // The units of a list are the losses of an exchange.
