@@ -39,6 +39,7 @@ use Rattle.shoves.proofs.Standing.{
 pub held-by : (b : Board) (z w : ℕ) → w < b .units .count → b .units .hex w ≡ z → vacant (scene b) z ≡ false
 held-by b z w l e = either (vacant (scene b) z) (λ v. absurd (vacant-none b z w v l e)) (λ v. v)
 
+-- a refuge is vacant and bears
 pub refuge-parts : (b : Board) (f z : ℕ) → refuge b f z ≡ true → (vacant (scene b) z ≡ true) × (bears b f z ≡ true)
 unfolding refuge
 refuge-parts b f z e = both-yes (vacant (scene b) z) (bears b f z) e
@@ -71,6 +72,7 @@ module _ (b : Board) (f a z : ℕ) where
               is-light b f w (record { own = c .own w l s; kind = c .kind w l s; role = c .role w l s });
         })
 
+    -- every unit of a loose hex can be pushed
     light-there : IsLoose b f a z → (w : ℕ) → w < b .units .count → b .units .hex w ≡ z → Light b f w
     light-there i w l e = light-is b f w (i .light w l (apart-here b a z w n e))
 
@@ -91,6 +93,7 @@ module _ (b : Board) (f a z : ℕ) where
 abbrev pub AllHeld : Board → List ℕ → Type 0
 AllHeld b used = (w : ℕ) → named used w ≡ true → vacant (scene b) w ≡ false
 
+-- and one more of them
 pub held-more : (b : Board) (h : ℕ) (used : List ℕ) → AllHeld b used → vacant (scene b) h ≡ false → AllHeld b (h ∷ used)
 held-more b h used k v w e =
     same-or h w (λ q. ap (vacant (scene b)) (sym q) ∙ v) (λ n. k w (sym (named-past h used w n) ∙ e))
@@ -101,6 +104,7 @@ unfolding leadsTo
 leads-not t (At z) n = either (t z) (λ e. absurd (n z refl e)) (λ e. e)
 leads-not t Off n = refl
 
+-- and where it leads to one hex
 leads-at : (t : ℕ → Bool) (x : Beside) (z : ℕ) → x ≡ At z → leadsTo t x ≡ t z
 unfolding leadsTo
 leads-at t x z e = simp e
@@ -121,9 +125,11 @@ module _ (b : Board) (f a : ℕ) where
   off used z u n e = not-both (named used z) (ap (named used) e ∙ u) n
 
   module _ (used : List ℕ) (h : ℕ) where
+    -- whether the stack in hex h has a vacant place in direction d
     abbrev places : ℕ → Bool
     places d = leadsTo (rests (stand b f a) used) (next (b .map) h d)
 
+    -- without a refuge it has none at all, and the other way round
     none-rests : named used a ≡ true → NoRefuge b f h → hasRest (next (b .map)) (stand b f a) used h ≡ false
     unfolding hasRest
     none-rests u n =
