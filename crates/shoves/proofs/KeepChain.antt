@@ -236,12 +236,12 @@ loose-from Loose e = refl
 
 -- where a stack may go, and which it may push
 module _ (s : Stands) (used : List ℕ) (z : ℕ) where
-  rests-free : rests s used z ≡ true → (s z ≡ Free) × (named used z ≡ false)
+  pub rests-free : rests s used z ≡ true → (s z ≡ Free) × (named used z ≡ false)
   unfolding rests
   rests-free e =
       let i = both-yes (isFree (s z)) (not (named used z)) e in (free-from (s z) (i .0), not-true (named used z) (i .1))
 
-  yields-loose : yields s used z ≡ true → (s z ≡ Loose) × (named used z ≡ false)
+  pub yields-loose : yields s used z ≡ true → (s z ≡ Loose) × (named used z ≡ false)
   unfolding yields
   yields-loose e =
       let i = both-yes (isLoose (s z)) (not (named used z)) e in (loose-from (s z) (i .0), not-true (named used z) (i .1))

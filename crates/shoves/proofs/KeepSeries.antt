@@ -43,7 +43,7 @@ after-step {o} {b} {c} {d} {f} {a} {x} s y =
     on w l = omega (arith, s .fixed .count)
 
 -- pushes do not touch the group
-pushes-owes : {o b c : Board} {f : ℕ} → Pushes o b f c → (a w : ℕ) → w < b .units .count → owesAt c a w ≡ owesAt b a w
+pub pushes-owes : {o b c : Board} {f : ℕ} → Pushes o b f c → (a w : ℕ) → w < b .units .count → owesAt c a w ≡ owesAt b a w
 unfolding owesAt
 pushes-owes {b = b} x a w l =
     same-or (b .units .role w) 1
@@ -71,7 +71,7 @@ pushes-own {b = b} a s m w l e =
     force-by (s .fixed) w ∙ m w k (sym (pushes-owes s a w k) ∙ e)
 
 -- the hex entered is free once its stack has gone elsewhere
-emptied : (s : Stands) (x y : ℕ) → (x ≡ y → ⊥) → after s x y x ≡ Free
+pub emptied : (s : Stands) (x y : ℕ) → (x ≡ y → ⊥) → after s x y x ≡ Free
 unfolding after
 emptied s x y n = simp (ne-eqb x y n, eq-eqb x x refl)
 

@@ -76,10 +76,12 @@ module _
       (sieve-names t (b .units .count))
 
   -- a unit of the group is destroyed or owes in hex x now
-  lost : (w : ℕ) → w < b .units .count → owesAt b a w ≡ true → supply w ≡ true → (moved .units .hex w ≡ nowhere) × (moved .units .role w ≡ 0)
+  lost :
+      (w : ℕ) → w < b .units .count → owesAt b a w ≡ true → supply w ≡ true
+      → (moved .units .hex w ≡ nowhere) × (moved .units .role w ≡ 0)
   lost w l e k = going .lost w l e k (named-nil w)
 
-  went : (w : ℕ) → w < b .units .count → owesAt b a w ≡ true → supply w ≡ false → owesAt moved x w ≡ true
+  pub went : (w : ℕ) → w < b .units .count → owesAt b a w ≡ true → supply w ≡ false → owesAt moved x w ≡ true
   went w l e k =
       let y = going .went w l e k (named-nil w) in
       owes moved w x (y .1 ∙ owes-role b w a e) (y .0)

@@ -9,3 +9,5 @@ pub mod Standing
 pub mod KeepChain
 pub mod KeepStep
 pub mod KeepSeries
+pub mod PlayedChain
+pub mod Played

@@ -38,6 +38,16 @@ light-is b f u e =
       role = λ z. not-both (eqb (b .units .role u) 1) (eq-eqb (b .units .role u) 1 z) (j .1);
     }
 
+-- such a unit is not firm
+pub is-light : (b : Board) (f u : ℕ) → Light b f u → firm b f u ≡ false
+unfolding firm
+is-light b f u l =
+    simp (
+      eq-eqb (forceOf b u) f (l .own),
+      ne-eqb (b .units .kind u) supplyKind (l .kind),
+      ne-eqb (b .units .role u) 1 (l .role),
+    )
+
 pub firm-same : {b c : Board} (f u : ℕ) → Fixed b c → c .units .role u ≡ b .units .role u → firm c f u ≡ firm b f u
 unfolding firm
 firm-same f u x e = simp (force-by x u, ap (λ (q : ℕ → ℕ). q u) (x .kind), e)
