@@ -57,6 +57,11 @@ module _ (b : Board) (h : ℕ) where
   unfolding hasSeries
   has-served e = e
 
+  -- where neither exists the group is doomed
+  neither-doomed : hasRoute b h ≡ false → hasSeries b h ≡ false → doomed b h ≡ true
+  unfolding doomed
+  neither-doomed e f = simp (e, f) (either (any (walksFrom b h) (b .units .count)) (λ w. simp w) (λ w. simp w))
+
 -- the first unit that owes, where a hex owes
 module _ (b : Board) (some : 1 ≤ owingHexes b) where
   abbrev leader : ℕ
@@ -110,10 +115,6 @@ module _ {b : Board} (h : ℕ) (l : b .desk .owed ≤ 3) {route pushes : List �
   given-charted (pushing e k) = series-charted k
   given-charted (bare e f q r) = (rw q (λ j i. absurd (omega arith)), rw r (λ j i. absurd (omega arith)))
 
-  neither-doomed : hasRoute b h ≡ false → hasSeries b h ≡ false → doomed b h ≡ true
-  unfolding doomed
-  neither-doomed e f = simp (e, f) (either (any (walksFrom b h) (b .units .count)) (λ w. simp w) (λ w. simp w))
-
   -- it is refused neither by 14 nor by 17
   given-vacant : Given b h route pushes → notVacant b h route pushes ≡ false
   unfolding notVacant
@@ -127,7 +128,7 @@ module _ {b : Board} (h : ℕ) (l : b .desk .owed ≤ 3) {route pushes : List �
   given-pushed (vacantly e k q) = simp e (either (doomed b h) (λ d. simp d) (λ d. simp d))
   given-pushed (pushing e k) =
       simp (e, legal-pushes-right b (groupForce b h) h (b .desk .owed) route pushes .1 k) (either (doomed b h) (λ d. simp d) (λ d. simp d))
-  given-pushed (bare e f q r) = simp (neither-doomed e f)
+  given-pushed (bare e f q r) = simp (neither-doomed b h e f)
 
 module _ {b : Board} (l : Lawful b) (most : b .map .hexes ≤ nowhere) (e : b .desk .stage ≡ 1) (h u : ℕ) (m : Owes b h u) where
   abbrev sent : List ℕ
