@@ -48,11 +48,16 @@ uint64_t ia_attack(uint8_t *pos, size_t pos_len, uint32_t target, const uint16_t
                    uint8_t *scratch, size_t scratch_len);
 
 /* In stage 1 the units that owe in a hex go together along a route of as many hexes as are owed: over unblocked sides, into vacant
- * unprohibited land or coast outside Enemy zones, ending as far from the start as they are many. If there is no such route, or only
- * supply units owe there, the group is destroyed whatever route was sent.
- * Refusals in order: 1; 3 a route of more than 3; 3 no such hex; 3 at the first number that is no hex, with its place; 2 wrong stage;
- * 4 nobody owes there; 14 the route is not legal though one exists. */
-uint64_t ia_retreat(uint8_t *pos, size_t pos_len, uint32_t hex, const uint16_t *route, size_t route_len);
+ * unprohibited land or coast outside Enemy zones, ending as far from the start as they are many. Pushes are then not sent: pushes_len
+ * is 0. If there is no such route, the group may go through hexes of its own force and push the stacks there out of its road. The
+ * pushes are the hexes that these go to, step by step: for a step into a held hex where the stack there goes; if that hex is held too,
+ * where that stack goes, and so on until one is vacant; for a step into a vacant hex none. docs/CALLS.md says which pushes are legal.
+ * If neither exists, or only supply units owe there, the group is destroyed whatever was sent.
+ * Refusals in order: 1; 3 a route of more than 3; 3 pushes of more than 9; 3 no such hex; 3 at the first number that is no hex, with
+ * its place, which counts on through route and pushes; 2 wrong stage; 4 nobody owes there; 14 a vacant route exists, and the route is
+ * none or pushes were sent; 17 only pushes serve, and route and pushes are not legal together. */
+uint64_t ia_retreat(uint8_t *pos, size_t pos_len, uint32_t hex, const uint16_t *route, size_t route_len, const uint16_t *pushes,
+                    size_t pushes_len);
 
 /* In stage 2 units of a list of 1 to 18 are the losses of an exchange: they are destroyed, and the survivors may advance.
  * Refusals in order: 1; 3 the list's length; 3 at the first number that is no unit, with its place; 2 wrong stage; then for each unit
