@@ -3,7 +3,7 @@
 use Prim.Native.Nat.{ℕ, _+_, _≤_, _<_}
 use mathlib.Core.Path.{_≡_, refl, sym, ap, _∙_}
 use mathlib.Core.Bool.{Bool, true, false}
-use mathlib.Core.List.{List, [], _∷_, map}
+use mathlib.Core.List.{[], map}
 use native.Mathlib.Omega.{arith}
 use lib.Dec.{eqb}
 use lib.ListN.{getD}
@@ -16,7 +16,7 @@ use Rattle.position.specs.Change.Change.{destroyed}
 use Rattle.position.specs.Effect.{changes}
 use Rattle.position.proofs.Crowds.{holders-is}
 use Rattle.position.proofs.Tallies.{but, but-other, either, equals, equals-is, equals-yes, not-both, same-or, tally-but-hit, tally-le, tally-pos}
-use Rattle.acceptance.specs.Accepted.{Lawful, MappedOk}
+use Rattle.acceptance.specs.Accepted.{Lawful}
 use Rattle.acceptance.proofs.Owings.{owes, owes-hex, owes-role, owing-less}
 use Rattle.acceptance.proofs.Since.{Since}
 use Rattle.field.specs.Scene.{scene}

@@ -2,8 +2,8 @@
 -- Assumes nothing.
 use Prim.Native.Nat.{ℕ, _+_, _-_, _≤_, _<_}
 use mathlib.Core.Path.{_≡_, refl, sym, ap, fun-ext, _∙_}
-use mathlib.Core.Bool.{false, true, not, cond, _&&_}
-use mathlib.Core.List.{List, []}
+use mathlib.Core.Bool.{false, true, not, _&&_}
+use mathlib.Core.List.{List}
 use native.Mathlib.Omega.{arith}
 use lib.Dec.{eqb, leb, ltb}
 use lib.ListN.{getD, length}
@@ -16,7 +16,7 @@ use Rattle.position.specs.Tally.{any, tally}
 use Rattle.position.specs.Change.Change.{routed}
 use Rattle.position.specs.Effect.{change, changes}
 use Rattle.position.proofs.Shapes.{hexes-most}
-use Rattle.position.proofs.Tallies.{any-some, both-yes, either, not-both, tally-some}
+use Rattle.position.proofs.Tallies.{any-some, both-yes, either, tally-some}
 use Rattle.acceptance.specs.Accepted.{Accepted, Lawful, StageOk}
 use Rattle.acceptance.specs.Broken.{broken}
 use Rattle.acceptance.proofs.Carries.{changes-then, fixed-change, standable-by}

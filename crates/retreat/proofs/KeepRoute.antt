@@ -6,14 +6,13 @@ use mathlib.Core.Bool.{true, not}
 use mathlib.Core.List.{List, _∷_}
 use native.Mathlib.Omega.{arith}
 use native.Mathlib.Numerals.{add-one}
-use borrow.Author.Tests.{ne-eqb}
 use lib.ListN.{getD, length}
 use Rattle.position.specs.Board.{Board, nowhere}
 use Rattle.position.specs.Ground.{joined, standable}
 use Rattle.position.specs.Crowd.{routes}
 use Rattle.position.specs.Change.Change.{routed}
 use Rattle.position.specs.Effect.{change, ofFour}
-use Rattle.position.proofs.Tallies.{both-yes, not-both, same-or}
+use Rattle.position.proofs.Tallies.{both-yes}
 use Rattle.acceptance.specs.Accepted.{Lawful, PlaceOk}
 use Rattle.acceptance.proofs.Carries.{fixed-change, standable-by}
 use Rattle.acceptance.proofs.Lawfuls.{standable-on}
@@ -25,10 +24,10 @@ use Rattle.field.specs.Zone.{enemyZone, vacant}
 use Rattle.routes.specs.Bears.{bears, refuge}
 use Rattle.routes.specs.Run.{Run, stay, go}
 use Rattle.routes.proofs.Steps.{next-joined}
-use Rattle.chains.specs.declared.Stand.the-variants.{Shut, Free, Loose}
 use Rattle.chains.specs.Stand.{isFree, isLoose}
-use Rattle.chains.specs.Chain.{Stands, after}
+use Rattle.chains.specs.Chain.{Stands}
 use Rattle.chains.specs.Series.{Series, stay, walk, shove, landOf}
+use Rattle.chains.proofs.Find.{Opens, free-open, loose-open, open-after}
 use Rattle.shoves.proofs.KeepChain.{chain-last}
 
 -- hex x may follow hex a in a route
@@ -81,23 +80,7 @@ module _ {b : Board} {f start : ℕ} (most : b .map .hexes ≤ nowhere) where
 
 -- so may each hex of a series: what is not shut to the group can be stood on
 abbrev Open : Board → Stands → Type 0
-Open b s = (h : ℕ) → (s h ≡ Shut → ⊥) → standable b h ≡ true
-
-open-after : (b : Board) (s : Stands) (x y : ℕ) → Open b s → (s x ≡ Shut → ⊥) → (s y ≡ Shut → ⊥) → Open b (after s x y)
-unfolding after
-open-after b s x y o i j h n =
-    same-or h y
-    (λ e. ap (standable b) e ∙ o y j)
-    (λ e.
-    same-or h x
-    (λ d. ap (standable b) d ∙ o x i)
-    (λ d. o h (λ z. n (simp (ne-eqb h y e, ne-eqb h x d) z))))
-
-free-open : Free ≡ Shut → ⊥
-free-open e = not-both true refl (ap isFree e)
-
-loose-open : Loose ≡ Shut → ⊥
-loose-open e = not-both true refl (ap isLoose e)
+Open b s = Opens (λ h. standable b h ≡ true) s
 
 module _ {b : Board} (start : ℕ) (most : b .map .hexes ≤ nowhere) where
   pub series-follows :
@@ -106,15 +89,15 @@ module _ {b : Board} (start : ℕ) (most : b .map .hexes ≤ nowhere) where
   unfolding landOf
   series-follows o n stay j m = absurd (m refl)
   series-follows {s} o n (walk {a = a} {x = x} d t y k) zero m =
-      record { front = n; step = next-joined (b .map) a x d (t .leads); stands = o x (λ z. free-open (sym y ∙ z)) }
+      record { front = n; step = next-joined (b .map) a x d (t .leads); stands = o x (free-open (ap isFree y)) }
   series-follows {s} o n (walk {x = x} d t y k) (suc j) m =
-      series-follows o (standable-where b x most (o x (λ z. free-open (sym y ∙ z)))) k j m
+      series-follows o (standable-where b x most (o x (free-open (ap isFree y)))) k j m
   series-follows {s} o n (shove {a = a} {x = x} d t y c k) zero m =
-      record { front = n; step = next-joined (b .map) a x d (t .leads); stands = o x (λ z. loose-open (sym y ∙ z)) }
+      record { front = n; step = next-joined (b .map) a x d (t .leads); stands = o x (loose-open (ap isLoose y)) }
   series-follows {s} o n (shove {x = x} {y = last} d t y c k) (suc j) m =
-      let i : s x ≡ Shut → ⊥ = λ z. loose-open (sym y ∙ z) in
-      series-follows (open-after b s x last o i (λ z. free-open (sym (chain-last c) ∙ z)))
-      (standable-where b x most (o x i)) k j m
+      let i = o x (loose-open (ap isLoose y)) in
+      let k' = o last (free-open (ap isFree (chain-last c))) in
+      series-follows (open-after (λ h. standable b h ≡ true) s o x last i k') (standable-where b x most i) k j m
 
 -- four numbers of which each may follow the one before
 module _

@@ -2,7 +2,6 @@
 -- Assumes nothing.
 use Prim.Native.Nat.{ℕ}
 use mathlib.Core.List.{List}
-use Rattle.position.specs.Board.{Board}
 use Rattle.ruling.specs.Verdict.{Verdict, Outcome}
 use Rattle.ruling.specs.Secret.{Sent, Rules, verdictOn, afterCall}
 use Rattle.supply.specs.Supply.{supplyRule}

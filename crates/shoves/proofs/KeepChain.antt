@@ -2,55 +2,35 @@
 -- Assumes nothing.
 use Prim.Native.Nat.{ℕ, _≤_, _<_}
 use mathlib.Core.Path.{_≡_, refl, sym, ap, fun-ext, _∙_}
-use mathlib.Core.Bool.{Bool, true, false, not, cond, _&&_}
+use mathlib.Core.Bool.{true, false, not}
 use mathlib.Core.List.{List, [], _∷_, _++_}
 use native.Mathlib.Omega.{arith}
-use lib.Dec.{eqb}
 use borrow.Author.Tests.{eq-eqb, eqb-true, ne-eqb, not-true}
-use Rattle.position.specs.Board.{Board, Map, forceOf, nowhere}
+use Rattle.position.specs.Board.{Board, forceOf, nowhere}
 use Rattle.position.specs.Crowd.{owesAt}
 use Rattle.position.specs.Ground.{standable}
 use Rattle.position.specs.Effect.{changes}
-use Rattle.position.proofs.Tallies.{any-never, both-yes, either, not-both, same-or}
+use Rattle.position.proofs.Tallies.{both-yes, either, not-both, same-or}
 use Rattle.acceptance.proofs.Carries.{Fixed, changes-then, force-by}
-use Rattle.acceptance.proofs.Fates.{Same}
 use Rattle.acceptance.proofs.Lawfuls.{standable-on}
-use Rattle.acceptance.proofs.Owings.{owes-role}
 use Rattle.acceptance.proofs.Since.{Since}
-use Rattle.acceptance.proofs.Stills.{fixed-refl, fixed-trans}
+use Rattle.acceptance.proofs.Stills.{fixed-trans}
 use Rattle.field.specs.Listed.{named}
 use Rattle.field.specs.Scene.{scene}
 use Rattle.field.specs.Zone.{standsOn, vacant}
 use Rattle.field.proofs.Lists.{named-nil}
-use Rattle.field.proofs.Named.{named-here, named-more, sieve-each, sieve-names, unnamed-parts}
+use Rattle.field.proofs.Named.{named-more, sieve-each, sieve-names, unnamed-parts}
 use Rattle.field.proofs.Zones.{stands-here}
 use Rattle.routes.specs.Bears.{bears}
 use Rattle.chains.specs.declared.Stand.{Stand}
 use Rattle.chains.specs.declared.Stand.the-variants.{Shut, Free, Loose}
-use Rattle.chains.specs.Stand.{apart, firm, stand, isFree, isLoose}
+use Rattle.chains.specs.Stand.{apart, stand, isFree, isLoose}
 use Rattle.chains.specs.Chain.{Ways, Stands, Chain, rest, push, rests, yields, after}
-use Rattle.shoves.specs.Group.{stack, gather}
+use Rattle.shoves.specs.Group.{stack}
 use Rattle.shoves.specs.Shoves.{Cleared, clears, shifts, stackTo}
 use Rattle.shoves.proofs.KeepZone.{bears-same}
 use Rattle.shoves.proofs.KeepMove.{Going, Goes, all-gone, vacant-none}
-use Rattle.shoves.proofs.Standing.{
-  Light,
-  IsFree,
-  IsLoose,
-  apart-here,
-  apart-off,
-  apart-same,
-  apart-stands,
-  firm-same,
-  free-is,
-  free-vacant,
-  is-free,
-  is-loose,
-  light-is,
-  loose-held,
-  loose-is,
-  stand-same,
-}
+use Rattle.shoves.proofs.Standing.{Light, IsLoose, apart-here, apart-off, apart-same, apart-stands, firm-same, free-is, free-vacant, is-free, is-loose, light-is, loose-held, loose-is, stand-same}
 
 -- board c, since board b, after pushes: nobody's role has changed, and who owes stands where it stood, as does whoever is of another force
 pub record Pushes (o b : Board) (f : ℕ) (c : Board) : Type 0 where

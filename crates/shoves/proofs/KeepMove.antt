@@ -1,11 +1,11 @@
 -- Units of one hex go to a vacant one, or are destroyed: the lines on units hold on, and no other unit changes.
 -- Assumes nothing.
-use Prim.Native.Nat.{ℕ, _+_, _≤_, _<_}
+use Prim.Native.Nat.{ℕ, _≤_, _<_}
 use mathlib.Core.Path.{_≡_, refl, sym, ap, subst, _∙_}
 use mathlib.Core.Bool.{Bool, true, false, cond}
-use mathlib.Core.List.{List, [], _∷_, _++_}
+use mathlib.Core.List.{List, [], _∷_}
 use native.Mathlib.Omega.{arith}
-use lib.Dec.{eqb, ltb}
+use lib.Dec.{ltb}
 use borrow.Author.Tests.{not-true}
 use Rattle.position.specs.Board.{Board, forceOf, nowhere}
 use Rattle.position.specs.Ground.{standable}
@@ -15,7 +15,6 @@ use Rattle.position.specs.Change.{Change}
 use Rattle.position.specs.Change.Change.{assigned, destroyed, placed}
 use Rattle.position.specs.Effect.{change, changes}
 use Rattle.position.proofs.Crowds.{crowd-with, others-is}
-use Rattle.position.proofs.Effects.{upd-else}
 use Rattle.position.proofs.Tallies.{any-false, but, but-other, but-self, either, equals, equals-is, equals-yes, not-both, same-or, tally-le}
 use Rattle.acceptance.specs.Accepted.{MappedOk}
 use Rattle.acceptance.proofs.Carries.{Fixed, changes-then, fixed-change, force-by, standable-by}
@@ -30,6 +29,7 @@ use Rattle.field.specs.Zone.{standsOn, vacant}
 use Rattle.field.proofs.Named.{named-past}
 use Rattle.field.proofs.Zones.{stands-here}
 use Rattle.shoves.specs.Group.{gather}
+use Rattle.shoves.proofs.Sweeps.{placed-else}
 
 -- nobody stands on a vacant hex
 pub vacant-none : (b : Board) (h w : ℕ) → vacant (scene b) h ≡ true → w < b .units .count → b .units .hex w ≡ h → ⊥
@@ -38,15 +38,8 @@ vacant-none b h w e l z =
     let t = standsOn (scene b) h in
     not-both (t w) (stands-here (scene b) h w z) (any-false t (b .units .count) w (not-true (any t (b .units .count)) e) l)
 
--- placing a unit leaves the others, and every role
+-- placing a unit leaves every role
 module _ (c : Board) (u x : ℕ) where
-  pub placed-else : (w : ℕ) → (w ≡ u → ⊥) → Same (c .units) (change c (placed u x) .units) w
-  unfolding change
-  placed-else w n =
-      either (ltb x (c .map .hexes))
-      (λ e. simp e (record { hex = upd-else (c .units .count) (c .units .hex) u x w (λ _ q. n q); marks = refl; role = refl }))
-      (λ e. simp e (record { hex = refl; marks = refl; role = refl }))
-
   placed-role : (w : ℕ) → change c (placed u x) .units .role w ≡ c .units .role w
   unfolding change
   placed-role w = either (ltb x (c .map .hexes)) (λ e. simp e) (λ e. simp e)

@@ -2,16 +2,15 @@
 -- Assumes nothing.
 use Prim.Native.Nat.{ℕ, _≤_, _<_}
 use mathlib.Core.Path.{_≡_, refl, sym, ap, fun-ext, _∙_}
-use mathlib.Core.Bool.{Bool, true, false, not, cond}
-use mathlib.Core.List.{List, []}
+use mathlib.Core.Bool.{Bool, true, false}
+use mathlib.Core.List.{[]}
 use native.Mathlib.Omega.{arith}
 use lib.Dec.{eqb}
-use borrow.Author.Tests.{ne-eqb, not-true}
 use Rattle.position.specs.Kind.{supplyKind}
 use Rattle.position.specs.Board.{Board, forceOf, nowhere}
 use Rattle.position.specs.Crowd.{owesAt}
 use Rattle.position.specs.Effect.{changes}
-use Rattle.position.proofs.Tallies.{either, not-both, same-or}
+use Rattle.position.proofs.Tallies.{either, not-both}
 use Rattle.acceptance.proofs.Carries.{Fixed, force-by}
 use Rattle.acceptance.proofs.Fates.{Same}
 use Rattle.acceptance.proofs.Owings.{owes, owes-hex, owes-role}
@@ -22,7 +21,7 @@ use Rattle.field.proofs.Lists.{named-nil}
 use Rattle.field.proofs.Named.{sieve-each, sieve-names}
 use Rattle.routes.specs.Bears.{bears}
 use Rattle.chains.specs.Stand.{apart, stand}
-use Rattle.shoves.specs.Group.{group, gather}
+use Rattle.shoves.specs.Group.{group}
 use Rattle.shoves.specs.Shoves.{goesTo, groupTo}
 use Rattle.shoves.proofs.KeepZone.{bears-same}
 use Rattle.shoves.proofs.KeepMove.{Going, Goes, all-gone, vacant-none}

@@ -3,17 +3,16 @@
 use Prim.Native.Nat.{ℕ, _<_}
 use mathlib.Core.Path.{_≡_, refl, sym, ap, ap₂, _∙_}
 use mathlib.Core.Bool.{Bool, true, false, not, _&&_}
-use native.Mathlib.Omega.{arith}
 use lib.Dec.{eqb, ltb}
 use borrow.Author.Tests.{eq-eqb, ne-eqb, not-true}
 use Rattle.grid.specs.declared.Beside.{Beside}
 use Rattle.grid.specs.declared.Beside.the-variants.{At, Off}
 use Rattle.position.specs.Tally.{any}
 use Rattle.position.specs.Board.{Board, Map, enemy, forceOf}
-use Rattle.position.specs.Ground.{beside, side, standable}
+use Rattle.position.specs.Ground.{beside, side}
 use Rattle.position.proofs.Tallies.{any-same, either, not-both, same-or}
 use Rattle.acceptance.proofs.Carries.{Fixed, standable-by}
-use Rattle.field.specs.Scene.{Scene, scene, forceIn}
+use Rattle.field.specs.Scene.{Scene, forceIn}
 use Rattle.field.specs.Zone.{standsOn, ownOn, casterOn, holdsCaster, casterAt, castsOver, casts, enemyCasts, enemyZone}
 use Rattle.field.proofs.Zones.{force-in}
 use Rattle.routes.specs.Bears.{bears}

@@ -1,23 +1,20 @@
 -- What a hex is to a group, taken apart and put together again.
 -- Assumes nothing.
 use Prim.Native.Nat.{ℕ, _<_}
-use mathlib.Core.Path.{_≡_, refl, sym, ap, ap₂, _∙_}
-use mathlib.Core.Bool.{Bool, true, false, not, cond, _&&_, _||_}
-use native.Mathlib.Omega.{arith}
+use mathlib.Core.Path.{_≡_, refl, sym, ap, _∙_}
+use mathlib.Core.Bool.{Bool, true, false, not, _||_}
 use lib.Dec.{eqb}
-use borrow.Author.Tests.{eq-eqb, eqb-true, ne-eqb, not-false, not-true}
+use borrow.Author.Tests.{eq-eqb, eqb-true, ne-eqb, not-false}
 use Rattle.position.specs.Kind.{supplyKind}
 use Rattle.position.specs.Board.{Board, forceOf}
 use Rattle.position.specs.Crowd.{owesAt}
 use Rattle.position.specs.Tally.{any}
 use Rattle.position.proofs.Tallies.{any-false, any-never, any-same, any-some, any-true, both-yes, either, neither, not-both, same-or}
 use Rattle.acceptance.proofs.Carries.{Fixed, force-by}
-use Rattle.acceptance.proofs.Owings.{owes-hex}
 use Rattle.field.specs.Scene.{scene}
 use Rattle.field.specs.Zone.{standsOn, vacant}
 use Rattle.field.proofs.Zones.{stands-here, stands-off}
 use Rattle.routes.specs.Bears.{bears}
-use Rattle.chains.specs.declared.Stand.{Stand}
 use Rattle.chains.specs.declared.Stand.the-variants.{Shut, Free, Loose}
 use Rattle.chains.specs.Stand.{apart, firm, bars, stand, isFree, isLoose}
 
