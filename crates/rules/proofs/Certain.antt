@@ -1,6 +1,7 @@
 -- Everything that is certain of this referee holds.
 -- Assumes nothing.
 use mathlib.Core.Path.{refl}
+use Rattle.shoves.proofs.Played.{legal-played-right}
 use Rattle.retreat.proofs.Words.{group-right, destroyed-right, retreated-right, pushed-right}
 use Rattle.rules.specs.Order.{step}
 use Rattle.rules.specs.Referee.{Meets}
@@ -27,6 +28,7 @@ demand-two =
       destroyed = destroyed-right;
       retreated = retreated-right;
       pushed = pushed-right;
+      played = legal-played-right;
       keeps = stays-accepted;
       small = small-rulings;
       useless = four-useless;

@@ -1,6 +1,7 @@
 -- Everything that is certain of this referee, as one statement. Each of the eight calls (src/lib.rt) promises `Met` of the verdict on its
 -- order; these are the facts about all that so promise. Proved in proofs/Certain.antt.
 -- Assumes nothing.
+use Rattle.shoves.specs.Played.{LegalPlayedRight}
 use Rattle.retreat.specs.Words.{GroupRight, DestroyedRight, RetreatedRight, PushedRight}
 use Rattle.rules.specs.Order.{step}
 use Rattle.rules.specs.Demands.{Total, OneResult, RefusalsLeaveAll, SupplyRight, StaysAccepted, Secrecy}
@@ -17,8 +18,8 @@ pub record DemandOne : Type 0 where
 
 -- 2. The rulings of the rules keep every promise, and a referee that keeps every promise gives no others. A unit is in supply exactly if an
 -- unblocked line of hexes to a source exists; a beaten group is eliminated exactly if neither a vacant route of the owed length nor a series
--- of pushes exists, or only supply units owe; else what was sent is accepted exactly if it is legal, a vacant route first. Accepted
--- positions stay accepted.
+-- of pushes exists, or only supply units owe; else what was sent is accepted exactly if it is legal, a vacant route first; and
+-- legal are the pushes that can be played on the board, each step done before the next. Accepted positions stay accepted.
 pub record DemandTwo : Type 0 where
   pub right : Meets step
   pub agree : Agree
@@ -27,6 +28,7 @@ pub record DemandTwo : Type 0 where
   pub destroyed : DestroyedRight
   pub retreated : RetreatedRight
   pub pushed : PushedRight
+  pub played : LegalPlayedRight
   pub keeps : StaysAccepted
   pub small : SmallRulings
   pub useless : FourUseless
