@@ -3,6 +3,7 @@
 
 use host::referee::rule;
 use measure::cases::{cases, tiny, Case, SIZES};
+use measure::crowds::crowds;
 use measure::library::call;
 use measure::scenes::TINY;
 use std::process::Command;
@@ -54,8 +55,14 @@ fn instructions(side: u8, number: usize) -> Option<u64> {
     collected.split_whitespace().next()?.parse().ok()
 }
 
-/// The cases on maps of this side; any side but those of `SIZES` is the tiny map's.
+/// Stands for the crowds where a side is asked for.
+const CROWD: u8 = 0;
+
+/// The cases on maps of this side, or the crowds; any other side than those of `SIZES` is the tiny map's.
 fn cases_of(side: u8) -> Vec<Case> {
+    if side == CROWD {
+        return crowds();
+    }
     SIZES.iter().find(|(s, _)| *s == side).map_or_else(tiny, |&(side, count)| cases(side, count))
 }
 
@@ -119,12 +126,12 @@ fn time_table(of_sizes: &[Vec<Case>; 3]) {
     }
 }
 
-/// Instructions and nanoseconds of every call on the tiny map.
-fn tiny_table(cases: &[Case]) {
-    print_head("Tiny map", &["call", "instructions", "ns", "ns, second referee"].map(String::from));
+/// Instructions and nanoseconds of the cases of one side.
+fn short_table(title: &str, side: u8, cases: &[Case]) {
+    print_head(title, &["call", "instructions", "ns", "ns, second referee"].map(String::from));
     for (number, case) in cases.iter().enumerate() {
         let [ours, second] = times(case);
-        print_row(&[case.call.into(), counted(instructions(TINY.0, number)), ours, second]);
+        print_row(&[case.call.into(), counted(instructions(side, number)), ours, second]);
     }
 }
 
@@ -141,10 +148,13 @@ fn main() {
     }
     let of_sizes = SIZES.map(|(side, _)| cases_of(side));
     let tiny = tiny();
-    of_sizes.iter().flatten().chain(&tiny).for_each(require_accepted);
+    let crowds = crowds();
+    of_sizes.iter().flatten().chain(&tiny).chain(&crowds).for_each(require_accepted);
     instruction_table(&of_sizes);
     println!();
     time_table(&of_sizes);
     println!();
-    tiny_table(&tiny);
+    short_table("Tiny map", TINY.0, &tiny);
+    println!();
+    short_table("Crowd", CROWD, &crowds);
 }

@@ -3,6 +3,7 @@
 
 use host::order::CALLS;
 use measure::cases::{cases, tiny, Case, SIZES};
+use measure::crowds::crowds;
 use measure::library::call;
 use std::arch::asm;
 
@@ -56,7 +57,7 @@ fn measured(case: &Case) -> usize {
 }
 
 fn main() {
-    let mut all = tiny();
+    let mut all = [tiny(), crowds()].into_iter().flatten().collect::<Vec<_>>();
     for (side, units) in SIZES {
         all.extend(cases(side, units));
     }
