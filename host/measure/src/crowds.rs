@@ -12,7 +12,8 @@ use host::unit_type::SUPPLY_UNIT;
 /// Who holds the hexes up to six from the middle, row by row: 0 nobody, 1 a stack of three, 2 a supply unit, which
 /// cannot be pushed; 3 is sea. Of many thousands tried here the search takes longest to find that nothing serves.
 const NONE_SERVES: &str = "\
-    PATTERN";
+    211101111121111111111131111112111111111111111111111111111211111\
+    111111111111111111111111111111111111111111111111111110111111111";
 
 /// The same where three stacks are pushed at each of the three steps.
 const THREE_EACH: &str = "\
