@@ -59,6 +59,14 @@ module _ (t : Trail) (z : ℕ) (l : z < places) where
       (λ e. before-here (t .third) [] z l e ∙ sym (eq-eqb (t .third) z e))
       (λ n. before-past (t .third) [] z n ∙ named-nil z ∙ sym (ne-eqb (t .third) z n))
 
+-- the group's own place alone
+pub own-trail : (a : ℕ) → a < places → trailOf (record { first = a; second = places; third = places }) ≡ a ∷ []
+unfolding trailOf
+own-trail a l = before-some a _ (λ e. omega arith) ∙ ap (_∷_ a) (before-none places _ refl ∙ before-none places [] refl)
+
+pub own-ok : (a : ℕ) → TrailOk (record { first = a; second = places; third = places }) 3
+own-ok a = record { few = omega arith; two = λ _. refl; three = λ _. refl }
+
 -- a place more
 module _ (t : Trail) (h left : ℕ) (o : TrailOk t left) (l : 2 ≤ left) where
   pub longer-is : h < places → trailOf (record { first = h; second = t .first; third = t .second }) ≡ h ∷ trailOf t

@@ -1,8 +1,9 @@
 // Chains of pushes: where each may end, by recursion over the places that it has not used.
 ghost use mathlib.Core.Path.{_≡_};
-ghost use mathlib.Core.List.{_∷_};
+ghost use mathlib.Core.List.{[], _∷_};
 ghost use Prim.Native.Nat.{_-_, _<_, _≤_};
 ghost use lib.ListN.{length};
+ghost use Rattle.position.specs.Tally.{any};
 ghost use Rattle.field.specs.Listed.{named};
 ghost use Rattle.chains.specs.Chain.{rests, yields, hasRest};
 ghost use Rattle.chains.specs.Serves.{endsIn};
@@ -38,6 +39,18 @@ fn on_trail(t: Trail, z: usize) -> bool
         return true;
     }
     t.third == z
+}
+
+// The trail of a chain that has only begun, with the group in place `a`.
+pub fn own(a: usize) -> Trail
+    requires { ⌜ a < 182 ⌝ }
+    ensures { λ r. ⌜ (trailOf r ≡ a ∷ []) × TrailOk r 3 ⌝ }
+{
+    Trail {
+        first: a,
+        second: NONE,
+        third: NONE,
+    }
 }
 
 // The trail with place `h` before it.
@@ -111,6 +124,49 @@ fn mark_rests(sheet: &[u8], ends: &mut [u8], x: usize, t: Trail, h: usize)
     }
 }
 
+// Whether a chain from the stack in place `h` on may end anywhere, where `left` stacks may still be pushed. The last stack is only asked for a
+// vacant place.
+pub fn can_end(sheet: &[u8], t: Trail, left: usize, h: usize) -> bool
+    requires { ⌜ (length (now sheet) ≡ 182) × (1 ≤ left) × TrailOk t left × (h < 182) ⌝ }
+    ensures { λ r. ⌜ r ≡ any (endsIn (nextIn (now (sheet .entry))) (standIn (now (sheet .entry))) (trailOf t) left h) 182 ⌝ }
+{
+    if has_rest(sheet, t, h) {
+        return true;
+    }
+    if left < 2 {
+        return false;
+    }
+    let used = longer(t, h, left);
+    for d in 0..6 {
+        let Beside::At(z) = crate::next_in(sheet, h, d) else {
+            continue;
+        };
+        if !yields(sheet, t, h, z) {
+            continue;
+        }
+        if left < 3 {
+            if has_rest(sheet, used, z) {
+                return true;
+            }
+            continue;
+        }
+        if can_end(sheet, used, left - 1, z) {
+            return true;
+        }
+    }
+    false
+}
+
+// Marks the places in which a chain may end whose last stack is in place `h`.
+fn mark_last(sheet: &[u8], ends: &mut [u8], x: usize, t: Trail, h: usize)
+    requires { ⌜ (length (now sheet) ≡ 182) × (length (now ends) ≡ 91) × (x < 182) × Close x h 2 ⌝ }
+    ensures { λ _. ⌜ Marks x (endsIn (nextIn (now (sheet .entry))) (standIn (now (sheet .entry))) (trailOf t) 1 h) (now (ends .entry)) (now (ends .exit)) ⌝ }
+{
+    if has_rest(sheet, t, h) {
+        mark_rests(sheet, ends, x, t, h);
+    }
+}
+
 // Marks the places in which a chain from the stack in place `h` on may end, where `left` stacks may still be pushed. Each turn uses a place
 // more, and so those not used become fewer.
 pub fn gather(sheet: &[u8], ends: &mut [u8], x: usize, t: Trail, left: usize, h: usize)
@@ -129,9 +185,14 @@ pub fn gather(sheet: &[u8], ends: &mut [u8], x: usize, t: Trail, left: usize, h:
         let Beside::At(z) = crate::next_in(sheet, h, d) else {
             continue;
         };
-        if yields(sheet, t, h, z) {
-            gather(sheet, ends, x, used, left - 1, z);
+        if !yields(sheet, t, h, z) {
+            continue;
         }
+        if left < 3 {
+            mark_last(sheet, ends, x, used, z);
+            continue;
+        }
+        gather(sheet, ends, x, used, left - 1, z);
     }
 }
 

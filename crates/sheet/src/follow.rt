@@ -93,11 +93,7 @@ fn push_out(
     requires { ⌜ (length (now sheet) ≡ 182) × (1 ≤ w) × (start < 65536) × (a < 182) × (x < 182) × (k ≤ length (now pushes)) ⌝ }
     ensures { λ r. ⌜ PushedOut w start (now (sheet .entry)) (now (sheet .exit)) a x k (now (pushes .entry)) r ⌝ }
 {
-    let own = Trail {
-        first: a,
-        second: chain::NONE,
-        third: chain::NONE,
-    };
+    let own = chain::own(a);
     let Took::UpTo(y, m) = take(sheet, w, start, own, 3, x, pushes, k) else {
         return Took::Wrong;
     };
