@@ -8,7 +8,6 @@ ghost use Rattle.sheet.specs.Places.{homeFor};
 ghost use Rattle.sheet.specs.Trail.{trailOf, TrailOk};
 ghost use Rattle.sheet.specs.Follow.{followsIn, TookIn, PushedOut, Stepped};
 use crate::chain;
-use crate::chain::Trail;
 use crate::spot;
 use chains::Stand;
 use grid::Beside;
@@ -40,7 +39,7 @@ fn take(
     sheet: &[u8],
     w: usize,
     start: usize,
-    t: Trail,
+    t: usize,
     left: usize,
     h: usize,
     pushes: &[u16],

@@ -284,10 +284,10 @@ with-end-returns t c = (
 )
 
 abbrev with-ends-Inv-loop : with-ends-lts.InvT-loop
-with-ends-Inv-loop sheet₀ ends home k i a x y₀ sheet y = Unended home sheet₀ ends k i a x sheet y
+with-ends-Inv-loop sheet₀ ends home k i a x own y₀ sheet y = Unended home sheet₀ ends k i a x sheet y
 
 abbrev with-ends-μ-loop : with-ends-lts.MeasureT-loop
-with-ends-μ-loop sheet₀ ends home k i a x y₀ sheet y = 182 - y
+with-ends-μ-loop sheet₀ ends home k i a x own y₀ sheet y = 182 - y
 
 abbrev with-ends-claims : ℕ → with-ends-lts.Claims
 with-ends-claims t = (
