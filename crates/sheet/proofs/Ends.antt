@@ -57,6 +57,11 @@ module _ {x : ℕ} where
   pub marks-as : {t u : ℕ → Bool} {l m : List ℕ} → ((y : ℕ) → Close x y 3 → t y ≡ u y) → Marks x t l m → Marks x u l m
   marks-as {t} {u} {l} {m} f a = record { long = a .long; each = λ y c. a .each y c ∙ ap (λ (b : Bool). b || marked l x y) (f y c) }
 
+  pub marks-left :
+      (next : Ways) (s : Stands) (used : List ℕ) (h : ℕ) {k n : ℕ} {l m : List ℕ} → k ≡ n → Marks x (endsIn next s used k h) l m
+      → Marks x (endsIn next s used n h) l m
+  marks-left next s used h {k} {n} {l} {m} e a = subst (λ (i : ℕ). Marks x (endsIn next s used i h) l m) e a
+
   -- place z is marked
   pub marks-one : (z : ℕ) (l : List ℕ) → Close x z 3 → length l ≡ room → Marks x (eqb z) l (set l (reach + z - x) 1)
   unfolding marked

@@ -3,6 +3,7 @@ pub mod Places
 pub mod Around
 pub mod Trails
 pub mod Ends
+pub mod Ending
 pub mod Taking
 pub mod Reached
 pub mod Searching

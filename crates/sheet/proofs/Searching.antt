@@ -2,7 +2,7 @@
 -- Assumes nothing.
 use Prim.Native.Nat.{ℕ, zero, suc, _+_, _-_, _<_, _≤_}
 use mathlib.Core.Path.{_≡_, refl, sym, ap, _∙_}
-use mathlib.Core.Bool.{Bool, true, false}
+use mathlib.Core.Bool.{Bool, true, false, and-true}
 use mathlib.Core.List.{List, [], _∷_}
 use native.Mathlib.Omega.{arith}
 use native.Mathlib.Numerals.{add-one}
@@ -13,15 +13,13 @@ use Rattle.grid.specs.Walk.{distanceOf}
 use Rattle.grid.specs.Map.{On}
 use Rattle.position.specs.Layout.{byte}
 use Rattle.position.specs.Tally.{any}
-use Rattle.position.proofs.Tallies.{any-miss, any-true}
+use Rattle.position.proofs.Tallies.{any-miss, any-true, any-same}
 use Rattle.chains.specs.declared.Stand.the-variants.{Shut, Free, Loose}
 use Rattle.chains.specs.Chain.{leadsTo, after, most}
 use Rattle.chains.specs.Follows.{byStand}
 use Rattle.chains.specs.Serves.{endsIn, onWith, onOver, serves}
 use Rattle.sheet.specs.Sheet.{places, standIn, nextIn, landIn, shifted, wide, high}
 use Rattle.sheet.specs.Ends.{Blank, Close, Marks, endMarked, room}
-use Rattle.sheet.specs.declared.chain.Trail.{Trail}
-use Rattle.sheet.specs.Trail.{TrailOk, before, trailOf}
 use Rattle.sheet.specs.Search.{further, servesIn, overIn, withIn, shovesIn}
 use Rattle.sheet.proofs.Reached.{ended}
 use Rattle.sheet.proofs.Sheets.{shifted-back, shifted-stands, shifted-ways}
@@ -38,6 +36,9 @@ module _ (home : ℕ) (l : List ℕ) (k i a : ℕ) where
   pub serves-done : k ≡ 0 → servesIn home l k i a ≡ true
   unfolding servesIn serves
   serves-done e = rw e
+
+  pub serves-last : k ≡ 1 → servesIn home l 1 i a ≡ servesIn home l k i a
+  serves-last e = ap (λ (n : ℕ). servesIn home l n i a) (sym e)
 
   more : (n : ℕ) → servesIn home l (suc n) i a ≡ any (overBeside home l n i a) 6
   unfolding servesIn serves overBeside overIn further landIn
@@ -73,6 +74,17 @@ module _ (home : ℕ) (l : List ℕ) (k i a x : ℕ) where
 
   pub over-loose : distanceOf wide home x ≡ i + 1 → standIn l x ≡ Loose → overIn home l k i a x ≡ shovesIn home l k i a x
   over-loose e s = by-stand e ∙ ap (byStand (servesIn home l k (i + 1) x) (shovesIn home l k i a x)) s
+
+  -- as a last step it asks only for a chain at all
+  pub last-free : distanceOf wide home x ≡ i + 1 → standIn l x ≡ Free → k ≡ 0 → overIn home l k i a x ≡ true
+  last-free e s z = over-free e s ∙ serves-done home l k (i + 1) x z
+
+  pub last-loose :
+      distanceOf wide home x ≡ i + 1 → standIn l x ≡ Loose → k ≡ 0 → (trail : List ℕ) → trail ≡ a ∷ []
+      → overIn home l k i a x ≡ any (endsIn (nextIn l) (standIn l) trail 3 x) places
+  unfolding shovesIn withIn onWith landIn further serves
+  last-loose e s z trail t =
+      over-loose e s ∙ rw z (rw t (any-same _ _ places (λ y b. and-true (endsIn (nextIn l) (standIn l) (a ∷ []) 3 x y))))
 
   pub with-no : (y : ℕ) → endsIn (nextIn l) (standIn l) (a ∷ []) most x y ≡ false → withIn home l k i a x y ≡ false
   unfolding withIn onWith landIn
@@ -167,12 +179,6 @@ module _ {home : ℕ} {l ends : List ℕ} {k i a x : ℕ} {m : List ℕ} {y : �
 pub put-back : {l m n : List ℕ} (x y : ℕ) → m ≡ shifted l x y → n ≡ m → set (set n y (byte l y)) x (byte l x) ≡ l
 put-back {l} x y e f = ap (λ (q : List ℕ). set (set q y (byte l y)) x (byte l x)) (f ∙ e) ∙ shifted-back l x y
 
--- a trail of one place
-pub own-trail : (t : Trail) → t .first < places → t .second ≡ places → t .third ≡ places → trailOf t ≡ t .first ∷ []
-unfolding trailOf before
-own-trail t a b c =
-    simp (ne-eqb (t .first) places (λ e. omega arith), eq-eqb (t .second) places b, eq-eqb (t .third) places c)
-
 -- an array of zeros marks no place
 zeros : (n j : ℕ) → byte (replicate n 0) j ≡ 0
 zeros zero j = refl
@@ -184,14 +190,10 @@ blank = record { long = length-replicate {A = ℕ} room 0; each = zeros room }
 
 -- what `gather` leaves in an array of zeros
 pub gathered :
-    (t : Trail) (l : List ℕ) {m n : List ℕ} {x : ℕ} → length l ≡ places → t .first < places → t .second ≡ places → t .third ≡ places
-    → Marks x (endsIn (nextIn l) (standIn l) (trailOf t) 3 x) m n → Blank m → x < places → (z : ℕ) → z < places
-    → endMarked n x z ≡ endsIn (nextIn l) (standIn l) (t .first ∷ []) 3 x z
-gathered t l {m} {n} {x} long a b c k e p z q =
-    ended l m n (t .first) x z (rw (own-trail t a b c) at k) e q
+    (l : List ℕ) {trail m n : List ℕ} {a x : ℕ} → trail ≡ a ∷ [] → Marks x (endsIn (nextIn l) (standIn l) trail 3 x) m n → Blank m
+    → (z : ℕ) → z < places → endMarked n x z ≡ endsIn (nextIn l) (standIn l) (a ∷ []) 3 x z
+gathered l {trail} {m} {n} {a} {x} t k e z q = ended l m n a x z (rw t at k) e q
 
-pub own-ok : (t : Trail) → t .second ≡ places → t .third ≡ places → TrailOk t 3
-own-ok t b c = record { few = omega arith; two = λ _. c; three = λ _. b }
-
+-- a place is close to itself
 pub close-self : (x : ℕ) → x < places → Close x x 0
 close-self x l = record { below = l; after = omega arith; before = omega arith }

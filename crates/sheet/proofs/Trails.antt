@@ -1,6 +1,6 @@
 -- Laws of trails: which places one names, and into which a stack may go.
 -- Assumes nothing.
-use Prim.Native.Nat.{ℕ, _-_, _≤_, _<_}
+use Prim.Native.Nat.{ℕ, _+_, _-_, _*_, _/_, _%_, _≤_, _<_}
 use mathlib.Core.Path.{_≡_, refl, sym, ap, ap₂, _∙_}
 use mathlib.Core.Bool.{Bool, true, false, not, _&&_, _||_, and-false, or-false}
 use mathlib.Core.List.{List, [], _∷_}
@@ -18,7 +18,6 @@ use Rattle.chains.specs.declared.Stand.{Stand}
 use Rattle.chains.specs.declared.Stand.the-variants.{Shut, Free, Loose}
 use Rattle.chains.specs.Stand.{isFree, isLoose}
 use Rattle.chains.specs.Chain.{Stands, rests, yields}
-use Rattle.sheet.specs.declared.chain.Trail.{Trail}
 use Rattle.sheet.specs.Sheet.{places}
 use Rattle.sheet.specs.Trail.{before, trailOf, TrailOk}
 
@@ -42,33 +41,67 @@ module _ (i : ℕ) (used : List ℕ) where
       (λ f. ap (λ (us : List ℕ). named us z) (before-some f) ∙ named-past i used z n)
 
 -- each of a trail's places is named by it
-module _ (t : Trail) (z : ℕ) (l : z < places) where
-  pub on-first : t .first ≡ z → named (trailOf t) z ≡ true
+module _ (t z : ℕ) (l : z < places) where
+  pub on-first : t % 256 ≡ z → named (trailOf t) z ≡ true
   unfolding trailOf
-  on-first e = before-here (t .first) _ z l e
+  on-first e = before-here (t % 256) _ z l e
 
-  pub on-second : (t .first ≡ z → ⊥) → t .second ≡ z → named (trailOf t) z ≡ true
+  pub on-second : (t % 256 ≡ z → ⊥) → t / 256 % 256 ≡ z → named (trailOf t) z ≡ true
   unfolding trailOf
-  on-second f e = before-past (t .first) _ z f ∙ before-here (t .second) _ z l e
+  on-second f e = before-past (t % 256) _ z f ∙ before-here (t / 256 % 256) _ z l e
 
-  pub on-third : (t .first ≡ z → ⊥) → (t .second ≡ z → ⊥) → named (trailOf t) z ≡ eqb (t .third) z
+  pub on-third : (t % 256 ≡ z → ⊥) → (t / 256 % 256 ≡ z → ⊥) → named (trailOf t) z ≡ eqb (t / 65536) z
   unfolding trailOf
   on-third f g =
-      before-past (t .first) _ z f ∙ before-past (t .second) _ z g
-      ∙ same-or (t .third) z
-      (λ e. before-here (t .third) [] z l e ∙ sym (eq-eqb (t .third) z e))
-      (λ n. before-past (t .third) [] z n ∙ named-nil z ∙ sym (ne-eqb (t .third) z n))
+      before-past (t % 256) _ z f ∙ before-past (t / 256 % 256) _ z g
+      ∙ same-or (t / 65536) z
+      (λ e. before-here (t / 65536) [] z l e ∙ sym (eq-eqb (t / 65536) z e))
+      (λ n. before-past (t / 65536) [] z n ∙ named-nil z ∙ sym (ne-eqb (t / 65536) z n))
+
+-- a trail by its three places
+parts :
+    (t a b c : ℕ) → t % 256 ≡ a → t / 256 % 256 ≡ b → t / 65536 ≡ c → trailOf t ≡ before a (before b (before c []))
+unfolding trailOf
+parts t a b c p q r = ap₂ before p (ap₂ before q (ap (λ (i : ℕ). before i []) r))
+
+-- the group's own place alone
+module _ (a t : ℕ) (l : a < places) (e : t ≡ a + 256 * places + 65536 * places) where
+  own-second : t / 256 % 256 ≡ places
+  own-second = omega arith
+
+  own-third : t / 65536 ≡ places
+  own-third = omega arith
+
+  pub own-trail : trailOf t ≡ a ∷ []
+  own-trail =
+      parts t a places places (omega arith) own-second own-third
+      ∙ before-some a _ (λ p. omega arith)
+      ∙ ap (_∷_ a) (before-none places _ refl ∙ before-none places [] refl)
+
+  pub own-ok : TrailOk t 3
+  own-ok = record { few = omega arith; two = λ _. own-third; three = λ _. own-second }
 
 -- a place more
-module _ (t : Trail) (h left : ℕ) (o : TrailOk t left) (l : 2 ≤ left) where
-  pub longer-is : h < places → trailOf (record { first = h; second = t .first; third = t .second }) ≡ h ∷ trailOf t
-  unfolding trailOf
-  longer-is p =
-      before-some h _ (λ e. omega arith)
-      ∙ ap (λ (us : List ℕ). h ∷ before (t .first) (before (t .second) us)) (sym (before-none (t .third) [] (o .two l)))
+module _ (t h left u : ℕ) (o : TrailOk t left) (l : 2 ≤ left) (p : h < places) (e : u ≡ h + 256 * (t % 65536)) where
+  longer-second : u / 256 % 256 ≡ t % 256
+  longer-second = omega arith
 
-  pub longer-ok : TrailOk (record { first = h; second = t .first; third = t .second }) (left - 1)
-  longer-ok = record { few = omega (arith, o .few); two = λ p. o .three (omega arith); three = λ p. absurd (omega (arith, o .few)) }
+  longer-third : u / 65536 ≡ t / 256 % 256
+  longer-third = omega arith
+
+  pub longer-is : trailOf u ≡ h ∷ trailOf t
+  unfolding trailOf
+  longer-is =
+      parts u h (t % 256) (t / 256 % 256) (omega arith) longer-second longer-third
+      ∙ before-some h _ (λ q. omega arith)
+      ∙ ap (λ (us : List ℕ). h ∷ before (t % 256) (before (t / 256 % 256) us)) (sym (before-none (t / 65536) [] (o .two l)))
+
+  pub longer-ok : TrailOk u (left - 1)
+  longer-ok = record {
+    few = omega (arith, o .few);
+    two = λ q. longer-third ∙ o .three (omega arith);
+    three = λ q. absurd (omega (arith, o .few));
+  }
 
 -- what a stand is not, by the number of its kind
 pub not-free : (s : Stand) → OneOf (0 ∷ 2 ∷ []) (tagOf S.the-type s) → isFree s ≡ false

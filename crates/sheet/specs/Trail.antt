@@ -1,11 +1,10 @@
--- The places of a chain so far.
+-- The places of a chain so far: three in one number.
 -- Assumes nothing.
-use Prim.Native.Nat.{ℕ, _≤_, _<_}
+use Prim.Native.Nat.{ℕ, _/_, _%_, _≤_}
 use mathlib.Core.Path.{_≡_}
 use mathlib.Core.Bool.{cond}
 use mathlib.Core.List.{List, [], _∷_}
 use lib.Dec.{eqb}
-use Rattle.sheet.specs.declared.chain.Trail.{Trail}
 use Rattle.sheet.specs.Sheet.{places}
 
 -- a place before others, or none
@@ -13,11 +12,11 @@ unfoldable pub before : ℕ → List ℕ → List ℕ
 before i used = cond (eqb i places) used (i ∷ used)
 
 -- the last place comes first
-unfoldable pub trailOf : Trail → List ℕ
-trailOf t = before (t .first) (before (t .second) (before (t .third) []))
+unfoldable pub trailOf : ℕ → List ℕ
+trailOf t = before (t % 256) (before (t / 256 % 256) (before (t / 65536) []))
 
 -- a chain in which `left` stacks may still be pushed: as many places are filled as stacks were, and the group's own
-pub record TrailOk (t : Trail) (left : ℕ) : Type 0 where
+pub record TrailOk (t left : ℕ) : Type 0 where
   pub few : left ≤ 3
-  pub two : 2 ≤ left → t .third ≡ places
-  pub three : 3 ≤ left → t .second ≡ places
+  pub two : 2 ≤ left → t / 65536 ≡ places
+  pub three : 3 ≤ left → t / 256 % 256 ≡ places

@@ -1,8 +1,9 @@
 // Chains of pushes: where each may end, by recursion over the places that it has not used.
 ghost use mathlib.Core.Path.{_≡_};
-ghost use mathlib.Core.List.{_∷_};
+ghost use mathlib.Core.List.{[], _∷_};
 ghost use Prim.Native.Nat.{_-_, _<_, _≤_};
 ghost use lib.ListN.{length};
+ghost use Rattle.position.specs.Tally.{any};
 ghost use Rattle.field.specs.Listed.{named};
 ghost use Rattle.chains.specs.Chain.{rests, yields, hasRest};
 ghost use Rattle.chains.specs.Serves.{endsIn};
@@ -19,41 +20,40 @@ pub const NONE: usize = 182;
 // How far before and after the place of its first stack a chain may end.
 const REACH: usize = 45;
 
-// The places of a chain before the stack at hand, the last first, NONE where it has fewer. The group's own is one of them.
-pub struct Trail {
-    pub first: usize,
-    pub second: usize,
-    pub third: usize,
-}
-
+// The places of a chain before the stack at hand are one number: the last of them, 256 times the one before it and 65,536 times the one before
+// that, NONE where it has fewer. The group's own is one of them.
 // Whether place `z` is one of them.
-fn on_trail(t: Trail, z: usize) -> bool
+fn on_trail(t: usize, z: usize) -> bool
     requires { ⌜ z < 182 ⌝ }
     ensures { λ r. ⌜ r ≡ named (trailOf t) z ⌝ }
 {
-    if t.first == z {
+    if t % 256 == z {
         return true;
     }
-    if t.second == z {
+    if t / 256 % 256 == z {
         return true;
     }
-    t.third == z
+    t / 65536 == z
+}
+
+// The trail of a chain that has only begun, with the group in place `a`.
+pub fn own(a: usize) -> usize
+    requires { ⌜ a < 182 ⌝ }
+    ensures { λ r. ⌜ (trailOf r ≡ a ∷ []) × TrailOk r 3 ⌝ }
+{
+    a + 256 * NONE + 65536 * NONE
 }
 
 // The trail with place `h` before it.
-pub fn longer(t: Trail, h: usize, left: usize) -> Trail
+pub fn longer(t: usize, h: usize, left: usize) -> usize
     requires { ⌜ TrailOk t left × (2 ≤ left) × (h < 182) ⌝ }
     ensures { λ r. ⌜ (trailOf r ≡ h ∷ trailOf t) × TrailOk r (left - 1) ⌝ }
 {
-    Trail {
-        first: h,
-        second: t.first,
-        third: t.second,
-    }
+    h + 256 * (t % 65536)
 }
 
 // Whether a stack in place `h` may go into place `z`: it is vacant, and not of the chain yet.
-pub fn rests(sheet: &[u8], t: Trail, h: usize, z: usize) -> bool
+pub fn rests(sheet: &[u8], t: usize, h: usize, z: usize) -> bool
     requires { ⌜ (length (now sheet) ≡ 182) × (z < 182) ⌝ }
     ensures { λ r. ⌜ r ≡ rests (standIn (now (sheet .entry))) (h ∷ trailOf t) z ⌝ }
 {
@@ -67,7 +67,7 @@ pub fn rests(sheet: &[u8], t: Trail, h: usize, z: usize) -> bool
 }
 
 // Whether it may push the stack there.
-pub fn yields(sheet: &[u8], t: Trail, h: usize, z: usize) -> bool
+pub fn yields(sheet: &[u8], t: usize, h: usize, z: usize) -> bool
     requires { ⌜ (length (now sheet) ≡ 182) × (z < 182) ⌝ }
     ensures { λ r. ⌜ r ≡ yields (standIn (now (sheet .entry))) (h ∷ trailOf t) z ⌝ }
 {
@@ -81,7 +81,7 @@ pub fn yields(sheet: &[u8], t: Trail, h: usize, z: usize) -> bool
 }
 
 // Whether the stack in place `h` has a vacant one beside it.
-pub fn has_rest(sheet: &[u8], t: Trail, h: usize) -> bool
+pub fn has_rest(sheet: &[u8], t: usize, h: usize) -> bool
     requires { ⌜ (length (now sheet) ≡ 182) × (h < 182) ⌝ }
     ensures { λ r. ⌜ r ≡ hasRest (nextIn (now (sheet .entry))) (standIn (now (sheet .entry))) (h ∷ trailOf t) h ⌝ }
 {
@@ -97,7 +97,7 @@ pub fn has_rest(sheet: &[u8], t: Trail, h: usize) -> bool
 }
 
 // Marks the places beside place `h` into which its stack may go.
-fn mark_rests(sheet: &[u8], ends: &mut [u8], x: usize, t: Trail, h: usize)
+fn mark_rests(sheet: &[u8], ends: &mut [u8], x: usize, t: usize, h: usize)
     requires { ⌜ (length (now sheet) ≡ 182) × (length (now ends) ≡ 91) × (x < 182) × Close x h 2 ⌝ }
     ensures { λ _. ⌜ Marks x (restsBeside (nextIn (now (sheet .entry))) (standIn (now (sheet .entry))) (h ∷ trailOf t) h) (now (ends .entry)) (now (ends .exit)) ⌝ }
 {
@@ -111,9 +111,52 @@ fn mark_rests(sheet: &[u8], ends: &mut [u8], x: usize, t: Trail, h: usize)
     }
 }
 
+// Whether a chain from the stack in place `h` on may end anywhere, where `left` stacks may still be pushed. The last stack is only asked for a
+// vacant place.
+pub fn can_end(sheet: &[u8], t: usize, left: usize, h: usize) -> bool
+    requires { ⌜ (length (now sheet) ≡ 182) × (1 ≤ left) × TrailOk t left × (h < 182) ⌝ }
+    ensures { λ r. ⌜ r ≡ any (endsIn (nextIn (now (sheet .entry))) (standIn (now (sheet .entry))) (trailOf t) left h) 182 ⌝ }
+{
+    if has_rest(sheet, t, h) {
+        return true;
+    }
+    if left < 2 {
+        return false;
+    }
+    let used = longer(t, h, left);
+    for d in 0..6 {
+        let Beside::At(z) = crate::next_in(sheet, h, d) else {
+            continue;
+        };
+        if !yields(sheet, t, h, z) {
+            continue;
+        }
+        if left < 3 {
+            if has_rest(sheet, used, z) {
+                return true;
+            }
+            continue;
+        }
+        if can_end(sheet, used, left - 1, z) {
+            return true;
+        }
+    }
+    false
+}
+
+// Marks the places in which a chain may end whose last stack is in place `h`.
+fn mark_last(sheet: &[u8], ends: &mut [u8], x: usize, t: usize, h: usize)
+    requires { ⌜ (length (now sheet) ≡ 182) × (length (now ends) ≡ 91) × (x < 182) × Close x h 2 ⌝ }
+    ensures { λ _. ⌜ Marks x (endsIn (nextIn (now (sheet .entry))) (standIn (now (sheet .entry))) (trailOf t) 1 h) (now (ends .entry)) (now (ends .exit)) ⌝ }
+{
+    if has_rest(sheet, t, h) {
+        mark_rests(sheet, ends, x, t, h);
+    }
+}
+
 // Marks the places in which a chain from the stack in place `h` on may end, where `left` stacks may still be pushed. Each turn uses a place
 // more, and so those not used become fewer.
-pub fn gather(sheet: &[u8], ends: &mut [u8], x: usize, t: Trail, left: usize, h: usize)
+pub fn gather(sheet: &[u8], ends: &mut [u8], x: usize, t: usize, left: usize, h: usize)
     requires { ⌜ (length (now sheet) ≡ 182) × (length (now ends) ≡ 91) × (x < 182) × (1 ≤ left) × TrailOk t left × Close x h (3 - left) ⌝ }
     ensures { λ _. ⌜ Marks x (endsIn (nextIn (now (sheet .entry))) (standIn (now (sheet .entry))) (trailOf t) left h) (now (ends .entry)) (now (ends .exit)) ⌝ }
 {
@@ -129,9 +172,14 @@ pub fn gather(sheet: &[u8], ends: &mut [u8], x: usize, t: Trail, left: usize, h:
         let Beside::At(z) = crate::next_in(sheet, h, d) else {
             continue;
         };
-        if yields(sheet, t, h, z) {
-            gather(sheet, ends, x, used, left - 1, z);
+        if !yields(sheet, t, h, z) {
+            continue;
         }
+        if left < 3 {
+            mark_last(sheet, ends, x, used, z);
+            continue;
+        }
+        gather(sheet, ends, x, used, left - 1, z);
     }
 }
 

@@ -8,7 +8,6 @@ ghost use Rattle.sheet.specs.Places.{homeFor};
 ghost use Rattle.sheet.specs.Trail.{trailOf, TrailOk};
 ghost use Rattle.sheet.specs.Follow.{followsIn, TookIn, PushedOut, Stepped};
 use crate::chain;
-use crate::chain::Trail;
 use crate::spot;
 use chains::Stand;
 use grid::Beside;
@@ -40,7 +39,7 @@ fn take(
     sheet: &[u8],
     w: usize,
     start: usize,
-    t: Trail,
+    t: usize,
     left: usize,
     h: usize,
     pushes: &[u16],
@@ -93,11 +92,7 @@ fn push_out(
     requires { ⌜ (length (now sheet) ≡ 182) × (1 ≤ w) × (start < 65536) × (a < 182) × (x < 182) × (k ≤ length (now pushes)) ⌝ }
     ensures { λ r. ⌜ PushedOut w start (now (sheet .entry)) (now (sheet .exit)) a x k (now (pushes .entry)) r ⌝ }
 {
-    let own = Trail {
-        first: a,
-        second: chain::NONE,
-        third: chain::NONE,
-    };
+    let own = chain::own(a);
     let Took::UpTo(y, m) = take(sheet, w, start, own, 3, x, pushes, k) else {
         return Took::Wrong;
     };

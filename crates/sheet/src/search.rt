@@ -6,9 +6,53 @@ ghost use Rattle.sheet.specs.Sheet.{shifted};
 ghost use Rattle.sheet.specs.Ends.{Blank};
 ghost use Rattle.sheet.specs.Search.{servesIn, overIn, shovesIn};
 use crate::chain;
-use crate::chain::Trail;
 use chains::Stand;
 use grid::Beside;
+
+// Whether the group goes from place `a` over place `x` as its last step.
+fn last_over(sheet: &[u8], home: usize, i: usize, a: usize, x: usize) -> bool
+    requires { ⌜ (length (now sheet) ≡ 182) × (home < 182) × (a < 182) × (x < 182) × (i ≤ 2) ⌝ }
+    ensures { λ r. ⌜ r ≡ overIn home (now (sheet .entry)) 0 i a x ⌝ }
+{
+    if grid::distance(crate::WIDE, crate::HIGH, home, x) != i + 1 {
+        return false;
+    }
+    match crate::stand_in(sheet, x) {
+        Stand::Shut => false,
+        Stand::Free => true,
+        Stand::Loose => chain::can_end(sheet, chain::own(a), 3, x),
+    }
+}
+
+// Whether it has a last step from place `a`: then no chain's end matters.
+fn last(sheet: &[u8], home: usize, i: usize, a: usize) -> bool
+    requires { ⌜ (length (now sheet) ≡ 182) × (home < 182) × (a < 182) × (i ≤ 2) ⌝ }
+    ensures { λ r. ⌜ r ≡ servesIn home (now (sheet .entry)) 1 i a ⌝ }
+{
+    for d in 0..6 {
+        let Beside::At(x) = crate::next_in(sheet, a, d) else {
+            continue;
+        };
+        if last_over(sheet, home, i, a, x) {
+            return true;
+        }
+    }
+    false
+}
+
+// Whether `k` more steps go on from place `a` after `i` steps; the search itself is for more than one.
+fn go_on(sheet: &mut [u8], home: usize, k: usize, i: usize, a: usize) -> bool
+    requires { ⌜ (length (now sheet) ≡ 182) × (home < 182) × (a < 182) × (k + i ≤ 3) ⌝ }
+    ensures { λ r. ⌜ (r ≡ servesIn home (now (sheet .entry)) k i a) × (now (sheet .exit) ≡ now (sheet .entry)) ⌝ }
+{
+    if k == 0 {
+        return true;
+    }
+    if k == 1 {
+        return last(sheet, home, i, a);
+    }
+    serves(sheet, home, k, i, a)
+}
 
 // The chain from place `x` to place `y` is done and `k` more steps are looked for; then the sheet is as it was.
 fn with_end(sheet: &mut [u8], home: usize, k: usize, i: usize, x: usize, y: usize) -> bool
@@ -18,7 +62,7 @@ fn with_end(sheet: &mut [u8], home: usize, k: usize, i: usize, x: usize, y: usiz
     let from = sheet[x];
     let to = sheet[y];
     crate::shift(sheet, x, y);
-    let found = serves(sheet, home, k, i + 1, x);
+    let found = go_on(sheet, home, k, i + 1, x);
     sheet[y] = to;
     sheet[x] = from;
     found
@@ -37,11 +81,7 @@ fn with_ends(
     requires { ⌜ (length (now sheet) ≡ 182) × Blank (now ends) × (home < 182) × (a < 182) × (x < 182) × (k + i ≤ 2) ⌝ }
     ensures { λ r. ⌜ (r ≡ shovesIn home (now (sheet .entry)) k i a x) × (now (sheet .exit) ≡ now (sheet .entry)) ⌝ }
 {
-    let own = Trail {
-        first: a,
-        second: chain::NONE,
-        third: chain::NONE,
-    };
+    let own = chain::own(a);
     chain::gather(sheet, ends, x, own, 3, x);
     for y in 0..182 {
         if !chain::ends_in(ends, x, y) {
@@ -73,7 +113,7 @@ fn over(sheet: &mut [u8], home: usize, k: usize, i: usize, a: usize, x: usize) -
     }
     match crate::stand_in(sheet, x) {
         Stand::Shut => false,
-        Stand::Free => serves(sheet, home, k, i + 1, x),
+        Stand::Free => go_on(sheet, home, k, i + 1, x),
         Stand::Loose => shoves(sheet, home, k, i, a, x),
     }
 }

@@ -1,12 +1,19 @@
+-- `sheet::chain::longer` meets its contract.
+-- Assumes nothing.
+use mathlib.Core.Path.{refl}
+use borrow.Author.Needs.{needs}
 use Rattle.sheet.proofs.Trails.{longer-is, longer-ok}
 use Rattle.sheet.proofs.chain.longer.Statement.{statement}
 use Rattle.sheet.proofs.chain.longer.Tie as tie
-use Rattle.sheet.proofs.chain.longer.Reads as reads
-use Rattle.sheet.proofs.chain.longer.Lts as lts
 
--- src/chain.rt:44:1
+mul-result : tie.Need-mul-result
+mul-result c = search needs
+
+add-result : tie.Need-add-result
+add-result c = search needs
+
 returns : tie.Need-returns
-returns c = (longer-is _ _ _ (c .pre .0) (c .pre .1) (c .pre .2), longer-ok _ _ _ (c .pre .0) (c .pre .1))
+returns c = let p = c .pre in (longer-is _ _ _ _ (p .0) (p .1) (p .2) refl, longer-ok _ _ _ _ (p .0) (p .1) (p .2) refl)
 
 pub longer-spec : {M : Type 1} → statement M
-longer-spec = tie.close (tie.spec returns)
+longer-spec = tie.close (tie.spec mul-result add-result returns)

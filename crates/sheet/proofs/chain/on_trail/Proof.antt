@@ -1,21 +1,18 @@
-use Rattle.sheet.proofs.Trails.{on-first, on-second, on-third}
+-- `sheet::chain::on_trail` meets its contract.
+-- Assumes nothing.
 use mathlib.Core.Path.{sym}
+use Rattle.sheet.proofs.Trails.{on-first, on-second, on-third}
 use Rattle.sheet.proofs.chain.on_trail.Statement.{statement}
 use Rattle.sheet.proofs.chain.on_trail.Tie as tie
-use Rattle.sheet.proofs.chain.on_trail.Reads as reads
-use Rattle.sheet.proofs.chain.on_trail.Lts as lts
 
--- src/chain.rt:35:9
 returns : tie.Need-returns
-returns c = sym (on-first _ _ (c .before .before .pre) (c .if1 .taken))
+returns c = sym (on-first _ _ (c .before .pre) (c .if1 .taken))
 
--- src/chain.rt:38:9
 returns-2 : tie.Need-returns-2
-returns-2 c = sym (on-second _ _ (c .before .before .before .before .pre) (c .before .before .if1 .left) (c .if2 .taken))
+returns-2 c = sym (on-second _ _ (c .before .before .pre) (c .before .if1 .left) (c .if2 .taken))
 
--- src/chain.rt:30:1
 returns-3 : tie.Need-returns-3
-returns-3 c = sym (on-third _ _ (c .before .before .before .before .before .pre) (c .before .before .before .if1 .left) (c .before .if2 .left))
+returns-3 c = sym (on-third _ _ (c .before .before .pre) (c .before .if1 .left) (c .if2 .left))
 
 pub on-trail-spec : {M : Type 1} → statement M
 on-trail-spec = tie.close (tie.spec returns returns-2 returns-3)

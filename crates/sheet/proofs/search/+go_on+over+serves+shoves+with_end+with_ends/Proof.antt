@@ -1,5 +1,5 @@
--- The proof of the cycle of calls {over, serves, shoves, with_end, with_ends}. Only `serves` calls with fewer steps left; the others, which
--- it comes to before it calls itself again, have their places between 5k and 5k + 5.
+-- The proof of the cycle of calls {go_on, over, serves, shoves, with_end, with_ends}. Only `serves` calls with fewer steps left; the others,
+-- which it comes to before it calls itself again, have their places between 6k and 6k + 6.
 -- Assumes nothing.
 use Prim.Native.Nat.{ℕ, _+_, _-_, _*_, _<_}
 use mathlib.Core.Path.{refl, sym, ap, _∙_}
@@ -11,49 +11,63 @@ use borrow.Author.Tests.{not-false, not-true}
 use lib.ListN.{length, length-set}
 use Rattle.position.proofs.Tallies.{any-zero}
 use Rattle.sheet.proofs.Sheets.{next-below}
-use Rattle.sheet.proofs.Searching.{Unserved, Unended, blank, close-self, gathered, on-sheet, own-ok}
-use Rattle.sheet.proofs.Searching.{over-far, over-free, over-loose, over-shut, served, serves-done, put-back, shoved}
+use Rattle.sheet.proofs.Searching.{Unserved, Unended, blank, close-self, gathered, on-sheet}
+use Rattle.sheet.proofs.Searching.{over-far, over-free, over-loose, over-shut, served, serves-done, serves-last, put-back, shoved}
 use Rattle.sheet.proofs.Searching.{unended, unended-not, unended-with, unserved, unserved-off, unserved-over}
+use Rattle.sheet.proofs.search.go_on.Reads as go-on
+use Rattle.sheet.proofs.search.go_on.Kinds as go-on-kinds
+use Rattle.sheet.proofs.search.+go_on+over+serves+shoves+with_end+with_ends.Lts-go_on as go-on-lts
 use Rattle.sheet.proofs.search.over.Reads as over
 use Rattle.sheet.proofs.search.over.Kinds as over-kinds
-use Rattle.sheet.proofs.search.+over+serves+shoves+with_end+with_ends.Lts-over as over-lts
+use Rattle.sheet.proofs.search.+go_on+over+serves+shoves+with_end+with_ends.Lts-over as over-lts
 use Rattle.sheet.proofs.search.serves.Reads as serves
 use Rattle.sheet.proofs.search.serves.Kinds as serves-kinds
-use Rattle.sheet.proofs.search.+over+serves+shoves+with_end+with_ends.Lts-serves as serves-lts
+use Rattle.sheet.proofs.search.+go_on+over+serves+shoves+with_end+with_ends.Lts-serves as serves-lts
 use Rattle.sheet.proofs.search.shoves.Reads as shoves
 use Rattle.sheet.proofs.search.shoves.Kinds as shoves-kinds
-use Rattle.sheet.proofs.search.+over+serves+shoves+with_end+with_ends.Lts-shoves as shoves-lts
+use Rattle.sheet.proofs.search.+go_on+over+serves+shoves+with_end+with_ends.Lts-shoves as shoves-lts
 use Rattle.sheet.proofs.search.with_end.Reads as with-end
 use Rattle.sheet.proofs.search.with_end.Kinds as with-end-kinds
-use Rattle.sheet.proofs.search.+over+serves+shoves+with_end+with_ends.Lts-with_end as with-end-lts
+use Rattle.sheet.proofs.search.+go_on+over+serves+shoves+with_end+with_ends.Lts-with_end as with-end-lts
 use Rattle.sheet.proofs.search.with_ends.Reads as with-ends
 use Rattle.sheet.proofs.search.with_ends.Kinds as with-ends-kinds
-use Rattle.sheet.proofs.search.+over+serves+shoves+with_end+with_ends.Lts-with_ends as with-ends-lts
+use Rattle.sheet.proofs.search.+go_on+over+serves+shoves+with_end+with_ends.Lts-with_ends as with-ends-lts
 use Rattle.grid.proofs.distance.Reads as distance-reads
 use Rattle.sheet.proofs.chain.ends_in.Reads as ends-in-reads
 use Rattle.sheet.proofs.chain.gather.Reads as gather-reads
+use Rattle.sheet.proofs.chain.own.Reads as own-reads
 use Rattle.sheet.proofs.next_in.Reads as next-in-reads
+use Rattle.sheet.proofs.search.last.Reads as last-reads
 use Rattle.sheet.proofs.shift.Reads as shift-reads
 use Rattle.sheet.proofs.stand_in.Reads as stand-in-reads
-use Rattle.sheet.proofs.search.+over+serves+shoves+with_end+with_ends.{statement}
-use Rattle.sheet.proofs.search.+over+serves+shoves+with_end+with_ends.Tie.{close}
+use Rattle.sheet.proofs.search.+go_on+over+serves+shoves+with_end+with_ends.{statement}
+use Rattle.sheet.proofs.search.+go_on+over+serves+shoves+with_end+with_ends.Tie.{close}
+
+abbrev μ-go-on : Measures 1 go-on-kinds.ps ℕ
+μ-go-on κs a = 6 * a .1 .1 .0 + 1
 
 abbrev μ-over : Measures 1 over-kinds.ps ℕ
-μ-over κs a = 5 * a .1 .1 .0 + 4
+μ-over κs a = 6 * a .1 .1 .0 + 5
 
 abbrev μ-serves : Measures 1 serves-kinds.ps ℕ
-μ-serves κs a = 5 * a .1 .1 .0
+μ-serves κs a = 6 * a .1 .1 .0
 
 abbrev μ-shoves : Measures 1 shoves-kinds.ps ℕ
-μ-shoves κs a = 5 * a .1 .1 .0 + 3
+μ-shoves κs a = 6 * a .1 .1 .0 + 4
 
 abbrev μ-with-end : Measures 1 with-end-kinds.ps ℕ
-μ-with-end κs a = 5 * a .1 .1 .0 + 1
+μ-with-end κs a = 6 * a .1 .1 .0 + 2
 
 abbrev μ-with-ends : Measures 2 with-ends-kinds.ps ℕ
-μ-with-ends κs a = 5 * a .1 .1 .1 .0 + 2
+μ-with-ends κs a = 6 * a .1 .1 .1 .0 + 3
 
 -- what each is given at the measure t, and what a call of it asks below t
+abbrev go-on-at : ℕ → In 1 go-on-kinds.ps
+go-on-at t = and 1 go-on-kinds.ps (is 1 go-on-kinds.ps μ-go-on t) go-on.Pre
+
+abbrev go-on-below : ℕ → In 1 go-on-kinds.ps
+go-on-below t = and 1 go-on-kinds.ps (falls 1 go-on-kinds.ps _<_ μ-go-on t) go-on.Pre
+
 abbrev over-at : ℕ → In 1 over-kinds.ps
 over-at t = and 1 over-kinds.ps (is 1 over-kinds.ps μ-over t) over.Pre
 
@@ -84,14 +98,32 @@ with-ends-at t = and 2 with-ends-kinds.ps (is 2 with-ends-kinds.ps μ-with-ends 
 abbrev with-ends-below : ℕ → In 2 with-ends-kinds.ps
 with-ends-below t = and 2 with-ends-kinds.ps (falls 2 with-ends-kinds.ps _<_ μ-with-ends t) with-ends.Pre
 
+abbrev go-on-claims : ℕ → go-on-lts.Claims
+go-on-claims t = (last-reads.Asked, last-reads.Learnt, serves-below t, serves.Post)
+
+go-on-returns : (t : ℕ) → go-on-lts.Need-returns (go-on-claims t) (go-on-at t) go-on.Post
+go-on-returns t c = (sym (serves-done _ _ _ _ _ (c .if1 .taken)), refl)
+
+go-on-last-requires : (t : ℕ) → go-on-lts.Need-last-requires (go-on-claims t) (go-on-at t) go-on.Post
+go-on-last-requires t c κs = let p = c .before .before .before .before .pre .1 in (p .0, p .1, p .2, omega arith)
+
+go-on-returns-2 : (t : ℕ) → go-on-lts.Need-returns-2 (go-on-claims t) (go-on-at t) go-on.Post
+go-on-returns-2 t c = (c .last .ensures ∙ serves-last _ _ _ _ _ (c .before .before .if2 .taken), refl)
+
+go-on-serves-requires : (t : ℕ) → go-on-lts.Need-serves-requires (go-on-claims t) (go-on-at t) go-on.Post
+go-on-serves-requires t c κs = (omega arith, c .before .before .before .before .pre .1)
+
+go-on-returns-3 : (t : ℕ) → go-on-lts.Need-returns-3 (go-on-claims t) (go-on-at t) go-on.Post
+go-on-returns-3 t c = c .before .before .serves .ensures
+
 abbrev over-claims : ℕ → over-lts.Claims
 over-claims t = (
   distance-reads.Asked,
   distance-reads.Learnt,
   stand-in-reads.Asked,
   stand-in-reads.Learnt,
-  serves-below t,
-  serves.Post,
+  go-on-below t,
+  go-on.Post,
   shoves-below t,
   shoves.Post,
 )
@@ -105,8 +137,8 @@ over-returns t c = (sym (over-far _ _ _ _ _ _ (λ e. c .if1 .taken (c .before .d
 over-stand-in-requires : (t : ℕ) → over-lts.Need-stand-in-requires (over-claims t) (over-at t) over.Post
 over-stand-in-requires t c κs = (c .before .before .before .before .pre .1 .0, c .before .before .before .before .pre .1 .3)
 
-over-serves-requires : (t : ℕ) → over-lts.Need-serves-requires (over-claims t) (over-at t) over.Post
-over-serves-requires t c κs = let p = c .before .before .before .before .before .before .before .before .pre .1 in
+over-go-on-requires : (t : ℕ) → over-lts.Need-go-on-requires (over-claims t) (over-at t) over.Post
+over-go-on-requires t c κs = let p = c .before .before .before .before .before .before .before .before .pre .1 in
     (omega arith, (p .0, p .1, p .3, omega arith))
 
 over-shoves-requires : (t : ℕ) → over-lts.Need-shoves-requires (over-claims t) (over-at t) over.Post
@@ -121,12 +153,12 @@ over-returns-2 t c = (
 
 over-returns-3 : (t : ℕ) → over-lts.Need-returns-3 (over-claims t) (over-at t) over.Post
 over-returns-3 t c = (
-  c .before .before .serves .ensures .0 ∙ sym (over-free _ _ _ _ _ _
+  c .before .before .go-on .ensures .0 ∙ sym (over-free _ _ _ _ _ _
       (sym (c .before .before .before .before .before .before .before .before .before .distance .ensures)
       ∙ c .before .before .before .before .before .before .before .before .if1 .left)
       (sym (c .before .before .before .before .before .before .stand-in .ensures)
       ∙ c .before .before .before .before .enum-told2 .given .1)),
-  c .before .before .serves .ensures .1,
+  c .before .before .go-on .ensures .1,
 )
 
 over-returns-4 : (t : ℕ) → over-lts.Need-returns-4 (over-claims t) (over-at t) over.Post
@@ -215,13 +247,13 @@ shoves-returns : (t : ℕ) → shoves-lts.Need-returns (shoves-claims t) (shoves
 shoves-returns t c = c .before .before .before .with-ends .ensures
 
 abbrev with-end-claims : ℕ → with-end-lts.Claims
-with-end-claims t = (shift-reads.Asked, shift-reads.Learnt, serves-below t, serves.Post)
+with-end-claims t = (shift-reads.Asked, shift-reads.Learnt, go-on-below t, go-on.Post)
 
 with-end-shift-requires : (t : ℕ) → with-end-lts.Need-shift-requires (with-end-claims t) (with-end-at t) with-end.Post
 with-end-shift-requires t c κs = let p = c .before .before .before .before .pre .1 in (p .0, p .2, p .3)
 
-with-end-serves-requires : (t : ℕ) → with-end-lts.Need-serves-requires (with-end-claims t) (with-end-at t) with-end.Post
-with-end-serves-requires t c κs = let p = c .before .before .before .before .before .before .before .before .pre .1 in
+with-end-go-on-requires : (t : ℕ) → with-end-lts.Need-go-on-requires (with-end-claims t) (with-end-at t) with-end.Post
+with-end-go-on-requires t c κs = let p = c .before .before .before .before .before .before .before .before .pre .1 in
     (omega arith, (c .before .before .before .shift .kept .0 ∙ p .0, p .1, p .2, omega arith))
 
 with-end-slice-write-sheet : (t : ℕ) → with-end-lts.Need-slice-write-sheet (with-end-claims t) (with-end-at t) with-end.Post
@@ -230,7 +262,7 @@ with-end-slice-write-sheet t c = omega (
   c .before .before .before .before .before .before .before .before .before .before .before
       .pre .1 .0,
   c .before .before .before .before .before .before .shift .kept .0,
-  ap length (c .before .before .serves .ensures .1),
+  ap length (c .before .before .go-on .ensures .1),
 )
 
 with-end-slice-write-sheet-2 : (t : ℕ) → with-end-lts.Need-slice-write-sheet-2 (with-end-claims t) (with-end-at t) with-end.Post
@@ -238,42 +270,55 @@ with-end-slice-write-sheet-2 t c = simp length-set (omega (
   arith,
   c .before .before .before .before .before .before .before .before .before .before .before .pre .1 .0,
   c .before .before .before .before .before .before .shift .kept .0,
-  ap length (c .before .before .serves .ensures .1),
+  ap length (c .before .before .go-on .ensures .1),
 ))
 
 with-end-same-length : (t : ℕ) → with-end-lts.Need-same-length (with-end-claims t) (with-end-at t) with-end.Post
 with-end-same-length t c = ap length (put-back _ _ (c .before .before .before .before .before .before .shift .ensures)
-    (c .before .before .serves .ensures .1))
+    (c .before .before .go-on .ensures .1))
 
 with-end-returns : (t : ℕ) → with-end-lts.Need-returns (with-end-claims t) (with-end-at t) with-end.Post
 with-end-returns t c = (
-  c .before .before .serves .ensures .0 ∙ rw (c .before .before .before .before .before .before .shift .ensures),
-  put-back _ _ (c .before .before .before .before .before .before .shift .ensures) (c .before .before .serves .ensures .1),
+  c .before .before .go-on .ensures .0 ∙ rw (c .before .before .before .before .before .before .shift .ensures),
+  put-back _ _ (c .before .before .before .before .before .before .shift .ensures) (c .before .before .go-on .ensures .1),
 )
 
 abbrev with-ends-Inv-loop : with-ends-lts.InvT-loop
-with-ends-Inv-loop sheet₀ ends home k i a x y₀ sheet y = Unended home sheet₀ ends k i a x sheet y
+with-ends-Inv-loop sheet₀ ends home k i a x own y₀ sheet y = Unended home sheet₀ ends k i a x sheet y
 
 abbrev with-ends-μ-loop : with-ends-lts.MeasureT-loop
-with-ends-μ-loop sheet₀ ends home k i a x y₀ sheet y = 182 - y
+with-ends-μ-loop sheet₀ ends home k i a x own y₀ sheet y = 182 - y
 
 abbrev with-ends-claims : ℕ → with-ends-lts.Claims
-with-ends-claims t = (gather-reads.Asked, gather-reads.Learnt, ends-in-reads.Asked, ends-in-reads.Learnt, with-end-below t, with-end.Post)
+with-ends-claims t = (
+  own-reads.Asked,
+  own-reads.Learnt,
+  gather-reads.Asked,
+  gather-reads.Learnt,
+  ends-in-reads.Asked,
+  ends-in-reads.Learnt,
+  with-end-below t,
+  with-end.Post,
+)
+
+with-ends-own-requires : (t : ℕ) → with-ends-lts.Need-own-requires (with-ends-claims t)
+    (with-ends-at t) with-ends.Post with-ends-Inv-loop with-ends-μ-loop
+with-ends-own-requires t c κs = c .before .before .pre .1 .3
 
 with-ends-gather-requires : (t : ℕ) → with-ends-lts.Need-gather-requires (with-ends-claims t)
     (with-ends-at t) with-ends.Post with-ends-Inv-loop with-ends-μ-loop
-with-ends-gather-requires t c κs = let p = c .before .before .before .before .pre .1 in
-    (p .0, p .1 .long, p .4, omega arith, own-ok _ refl refl, close-self _ (p .4))
+with-ends-gather-requires t c κs = let p = c .before .before .before .before .before .pre .1 in
+    (p .0, p .1 .long, p .4, omega arith, c .before .before .own .ensures .1, close-self _ (p .4))
 
 with-ends-loop-holds : (t : ℕ) → with-ends-lts.Need-loop-holds (with-ends-claims t)
     (with-ends-at t) with-ends.Post with-ends-Inv-loop with-ends-μ-loop
-with-ends-loop-holds t c = let p = c .before .before .before .before .before .before .before .pre .1 in
+with-ends-loop-holds t c = let p = c .before .before .before .before .before .before .before .before .pre .1 in
     record {
       same = refl;
       long = p .0;
       inside = p .4;
-      told = gathered _ _ (p .0) (p .3) refl refl (c .before .before .gather .ensures)
-          (p .1) (p .4);
+      told = gathered _ (c .before .before .before .before .before .own .ensures .0) (c .before .before .gather .ensures)
+          (p .1);
       most = omega arith;
       none = any-zero _;
     }
@@ -282,8 +327,8 @@ with-ends-ends-in-requires : (t : ℕ) → with-ends-lts.Need-ends-in-requires (
     (with-ends-at t) with-ends.Post with-ends-Inv-loop with-ends-μ-loop
 with-ends-ends-in-requires t c κs = (
   c .before .before .before .before .before .gather .kept .1 .0
-      ∙ c .before .before .before .before .before .before .before .before .before .before .pre .1 .1 .long,
-  c .before .before .before .before .before .before .before .before .before .before .pre .1 .4,
+      ∙ c .before .before .before .before .before .before .before .before .before .before .before .pre .1 .1 .long,
+  c .before .before .before .before .before .before .before .before .before .before .before .pre .1 .4,
   omega arith,
 )
 
@@ -295,7 +340,7 @@ with-ends-loop-again t c = unended-not (c .before .before .before .before .loop 
 with-ends-with-end-requires : (t : ℕ) → with-ends-lts.Need-with-end-requires (with-ends-claims t)
     (with-ends-at t) with-ends.Post with-ends-Inv-loop with-ends-μ-loop
 with-ends-with-end-requires t c κs = let p = c .before .before .before .before .before .before .before .before .before .before .before
-    .before .before .pre .1 in (
+    .before .before .before .pre .1 in (
       omega arith,
       (
         ap length (c .before .before .before .before .before .loop .inv .same) ∙ p .0,
@@ -346,11 +391,12 @@ with-ends-returns-2 : (t : ℕ) → with-ends-lts.Need-returns-2 (with-ends-clai
     (with-ends-at t) with-ends.Post with-ends-Inv-loop with-ends-μ-loop
 with-ends-returns-2 t c = (sym (unended (c .before .loop .inv) (omega arith)), c .before .loop .inv .same)
 
-pub +over+serves+shoves+with-end+with-ends-spec : {M : Type 1} → statement M
-+over+serves+shoves+with-end+with-ends-spec =
-    close μ-over μ-serves μ-shoves μ-with-end μ-with-ends
+pub +go-on+over+serves+shoves+with-end+with-ends-spec : {M : Type 1} → statement M
++go-on+over+serves+shoves+with-end+with-ends-spec =
+    close μ-go-on μ-over μ-serves μ-shoves μ-with-end μ-with-ends
+    (λ t. go-on-lts.spec (go-on-claims t) (go-on-at t) go-on.Post (go-on-returns t) (go-on-last-requires t) (λ c. search needs) (go-on-returns-2 t) (go-on-serves-requires t) (λ c. search needs) (go-on-returns-3 t))
     (λ t. over-lts.spec (over-claims t) (over-at t) over.Post (over-distance-requires t) (λ c. omega arith) (over-returns t)
-    (over-stand-in-requires t) (λ c. search needs) (λ c. search needs) (λ c. omega arith) (over-serves-requires t) (λ c. search needs)
+    (over-stand-in-requires t) (λ c. search needs) (λ c. search needs) (λ c. omega arith) (over-go-on-requires t) (λ c. search needs)
     (over-shoves-requires t) (λ c. search needs) (over-returns-2 t) (λ c. search needs) (over-returns-3 t) (λ c. search needs)
     (over-returns-4 t))
     (λ t. serves-lts.spec (serves-claims t) (serves-at t) serves.Post serves-Inv-loop serves-μ-loop (serves-returns t)
@@ -360,10 +406,10 @@ pub +over+serves+shoves+with-end+with-ends-spec : {M : Type 1} → statement M
     (λ t. shoves-lts.spec (shoves-claims t) (shoves-at t) shoves.Post (λ c. search needs) (shoves-with-ends-requires t)
     (λ c. search needs) (shoves-returns t))
     (λ t. with-end-lts.spec (with-end-claims t) (with-end-at t) with-end.Post (λ c. omega arith) (λ c. omega arith)
-    (with-end-shift-requires t) (λ c. omega arith) (with-end-serves-requires t) (with-end-slice-write-sheet t)
+    (with-end-shift-requires t) (λ c. omega arith) (with-end-go-on-requires t) (with-end-slice-write-sheet t)
     (with-end-slice-write-sheet-2 t) (with-end-same-length t) (with-end-returns t))
     (λ t. with-ends-lts.spec (with-ends-claims t) (with-ends-at t) with-ends.Post with-ends-Inv-loop with-ends-μ-loop
-    (with-ends-gather-requires t) (with-ends-loop-holds t) (with-ends-ends-in-requires t) (λ c. omega arith) (λ c. omega arith)
+    (with-ends-own-requires t) (with-ends-gather-requires t) (with-ends-loop-holds t) (with-ends-ends-in-requires t) (λ c. omega arith) (λ c. omega arith)
     (with-ends-loop-again t) (with-ends-with-end-requires t) (with-ends-same-length t) (with-ends-same-length-2 t) (with-ends-returns t)
     (λ c. omega arith) (λ c. omega arith) (with-ends-loop-again-2 t) (with-ends-same-length-3 t) (with-ends-same-length-4 t)
     (with-ends-returns-2 t))
