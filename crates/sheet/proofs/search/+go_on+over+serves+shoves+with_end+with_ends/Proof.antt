@@ -11,7 +11,8 @@ use borrow.Author.Tests.{not-false, not-true}
 use lib.ListN.{length, length-set}
 use Rattle.position.proofs.Tallies.{any-zero}
 use Rattle.sheet.proofs.Sheets.{next-below}
-use Rattle.sheet.proofs.Searching.{Unserved, Unended, blank, close-self, gathered, on-sheet}
+use Rattle.sheet.proofs.Ends.{close-self}
+use Rattle.sheet.proofs.Searching.{Unserved, Unended, blank, gathered, on-sheet}
 use Rattle.sheet.proofs.Searching.{over-far, over-free, over-loose, over-shut, served, serves-done, serves-last, put-back, shoved}
 use Rattle.sheet.proofs.Searching.{unended, unended-not, unended-with, unserved, unserved-off, unserved-over}
 use Rattle.sheet.proofs.search.go_on.Reads as go-on
@@ -318,7 +319,7 @@ with-ends-loop-holds t c = let p = c .before .before .before .before .before .be
       long = p .0;
       inside = p .4;
       told = gathered _ (c .before .before .before .before .before .own .ensures .0) (c .before .before .gather .ensures)
-          (p .1);
+          (p .1) (p .4);
       most = omega arith;
       none = any-zero _;
     }
