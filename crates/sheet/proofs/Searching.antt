@@ -15,7 +15,7 @@ use Rattle.position.specs.Layout.{byte}
 use Rattle.position.specs.Tally.{any}
 use Rattle.position.proofs.Tallies.{any-miss, any-true, any-same}
 use Rattle.chains.specs.declared.Stand.the-variants.{Shut, Free, Loose}
-use Rattle.chains.specs.Chain.{leadsTo, after, most}
+use Rattle.chains.specs.Chain.{leadsTo, most}
 use Rattle.chains.specs.Follows.{byStand}
 use Rattle.chains.specs.Serves.{endsIn, onWith, onOver, serves}
 use Rattle.sheet.specs.Sheet.{places, standIn, nextIn, landIn, shifted, wide, high}
