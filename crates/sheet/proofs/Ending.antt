@@ -51,7 +51,8 @@ module _ (l used : List ℕ) (left h : ℕ) (p : 1 ≤ left) where
       → ends l used left h ≡ true
   unfolding upTo
   can-via d z b e q r trail f g =
-      let k = any-some (endsIn (nextIn l) (standIn l) (h ∷ used) (left - 1) z) places (ap (λ (us : List ℕ). ends l us (left - 1) z) (sym f) ∙ g) in
+      let k = any-some (endsIn (nextIn l) (standIn l) (h ∷ used) (left - 1) z) places
+      (ap (λ (us : List ℕ). ends l us (left - 1) z) (sym f) ∙ g) in
       any-true (endsIn (nextIn l) (standIn l) used left h) places (k .at) (k .below)
       (sym (ends-via (nextIn l) (standIn l) used left h (k .at) p q)
       ∙ any-true (λ n. endVia (nextIn l) (standIn l) (h ∷ used) (left - 1) h n (k .at)) 6 d b

@@ -1,9 +1,9 @@
 -- Laws of marks: the places in which a chain may end.
 -- Assumes nothing.
-use Prim.Native.Nat.{ℕ, zero, suc, _+_, _-_, _*_, _≤_, _<_}
-use mathlib.Core.Path.{_≡_, refl, sym, ap, ap₂, subst, _∙_}
-use mathlib.Core.Bool.{Bool, true, false, cond, _&&_, _||_, and-false, and-true, or-false, or-assoc}
-use mathlib.Core.List.{List, [], _∷_}
+use Prim.Native.Nat.{ℕ, zero, suc, _+_, _-_, _≤_, _<_}
+use mathlib.Core.Path.{_≡_, refl, sym, ap, subst, _∙_}
+use mathlib.Core.Bool.{Bool, true, false, _&&_, _||_, and-false, and-true, or-false, or-assoc}
+use mathlib.Core.List.{List, _∷_}
 use native.Mathlib.Omega.{arith}
 use native.Mathlib.Decide.{decLe}
 use lib.Dec.{eqb, leb}
@@ -22,7 +22,10 @@ use Rattle.sheet.specs.Sheet.{places, nextIn}
 use Rattle.sheet.specs.Ends.{reach, room, Close, marked, Marks, restsBeside, endMarked, Blank}
 use Rattle.sheet.proofs.Sheets.{next-below, next-near}
 
--- a place that is close, by more steps; and one step further
+-- a place is close to itself; one that is close is so by more steps; and one step further
+pub close-self : (x : ℕ) → x < places → Close x x 0
+close-self x l = record { below = l; after = omega arith; before = omega arith }
+
 pub close-more : {x y m : ℕ} (n : ℕ) → m ≤ n → Close x y m → Close x y n
 close-more n l c = record { below = c .below; after = omega (arith, c .after); before = omega (arith, c .before) }
 
@@ -325,5 +328,5 @@ pub ended :
     → x < places → y < places → endMarked m x y ≡ endsIn (nextIn sheet) s used 3 x y
 ended sheet s used x y k a p q =
     ended-by k a
-    (λ z e. ends-close sheet s used 3 x x z (omega arith) (record { below = p; after = omega arith; before = omega arith }) e)
+    (λ z e. ends-close sheet s used 3 x x z (omega arith) (close-self x p) e)
     y q

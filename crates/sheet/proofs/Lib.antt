@@ -5,6 +5,5 @@ pub mod Trails
 pub mod Ends
 pub mod Ending
 pub mod Taking
-pub mod Reached
 pub mod Searching
 pub mod Following

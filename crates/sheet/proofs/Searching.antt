@@ -15,13 +15,13 @@ use Rattle.position.specs.Layout.{byte}
 use Rattle.position.specs.Tally.{any}
 use Rattle.position.proofs.Tallies.{any-miss, any-true, any-same}
 use Rattle.chains.specs.declared.Stand.the-variants.{Shut, Free, Loose}
-use Rattle.chains.specs.Chain.{leadsTo, after, most}
+use Rattle.chains.specs.Chain.{leadsTo, most}
 use Rattle.chains.specs.Follows.{byStand}
 use Rattle.chains.specs.Serves.{endsIn, onWith, onOver, serves}
 use Rattle.sheet.specs.Sheet.{places, standIn, nextIn, landIn, shifted, wide, high}
-use Rattle.sheet.specs.Ends.{Blank, Close, Marks, endMarked, room}
+use Rattle.sheet.specs.Ends.{Blank, Marks, endMarked, room}
 use Rattle.sheet.specs.Search.{further, servesIn, overIn, withIn, shovesIn}
-use Rattle.sheet.proofs.Reached.{ended}
+use Rattle.sheet.proofs.Ends.{ended}
 use Rattle.sheet.proofs.Sheets.{shifted-back, shifted-stands, shifted-ways}
 
 -- a place of the sheet is a hex of its map
@@ -191,9 +191,5 @@ blank = record { long = length-replicate {A = ℕ} room 0; each = zeros room }
 -- what `gather` leaves in an array of zeros
 pub gathered :
     (l : List ℕ) {trail m n : List ℕ} {a x : ℕ} → trail ≡ a ∷ [] → Marks x (endsIn (nextIn l) (standIn l) trail 3 x) m n → Blank m
-    → (z : ℕ) → z < places → endMarked n x z ≡ endsIn (nextIn l) (standIn l) (a ∷ []) 3 x z
-gathered l {trail} {m} {n} {a} {x} t k e z q = ended l m n a x z (rw t at k) e q
-
--- a place is close to itself
-pub close-self : (x : ℕ) → x < places → Close x x 0
-close-self x l = record { below = l; after = omega arith; before = omega arith }
+    → x < places → (z : ℕ) → z < places → endMarked n x z ≡ endsIn (nextIn l) (standIn l) (a ∷ []) 3 x z
+gathered l {trail} {m} {n} {a} {x} t k e p z q = ended l (standIn l) (a ∷ []) x z e (rw t at k) p q

@@ -20,8 +20,8 @@ pub const NONE: usize = 182;
 // How far before and after the place of its first stack a chain may end.
 const REACH: usize = 45;
 
-// The places of a chain before the stack at hand are one number: the last of them, 256 times the one before it and 65,536 times the one before
-// that, NONE where it has fewer. The group's own is one of them.
+// The places of a chain before the stack at hand are one number: the last of them, 256 times the one before it and 65,536 times the one
+// before that, NONE where it has fewer. The group's own is one of them.
 // Whether place `z` is one of them.
 fn on_trail(t: usize, z: usize) -> bool
     requires { ⌜ z < 182 ⌝ }
@@ -111,8 +111,8 @@ fn mark_rests(sheet: &[u8], ends: &mut [u8], x: usize, t: usize, h: usize)
     }
 }
 
-// Whether a chain from the stack in place `h` on may end anywhere, where `left` stacks may still be pushed. The last stack is only asked for a
-// vacant place.
+// Whether a chain from the stack in place `h` on may end anywhere, where `left` stacks may still be pushed. The last stack is only asked
+// for a vacant place.
 pub fn can_end(sheet: &[u8], t: usize, left: usize, h: usize) -> bool
     requires { ⌜ (length (now sheet) ≡ 182) × (1 ≤ left) × TrailOk t left × (h < 182) ⌝ }
     ensures { λ r. ⌜ r ≡ any (endsIn (nextIn (now (sheet .entry))) (standIn (now (sheet .entry))) (trailOf t) left h) 182 ⌝ }

@@ -16,9 +16,8 @@ same-length : tie.Need-same-length
 same-length c = c .before .before .mark-rests .ensures .long
 
 returns : tie.Need-returns
-returns c = marks-as
-    (λ y k. ends-rest _ _ _ _ _ y (omega arith) (sym (c .before .before .before .before .before .has-rest .ensures) ∙ c .before .before .before .before .if1 .taken))
-    (c .before .before .mark-rests .ensures)
+returns c = marks-as (λ y k. ends-rest _ _ _ _ _ y (omega arith) (sym (c .before .before .before .before .before .has-rest .ensures) ∙ c
+    .before .before .before .before .if1 .taken)) (c .before .before .mark-rests .ensures)
 
 returns-2 : tie.Need-returns-2
 returns-2 c = marks-none (λ y k. ends-never _ _ _ _ _ y (omega arith) (omega arith) (sym (c .before .has-rest .ensures) ∙ c .if1 .left))

@@ -10,7 +10,16 @@ own-requires : tie.Need-own-requires
 own-requires c κs = c .before .before .pre .3
 
 take-requires : tie.Need-take-requires
-take-requires c κs = let p = c .before .before .before .before .pre in (p .0, p .1, p .2, c .before .own .ensures .1, omega arith, p .4, p .5)
+take-requires c κs = let p = c .before .before .before .before .pre in (
+  p .0,
+  p .1,
+  p .2,
+  c .before .own .ensures .1,
+  omega arith,
+  p .4,
+  p
+      .5,
+)
 
 enum-known-y : tie.Need-enum-known-y
 enum-known-y c = search needs
@@ -25,14 +34,21 @@ returns : tie.Need-returns
 returns c = pushed-wrong (c .before .before .before .before .own .ensures .0) (c .before .before .take .ensures) (c .enum-told .given .1)
 
 shift-requires : tie.Need-shift-requires
-shift-requires c κs = (c .before .before .before .before .before .before .before .before .before .pre .0, c .before .before .before .before .before .before .before .before .before .pre .4, c .before .before .before .before .take .ensures .ends _ _ (c .before .before .y .given .1) .0)
+shift-requires c κs = (
+  c .before .before .before .before .before .before .before .before .before .pre .0,
+  c .before .before .before .before
+      .before .before .before .before .before .pre .4,
+  c .before .before .before .before .take .ensures .ends _ _ (c .before .before .y
+      .given .1) .0,
+)
 
 same-length-2 : tie.Need-same-length-2
 same-length-2 c = search needs
 
 returns-2 : tie.Need-returns-2
-returns-2 c = pushed-to (c .before .before .before .before .before .before .before .before .before .own .ensures .0) (c .before .before .before .before .before .before .before .take .ensures)
-    (c .before .before .before .before .before .y .given .1) (c .before .before .shift .ensures)
+returns-2 c = pushed-to (c .before .before .before .before .before .before .before .before .before .own .ensures .0) (c .before .before
+    .before .before .before .before .before .take .ensures) (c .before .before .before .before .before .y .given .1) (c .before .before
+    .shift .ensures)
 
 pub push-out-spec : {M : Type 1} → statement M
 push-out-spec =

@@ -1,5 +1,5 @@
--- The proof of the cycle of calls {go_on, over, serves, shoves, with_end, with_ends}. Only `serves` calls with fewer steps left; the others,
--- which it comes to before it calls itself again, have their places between 6k and 6k + 6.
+-- The proof of the cycle of calls {go_on, over, serves, shoves, with_end, with_ends}. Only `serves` calls with fewer steps left; the
+-- others, which it comes to before it calls itself again, have their places between 6k and 6k + 6.
 -- Assumes nothing.
 use Prim.Native.Nat.{ℕ, _+_, _-_, _*_, _<_}
 use mathlib.Core.Path.{refl, sym, ap, _∙_}
@@ -11,7 +11,8 @@ use borrow.Author.Tests.{not-false, not-true}
 use lib.ListN.{length, length-set}
 use Rattle.position.proofs.Tallies.{any-zero}
 use Rattle.sheet.proofs.Sheets.{next-below}
-use Rattle.sheet.proofs.Searching.{Unserved, Unended, blank, close-self, gathered, on-sheet}
+use Rattle.sheet.proofs.Ends.{close-self}
+use Rattle.sheet.proofs.Searching.{Unserved, Unended, blank, gathered, on-sheet}
 use Rattle.sheet.proofs.Searching.{over-far, over-free, over-loose, over-shut, served, serves-done, serves-last, put-back, shoved}
 use Rattle.sheet.proofs.Searching.{unended, unended-not, unended-with, unserved, unserved-off, unserved-over}
 use Rattle.sheet.proofs.search.go_on.Reads as go-on
@@ -104,17 +105,8 @@ go-on-claims t = (last-reads.Asked, last-reads.Learnt, serves-below t, serves.Po
 go-on-returns : (t : ℕ) → go-on-lts.Need-returns (go-on-claims t) (go-on-at t) go-on.Post
 go-on-returns t c = (sym (serves-done _ _ _ _ _ (c .if1 .taken)), refl)
 
-go-on-last-requires : (t : ℕ) → go-on-lts.Need-last-requires (go-on-claims t) (go-on-at t) go-on.Post
-go-on-last-requires t c κs = let p = c .before .before .before .before .pre .1 in (p .0, p .1, p .2, omega arith)
-
 go-on-returns-2 : (t : ℕ) → go-on-lts.Need-returns-2 (go-on-claims t) (go-on-at t) go-on.Post
 go-on-returns-2 t c = (c .last .ensures ∙ serves-last _ _ _ _ _ (c .before .before .if2 .taken), refl)
-
-go-on-serves-requires : (t : ℕ) → go-on-lts.Need-serves-requires (go-on-claims t) (go-on-at t) go-on.Post
-go-on-serves-requires t c κs = (omega arith, c .before .before .before .before .pre .1)
-
-go-on-returns-3 : (t : ℕ) → go-on-lts.Need-returns-3 (go-on-claims t) (go-on-at t) go-on.Post
-go-on-returns-3 t c = c .before .before .serves .ensures
 
 abbrev over-claims : ℕ → over-lts.Claims
 over-claims t = (
@@ -243,9 +235,6 @@ shoves-claims t = (with-ends-below t, with-ends.Post)
 shoves-with-ends-requires : (t : ℕ) → shoves-lts.Need-with-ends-requires (shoves-claims t) (shoves-at t) shoves.Post
 shoves-with-ends-requires t c κs = let p = c .before .before .before .pre .1 in (omega arith, (p .0, blank, p .1, p .2, p .3, p .4))
 
-shoves-returns : (t : ℕ) → shoves-lts.Need-returns (shoves-claims t) (shoves-at t) shoves.Post
-shoves-returns t c = c .before .before .before .with-ends .ensures
-
 abbrev with-end-claims : ℕ → with-end-lts.Claims
 with-end-claims t = (shift-reads.Asked, shift-reads.Learnt, go-on-below t, go-on.Post)
 
@@ -301,10 +290,6 @@ with-ends-claims t = (
   with-end.Post,
 )
 
-with-ends-own-requires : (t : ℕ) → with-ends-lts.Need-own-requires (with-ends-claims t)
-    (with-ends-at t) with-ends.Post with-ends-Inv-loop with-ends-μ-loop
-with-ends-own-requires t c κs = c .before .before .pre .1 .3
-
 with-ends-gather-requires : (t : ℕ) → with-ends-lts.Need-gather-requires (with-ends-claims t)
     (with-ends-at t) with-ends.Post with-ends-Inv-loop with-ends-μ-loop
 with-ends-gather-requires t c κs = let p = c .before .before .before .before .before .pre .1 in
@@ -318,7 +303,7 @@ with-ends-loop-holds t c = let p = c .before .before .before .before .before .be
       long = p .0;
       inside = p .4;
       told = gathered _ (c .before .before .before .before .before .own .ensures .0) (c .before .before .gather .ensures)
-          (p .1);
+          (p .1) (p .4);
       most = omega arith;
       none = any-zero _;
     }
@@ -379,37 +364,34 @@ with-ends-loop-again-2 t c = unended-with (c .before .before .before .before .be
     ∙ not-false _ (c .before .before .before .before .before .if1 .left)) (sym (c .before .before .before .with-end .ensures .0)
     ∙ c .if2 .left) (c .before .before .before .with-end .ensures .1)
 
-with-ends-same-length-3 : (t : ℕ) → with-ends-lts.Need-same-length-3 (with-ends-claims t)
-    (with-ends-at t) with-ends.Post with-ends-Inv-loop with-ends-μ-loop
-with-ends-same-length-3 t c = ap length (c .before .loop .inv .same)
-
-with-ends-same-length-4 : (t : ℕ) → with-ends-lts.Need-same-length-4 (with-ends-claims t)
-    (with-ends-at t) with-ends.Post with-ends-Inv-loop with-ends-μ-loop
-with-ends-same-length-4 t c = c .before .before .before .before .gather .kept .1 .0
-
-with-ends-returns-2 : (t : ℕ) → with-ends-lts.Need-returns-2 (with-ends-claims t)
-    (with-ends-at t) with-ends.Post with-ends-Inv-loop with-ends-μ-loop
-with-ends-returns-2 t c = (sym (unended (c .before .loop .inv) (omega arith)), c .before .loop .inv .same)
-
 pub +go-on+over+serves+shoves+with-end+with-ends-spec : {M : Type 1} → statement M
 +go-on+over+serves+shoves+with-end+with-ends-spec =
     close μ-go-on μ-over μ-serves μ-shoves μ-with-end μ-with-ends
-    (λ t. go-on-lts.spec (go-on-claims t) (go-on-at t) go-on.Post (go-on-returns t) (go-on-last-requires t) (λ c. search needs) (go-on-returns-2 t) (go-on-serves-requires t) (λ c. search needs) (go-on-returns-3 t))
+    (λ t. go-on-lts.spec (go-on-claims t) (go-on-at t) go-on.Post (go-on-returns t) (λ c κs. let p = c .before .before .before .before
+    .pre .1 in (p .0, p .1, p .2, omega arith)) (λ c. search needs) (go-on-returns-2 t) (λ c κs. (
+      omega arith,
+      c .before .before .before
+          .before .pre .1,
+    )) (λ c. search needs) (λ c. c .before .before .serves .ensures))
     (λ t. over-lts.spec (over-claims t) (over-at t) over.Post (over-distance-requires t) (λ c. omega arith) (over-returns t)
     (over-stand-in-requires t) (λ c. search needs) (λ c. search needs) (λ c. omega arith) (over-go-on-requires t) (λ c. search needs)
     (over-shoves-requires t) (λ c. search needs) (over-returns-2 t) (λ c. search needs) (over-returns-3 t) (λ c. search needs)
     (over-returns-4 t))
     (λ t. serves-lts.spec (serves-claims t) (serves-at t) serves.Post serves-Inv-loop serves-μ-loop (serves-returns t)
     (serves-loop-holds t) (serves-next-in-requires t) (λ c. search needs) (λ c. search needs) (λ c. omega arith) (λ c. omega arith)
-    (serves-loop-again t) (serves-sub-over t) (serves-over-requires t) (serves-same-length t) (serves-returns-2 t) (λ c. omega arith)
-    (λ c. omega arith) (serves-loop-again-2 t) (λ c. search needs) (serves-returns-3 t))
-    (λ t. shoves-lts.spec (shoves-claims t) (shoves-at t) shoves.Post (λ c. search needs) (shoves-with-ends-requires t)
-    (λ c. search needs) (shoves-returns t))
+    (serves-loop-again t) (serves-sub-over t) (serves-over-requires t) (serves-same-length t) (serves-returns-2 t) (λ c. omega arith) (λ
+    c. omega arith) (serves-loop-again-2 t) (λ c. search needs) (serves-returns-3 t))
+    (λ t. shoves-lts.spec (shoves-claims t) (shoves-at t) shoves.Post (λ c. search needs) (shoves-with-ends-requires t) (λ c. search
+    needs) (λ c. c .before .before .before .with-ends .ensures))
     (λ t. with-end-lts.spec (with-end-claims t) (with-end-at t) with-end.Post (λ c. omega arith) (λ c. omega arith)
     (with-end-shift-requires t) (λ c. omega arith) (with-end-go-on-requires t) (with-end-slice-write-sheet t)
     (with-end-slice-write-sheet-2 t) (with-end-same-length t) (with-end-returns t))
-    (λ t. with-ends-lts.spec (with-ends-claims t) (with-ends-at t) with-ends.Post with-ends-Inv-loop with-ends-μ-loop
-    (with-ends-own-requires t) (with-ends-gather-requires t) (with-ends-loop-holds t) (with-ends-ends-in-requires t) (λ c. omega arith) (λ c. omega arith)
-    (with-ends-loop-again t) (with-ends-with-end-requires t) (with-ends-same-length t) (with-ends-same-length-2 t) (with-ends-returns t)
-    (λ c. omega arith) (λ c. omega arith) (with-ends-loop-again-2 t) (with-ends-same-length-3 t) (with-ends-same-length-4 t)
-    (with-ends-returns-2 t))
+    (λ t. with-ends-lts.spec (with-ends-claims t) (with-ends-at t) with-ends.Post with-ends-Inv-loop with-ends-μ-loop (λ c κs. c .before
+    .before .pre .1 .3) (with-ends-gather-requires t) (with-ends-loop-holds t) (with-ends-ends-in-requires t) (λ c. omega arith) (λ c.
+    omega arith) (with-ends-loop-again t) (with-ends-with-end-requires t) (with-ends-same-length t) (with-ends-same-length-2 t)
+    (with-ends-returns t) (λ c. omega arith) (λ c. omega arith) (with-ends-loop-again-2 t) (λ c. ap length (c .before .loop .inv .same))
+    (λ c. c .before .before .before .before .gather .kept .1 .0) (λ c. (
+      sym (unended (c .before .loop .inv) (omega arith)),
+      c .before
+          .loop .inv .same,
+    )))

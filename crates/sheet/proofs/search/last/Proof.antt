@@ -35,13 +35,23 @@ loop-less : tie.Need-loop-less Inv-loop μ-loop
 loop-less c = search needs
 
 loop-again : tie.Need-loop-again Inv-loop μ-loop
-loop-again c = unserved-off (c .before .before .before .before .loop .inv) (omega arith) (sym (c .before .before .next-in .ensures) ∙ c .enum-told .given .1)
+loop-again c = unserved-off (c .before .before .before .before .loop .inv) (omega arith) (sym (c .before .before .next-in .ensures) ∙ c
+    .enum-told .given .1)
 
 last-over-requires : tie.Need-last-over-requires Inv-loop μ-loop
-last-over-requires c κs = let p = c .before .before .before .before .before .before .before .pre in (p .0, p .1, p .2, next-below _ _ _ _ (sym (c .before .before .before .next-in .ensures) ∙ c .before .x .given .1), p .3)
+last-over-requires c κs = let p = c .before .before .before .before .before .before .before .pre in (
+  p .0,
+  p .1,
+  p .2,
+  next-below _ _ _ _
+      (sym (c .before .before .before .next-in .ensures) ∙ c .before .x .given .1),
+  p .3,
+)
 
 returns : tie.Need-returns Inv-loop μ-loop
-returns c = sym (served (c .before .before .before .before .before .before .before .loop .inv) (λ e. omega arith) (omega arith) (sym (c .before .before .before .before .before .next-in .ensures) ∙ c .before .before .before .x .given .1) (sym (c .before .last-over .ensures) ∙ c .if1 .taken))
+returns c = sym (served (c .before .before .before .before .before .before .before .loop .inv) (λ e. omega arith) (omega arith) (sym (c
+    .before .before .before .before .before .next-in .ensures) ∙ c .before .before .before .x .given .1) (sym (c .before .last-over
+    .ensures) ∙ c .if1 .taken))
 
 add-d-2 : tie.Need-add-d-2 Inv-loop μ-loop
 add-d-2 c = search needs
@@ -50,8 +60,9 @@ loop-less-2 : tie.Need-loop-less-2 Inv-loop μ-loop
 loop-less-2 c = search needs
 
 loop-again-2 : tie.Need-loop-again-2 Inv-loop μ-loop
-loop-again-2 c = unserved-over (c .before .before .before .before .before .before .before .loop .inv) (omega arith) (sym (c .before .before .before .before .before .next-in .ensures) ∙ c .before .before .before .x .given .1)
-    (sym (c .before .last-over .ensures) ∙ c .if1 .left) refl
+loop-again-2 c = unserved-over (c .before .before .before .before .before .before .before .loop .inv) (omega arith) (sym (c .before .before
+    .before .before .before .next-in .ensures) ∙ c .before .before .before .x .given .1) (sym (c .before .last-over .ensures) ∙ c .if1
+    .left) refl
 
 returns-2 : tie.Need-returns-2 Inv-loop μ-loop
 returns-2 c = sym (unserved (c .before .loop .inv) (λ e. omega arith) (omega arith))

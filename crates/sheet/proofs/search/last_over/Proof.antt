@@ -32,18 +32,26 @@ own-requires : tie.Need-own-requires
 own-requires c κs = c .before .before .before .before .before .before .pre .2
 
 can-end-requires : tie.Need-can-end-requires
-can-end-requires c κs = (c .before .before .before .before .before .before .before .pre .0, omega arith, c .own .ensures .1, c .before .before .before .before .before .before .before .pre .3)
+can-end-requires c κs = (
+  c .before .before .before .before .before .before .before .pre .0,
+  omega arith,
+  c .own .ensures .1,
+  c .before
+      .before .before .before .before .before .before .pre .3,
+)
 
 returns-2 : tie.Need-returns-2
-returns-2 c = sym (over-shut _ _ _ _ _ _ (sym (c .before .before .before .before .distance .ensures) ∙ c .before .before .before .if1 .left) (sym (c .before .before .stand-in .ensures) ∙ c .enum-told .given .1))
+returns-2 c = sym (over-shut _ _ _ _ _ _ (sym (c .before .before .before .before .distance .ensures) ∙ c .before .before .before .if1
+    .left) (sym (c .before .before .stand-in .ensures) ∙ c .enum-told .given .1))
 
 returns-3 : tie.Need-returns-3
-returns-3 c = sym (last-free _ _ _ _ _ _ (sym (c .before .before .before .before .distance .ensures) ∙ c .before .before .before .if1 .left) (sym (c .before .before .stand-in .ensures) ∙ c .enum-told2 .given .1) refl)
+returns-3 c = sym (last-free _ _ _ _ _ _ (sym (c .before .before .before .before .distance .ensures) ∙ c .before .before .before .if1
+    .left) (sym (c .before .before .stand-in .ensures) ∙ c .enum-told2 .given .1) refl)
 
 returns-4 : tie.Need-returns-4
-returns-4 c = c .can-end .ensures
-    ∙ sym (last-loose _ _ _ _ _ _ (sym (c .before .before .before .before .before .before .distance .ensures) ∙ c .before .before .before .before .before .if1 .left)
-    (sym (c .before .before .before .before .stand-in .ensures) ∙ c .before .before .enum-told3 .given .1) refl _ (c .before .own .ensures .0))
+returns-4 c = c .can-end .ensures ∙ sym (last-loose _ _ _ _ _ _ (sym (c .before .before .before .before .before .before .distance .ensures)
+    ∙ c .before .before .before .before .before .if1 .left) (sym (c .before .before .before .before .stand-in .ensures) ∙ c .before .before
+    .enum-told3 .given .1) refl _ (c .before .own .ensures .0))
 
 pub last-over-spec : {M : Type 1} → statement M
 last-over-spec =
