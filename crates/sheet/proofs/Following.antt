@@ -13,7 +13,7 @@ use Rattle.grid.specs.Walk.{distanceOf}
 use Rattle.chains.specs.declared.Stand.the-variants.{Shut, Free, Loose}
 use Rattle.chains.specs.Chain.{Stands, leads, most, after}
 use Rattle.chains.specs.Series.{Land}
-use Rattle.chains.specs.Follows.{wrong, takes, byStand, byTaken, follows}
+use Rattle.chains.specs.Follows.{takes, byStand, byTaken, follows}
 use Rattle.sheet.specs.declared.follow.Took.{Took}
 use Rattle.sheet.specs.declared.follow.Took.the-variants as T
 use Rattle.sheet.specs.Sheet.{places, wide, standIn, nextIn, landIn, shifted}

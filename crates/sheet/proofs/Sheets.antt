@@ -1,18 +1,16 @@
 -- Laws of sheets: what a byte says of its place, where its steps lead, and what a chain that is done changes.
 -- Assumes nothing.
 use Prim.Native.Nat.{ℕ, zero, suc, _+_, _/_, _%_, _≤_, _<_}
-use mathlib.Core.Path.{_≡_, refl, sym, ap, ap₂, fun-ext, _∙_}
+use mathlib.Core.Path.{_≡_, ap, ap₂, fun-ext, _∙_}
 use mathlib.Core.Bool.{Bool, true, false, cond}
 use mathlib.Core.List.{List}
 use native.Mathlib.Omega.{arith}
-use native.Mathlib.Decide.{ℕ-discrete}
 use lib.Dec.{eqb}
 use lib.ListN.{length, set, length-set}
 use lib.Seq.{getD-set-same, getD-set-other, set-set, set-comm, set-getD}
 use borrow.Author.Tests.{eq-eqb, ne-eqb}
-use Rattle.grid.specs.declared.Beside.{Beside}
 use Rattle.grid.specs.declared.Beside.the-variants.{At, Off}
-use Rattle.grid.specs.Map.{On, neighbourOf}
+use Rattle.grid.specs.Map.{neighbourOf}
 use Rattle.grid.specs.Walk.{depth, distanceOf}
 use Rattle.grid.proofs.Step.{aside, down, ways, stepped}
 use Rattle.grid.proofs.Tests.{under}
@@ -22,7 +20,6 @@ use Rattle.position.proofs.Tallies.{same-or}
 use Rattle.chains.specs.declared.Stand.{Stand}
 use Rattle.chains.specs.declared.Stand.the-variants.{Shut, Free, Loose}
 use Rattle.chains.specs.Chain.{Ways, after}
-use Rattle.chains.specs.Series.{Land}
 use Rattle.sheet.specs.Sheet.{places, wide, high, standOf, standIn, sideBit, nextIn, landIn, restood, shifted}
 
 -- what the low part of a byte says of its place

@@ -5,7 +5,7 @@ use Rattle.sheet.specs.Trail.{trailOf}
 use Rattle.sheet.specs.Sheet.{standIn, nextIn}
 use mathlib.Core.List.{_∷_}
 use mathlib.Core.Logic.{⊎-elim}
-use mathlib.Core.Path.{_≡_, sym, _∙_}
+use mathlib.Core.Path.{sym, _∙_}
 use Prim.Native.Nat.{_-_, _≤_}
 use borrow.Author.Needs.{needs}
 use native.Mathlib.Omega.{arith}
