@@ -9,23 +9,22 @@ use mathlib.Core.Path.{_∙_, _≡_, ap, refl, sym}
 use native.Mathlib.Omega.{arith}
 use borrow.Author.Tests.{eq-eqb, eqb-true, not-false}
 use lib.Dec.{eqb}
-use lib.ListN.{getD}
-use Rattle.position.proofs.Tallies.{any-false, any-never, any-true, both-yes, either, not-both, same-or, tally-pos}
-use Rattle.position.specs.Board.{Board, board, forceOf}
+use Rattle.position.proofs.Tallies.{any-false, any-never, any-true, both-yes, either, not-both}
+use Rattle.position.specs.Board.{Board, board}
 use Rattle.position.specs.Crowd.{owesAt}
 use Rattle.position.specs.Tally.{any}
 use Rattle.ruling.specs.Judged.{Passes}
 use Rattle.ruling.specs.Verdict.{Ruling}
 use Rattle.ruling.specs.Verdict.Ruling.{accepted, refused}
-use Rattle.field.proofs.Lists.{map-all, sieve-at, sieve-long}
-use Rattle.field.specs.Listed.{onMapAll, onMapFrom, sieve}
+use Rattle.field.proofs.Lists.{map-all}
+use Rattle.field.specs.Listed.{onMapAll, onMapFrom}
 use Rattle.routes.proofs.First.{found-right}
 use Rattle.routes.proofs.Legal.{legal-right}
 use Rattle.routes.specs.Legal.{legal}
 use Rattle.chains.proofs.Follows.{legal-pushes-right}
 use Rattle.chains.proofs.Serves.{serves-right}
 use Rattle.chains.specs.Follows.{none}
-use Rattle.shoves.specs.Group.{group, groupForce}
+use Rattle.shoves.specs.Group.{groupForce}
 use Rattle.retreat.specs.Retreat.{doomed, endOf, groupChecks, hasRoute, hasSeries, walksFrom}
 use Rattle.retreat.specs.Fate.{fateOf}
 use Rattle.retreat.specs.Words.{
@@ -59,6 +58,7 @@ use Rattle.retreat.proofs.Fates.{
   spared-series,
 }
 use Rattle.retreat.proofs.Groups.{passes-group, walks-kind, walks-not}
+use Rattle.retreat.proofs.KeepGroup.{group-own}
 use Rattle.retreat.proofs.Rulings.{ends-doomed, ends-going, stops-pushes, stops-route}
 
 -- the group is asked for, and it is there
@@ -220,14 +220,4 @@ pushed-right p h route pushes d m y n =
 
 -- units of two forces do not both owe
 pub group-right : GroupRight
-unfolding groupForce group owesAt
-group-right p h u y l o =
-    let b = board p in
-    let t = owesAt b h in
-    let n = b .units .count in
-    let w = getD (sieve t n) 0 0 in
-    let k = sieve-at t n 0 (omega (arith, sieve-long t n, tally-pos t n u l o)) in
-    let i = eqb-true (b .units .role u) 1 (both-yes (eqb (b .units .role u) 1) (eqb (b .units .hex u) h) o .0) in
-    let j = eqb-true (b .units .role w) 1 (both-yes (eqb (b .units .role w) 1) (eqb (b .units .hex w) h) (k .passes) .0) in
-    same-or (forceOf b u) (forceOf b w) (λ e. e)
-    (λ e. absurd (y .lawful .units .pairs u l w (k .below) .two e .roles (λ z. omega (arith, i)) (j ∙ sym i)))
+group-right p h u y l o = group-own (y .lawful) h u l o

@@ -6,17 +6,17 @@ use mathlib.Core.Bool.{Bool, true, false}
 use mathlib.Core.List.{List, [], _∷_, map}
 use native.Mathlib.Omega.{arith}
 use native.Mathlib.Numerals.{add-one}
-use borrow.Author.Tests.{eq-eqb, ne-eqb, eqb-true}
+use borrow.Author.Tests.{eq-eqb, ne-eqb}
 use lib.Dec.{eqb}
 use lib.ListN.{length, getD, drop-of-length-le}
 use lib.Seq.{drop-cons}
-use Rattle.grid.specs.declared.Beside.{Beside}
 use Rattle.grid.specs.declared.Beside.the-variants.{At, Off}
 use Rattle.position.specs.Ground.{isAt}
 use Rattle.position.specs.Tally.{any}
-use Rattle.position.proofs.Tallies.{any-miss, any-some, any-true, either, not-both, same-or}
+use Rattle.position.proofs.Tallies.{any-miss, any-true, either, same-or}
 use Rattle.chains.specs.Chain.{Ways, Stands, rests, yields, leads, hasRest, most}
 use Rattle.chains.specs.Follows.{upTo, wrong, takes, none}
+use Rattle.chains.proofs.Chains.{leads-steps}
 use Rattle.sheet.specs.declared.follow.Took.{Took}
 use Rattle.sheet.specs.declared.follow.Took.the-variants as T
 use Rattle.sheet.specs.Sheet.{places, standIn, nextIn, shifted}
@@ -41,18 +41,9 @@ module _ (next : Ways) (h z d : ℕ) where
   unfolding ledBy isAt
   led-at x e = rw e
 
--- a step that leads to place x
-is-at : (s : Beside) (x : ℕ) → isAt s x ≡ true → s ≡ At x
-unfolding isAt
-is-at (At n) x e = ap At (eqb-true n x e)
-is-at Off x e = not-both false e refl
-
 -- what leads there is a step, and it is a place of the sheet
 pub led-by : (l : List ℕ) (h z : ℕ) → leads (nextIn l) h z ≡ true → (d : ℕ) × (nextIn l h d ≡ At z)
-unfolding ledBy
-led-by l h z e =
-    let s = any-some (ledBy (nextIn l) h z) 6 (sym (leads-by (nextIn l) h z 0) ∙ e) in
-    (s .at, is-at (nextIn l h (s .at)) z (s .passes))
+led-by l h z e = let s = leads-steps (nextIn l) h z e in (s .dir, s .way)
 
 pub led-below : (l : List ℕ) (h z : ℕ) → leads (nextIn l) h z ≡ true → z < places
 led-below l h z e = let s = led-by l h z e in next-below l h (s .0) z (s .1)
