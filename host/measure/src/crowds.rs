@@ -10,10 +10,10 @@ use host::pushes::{Step, Way};
 use host::unit_type::SUPPLY_UNIT;
 
 /// Who holds the hexes up to six from the middle, row by row: 0 nobody, 1 a stack of three, 2 a supply unit, which
-/// cannot be pushed; 3 is sea. Of many thousands tried here the search takes longest to find that nothing serves.
+/// cannot be pushed; 3 is sea. Found by changing a few hexes at a time and keeping what took the search longer.
 const NONE_SERVES: &str = "\
-    211101111121111111111131111112111111111111111111111111111211111\
-    111111111111111111111111111111111111111111111111111110111111111";
+    221211112221111121122111112021111011112111111111112011121111211\
+    200111111211112002111221111121211111111111111122211111121212122";
 
 /// The same where three stacks are pushed at each of the three steps.
 const THREE_EACH: &str = "\
