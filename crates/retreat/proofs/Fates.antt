@@ -1,7 +1,7 @@
 -- What comes of a group, by the tests that decide it, and what each fate says of the refusals.
 -- Assumes nothing.
 use Prim.Native.Nat.{_<_, _≤_, ℕ}
-use mathlib.Core.Bool.{Bool, _&&_, and-false, false, or-true, true}
+use mathlib.Core.Bool.{Bool, _&&_, cond, false, or-true, true}
 use mathlib.Core.List.{List, [], _∷_}
 use mathlib.Core.Path.{_≡_, refl, sym}
 use native.Mathlib.Omega.{arith}
@@ -90,17 +90,21 @@ module _ (b : Board) (h : ℕ) (route pushes : List ℕ) where
         (λ f. simp (s, f) (sym (fate-no-pushes (spared-series b h w s) r f))))
         (λ s. simp s (sym (fate-doomed (doomed-neither b h r s))))
 
+    -- where none does, and no series either
+    pub fate-lost : hasRoute b h ≡ false → hasSeries b h ≡ false → Lost ≡ fateOf b h route pushes
+    fate-lost r s = sym (fate-doomed (doomed-neither b h r s))
+
     -- where one does
     module _ (r : hasRoute b h ≡ true) where
-      pub fate-sent : 0 < length pushes → NoRoute ≡ fateOf b h route pushes
-      fate-sent l = sym (fate-no-route (spared-route b h w r) r (simp (none-some pushes l, and-false)))
+      pub fate-legal :
+          legal b (groupForce b h) h (b .desk .owed) route ≡ true → cond (none pushes) Vacant NoRoute ≡ fateOf b h route pushes
+      fate-legal f =
+          either (none pushes)
+          (λ e. simp e (sym (fate-vacant (spared-route b h w r) r (simp (f, e)))))
+          (λ e. simp e (sym (fate-no-route (spared-route b h w r) r (simp (f, e)))))
 
       pub fate-illegal : legal b (groupForce b h) h (b .desk .owed) route ≡ false → NoRoute ≡ fateOf b h route pushes
       fate-illegal f = sym (fate-no-route (spared-route b h w r) r (simp f))
-
-      pub fate-legal :
-          length pushes ≤ 0 → legal b (groupForce b h) h (b .desk .owed) route ≡ true → Vacant ≡ fateOf b h route pushes
-      fate-legal l f = sym (fate-vacant (spared-route b h w r) r (simp (f, none-empty pushes l)))
 
 -- what a fate says of the tests of 14 and 17, and of what follows them
 pub record Goes (b : Board) (h : ℕ) (route pushes : List ℕ) (r : Bool) : Type 0 where

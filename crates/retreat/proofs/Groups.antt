@@ -3,7 +3,7 @@
 use Prim.Native.Nat.{_+_, _<_, _≤_, suc, zero, ℕ}
 use mathlib.Core.Bool.{Bool, cond, false, not, true}
 use mathlib.Core.List.{List, [], _∷_}
-use mathlib.Core.Path.{_∙_, _≡_, ap, ap₂, refl, sym}
+use mathlib.Core.Path.{_∙_, _≡_, ap, ap₂, refl, subst, sym}
 use native.Mathlib.Omega.{arith}
 use borrow.Author.Tests.{eq-eqb, le-leb, le-ltb, lt-leb, lt-ltb, ne-eqb}
 use lib.Dec.{eqb, leb, ltb}
@@ -23,8 +23,9 @@ use Rattle.ruling.specs.Verdict.Verdict.{refuseIf}
 use Rattle.field.proofs.Lists.{sieve-long}
 use Rattle.field.specs.Listed.{onMapAll, onMapFrom, sieve}
 use Rattle.routes.specs.Legal.{legal}
-use Rattle.routes.specs.Search.{firstRoute, found}
-use Rattle.routes.specs.declared.Found.{Found}
+use Rattle.routes.specs.Outlook.{Nobody, OutlookOf}
+use Rattle.routes.specs.declared.Outlook.{Outlook}
+use Rattle.routes.specs.declared.Outlook.the-variants.{Alone, Friends, Illegal, Legal}
 use Rattle.pushes.specs.Pushes.{served}
 use Rattle.pushes.specs.declared.Served.{Served}
 use Rattle.shoves.specs.Group.{group, groupForce}
@@ -71,18 +72,32 @@ module _ (b : Board) (h : ℕ) where
   unfolding group
   none-owing e = sym (ap (λ (us : List ℕ). getD us 0 0) (sieve-none (owesAt b h) (b .units .count) e))
 
--- what is found, of the numbers as they were read
-pub found-as :
-    (b : Board) (h : ℕ) {f n : ℕ} {y : Found} {t : Bool} → f ≡ groupForce b h → n ≡ b .desk .owed → y ≡ firstRoute b f h n → found y ≡ t
-    → t ≡ hasRoute b h
-unfolding hasRoute
-found-as b h ef en ey et = sym et ∙ ap found ey ∙ ap₂ (λ (f n : ℕ). found (firstRoute b f h n)) ef en
+-- what the outlook is, of the numbers as they were read
+pub outlook-as :
+    (b : Board) (h : ℕ) (route : List ℕ) (r : Outlook) {f n : ℕ} → f ≡ groupForce b h → n ≡ b .desk .owed → OutlookOf b f h n route r
+    → OutlookOf b (groupForce b h) h (b .desk .owed) route r
+outlook-as b h route r ef en o = rw ef at (rw en at o)
 
--- and whether a route is legal, of them
-pub legal-as :
-    (b : Board) (h : ℕ) (route : List ℕ) {f n : ℕ} {t : Bool} → f ≡ groupForce b h → n ≡ b .desk .owed → t ≡ legal b f h n route
-    → t ≡ legal b (groupForce b h) h (b .desk .owed) route
-legal-as b h route ef en et = et ∙ ap₂ (λ (f n : ℕ). legal b f h n route) ef en
+-- and what each says of the group
+module _ (b : Board) (h : ℕ) (route : List ℕ) (r : Outlook) (o : OutlookOf b (groupForce b h) h (b .desk .owed) route r) where
+  told : {t : Outlook} → r ≡ t → OutlookOf b (groupForce b h) h (b .desk .owed) route t
+  told e = subst (OutlookOf b (groupForce b h) h (b .desk .owed) route) e o
+
+  pub told-legal : r ≡ Legal → (hasRoute b h ≡ true) × (legal b (groupForce b h) h (b .desk .owed) route ≡ true)
+  unfolding hasRoute
+  told-legal e = told e
+
+  pub told-illegal : r ≡ Illegal → (hasRoute b h ≡ true) × (legal b (groupForce b h) h (b .desk .owed) route ≡ false)
+  unfolding hasRoute
+  told-illegal e = told e
+
+  pub told-friends : r ≡ Friends → hasRoute b h ≡ false
+  unfolding hasRoute
+  told-friends e = told e
+
+  pub told-alone : r ≡ Alone → (hasRoute b h ≡ false) × Nobody b (groupForce b h) h
+  unfolding hasRoute
+  told-alone e = told e
 
 -- and what comes of pushes, of them
 pub served-as :

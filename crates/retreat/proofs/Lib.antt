@@ -3,6 +3,7 @@ pub mod KeepGroup
 pub mod KeepRetreat
 pub mod Fates
 pub mod Groups
+pub mod Alone
 pub mod Leaving
 pub mod Rulings
 pub mod Words

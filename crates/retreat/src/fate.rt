@@ -1,21 +1,24 @@
 // What comes of a group that owes: it is lost, goes along a vacant route, pushes friends, or what was sent is refused.
 ghost use mathlib.Core.Path.{_≡_};
+ghost use mathlib.Core.Bool.{cond};
 ghost use Prim.Native.Nat.{_<_, _≤_};
 ghost use lib.ListN.{getD};
 ghost use Rattle.position.specs.Tally.{any};
 ghost use Rattle.position.specs.Board.{board};
 ghost use Rattle.position.specs.Laid.{Laid};
-ghost use Rattle.routes.specs.Legal.{legal};
+ghost use Rattle.routes.specs.Outlook.{OutlookOf};
+ghost use Rattle.chains.specs.Follows.{none};
 ghost use Rattle.pushes.specs.Pushes.{served};
 ghost use Rattle.shoves.specs.Group.{group, groupForce};
-ghost use Rattle.retreat.specs.Retreat.{walksFrom, hasRoute};
+ghost use Rattle.retreat.specs.Retreat.{walksFrom};
+ghost use Rattle.retreat.specs.declared.fate.Fate.the-variants.{NoRoute, Vacant};
 ghost use Rattle.retreat.specs.Fate.{fateOf, servedFate};
 use position::View;
 use position::forces;
 use position::kind::Kind;
 use position::read;
 use pushes::Served;
-use routes::Found;
+use routes::Outlook;
 use shoves::group;
 
 // Lost: destroyed whatever was sent. NoRoute and NoPushes: refused, since a vacant route exists or only pushes serve and what was sent is
@@ -79,23 +82,22 @@ fn group_force(p: &[u8], v: View, h: usize) -> usize
     forces::force_of(p, v, leader(p, v, h))
 }
 
-// Whether a legal route exists.
-fn has_route(p: &[u8], v: View, h: usize) -> bool
+// What the outlook of the group in hex `h` is, which was sent this route.
+fn judge(p: &[u8], v: View, h: usize, route: &[u16]) -> Outlook
     requires { ⌜ Laid (now p) v × (h < v .hexes) × (1 ≤ board (now p) .desk .owed) × (board (now p) .desk .owed ≤ 3) ⌝ }
-    ensures { λ r. ⌜ r ≡ hasRoute (board (now (p .entry))) h ⌝ }
+    ensures { λ r. ⌜ OutlookOf (board (now (p .entry))) (groupForce (board (now (p .entry))) h) h (board (now (p .entry)) .desk .owed) (now (route .entry)) r ⌝ }
 {
-    if let Found::Route(_, _, _) = routes::search(p, v, group_force(p, v, h), h, read::owed(p, v)) {
-        return true;
-    }
-    false
+    routes::judge(p, v, group_force(p, v, h), h, read::owed(p, v), route)
 }
 
-// Whether the route sent is legal for the group in hex `h`.
-fn may_go(p: &[u8], v: View, h: usize, route: &[u16]) -> bool
-    requires { ⌜ Laid (now p) v × (h < v .hexes) × (board (now p) .desk .owed ≤ 3) ⌝ }
-    ensures { λ r. ⌜ r ≡ legal (board (now (p .entry))) (groupForce (board (now (p .entry))) h) h (board (now (p .entry)) .desk .owed) (now (route .entry)) ⌝ }
+// What comes of it where the route is legal: no pushes may be sent with it.
+fn by_route(pushes: &[u16]) -> Fate
+    ensures { λ r. ⌜ r ≡ cond (none (now (pushes .entry))) Vacant NoRoute ⌝ }
 {
-    routes::is_legal(p, v, group_force(p, v, h), h, read::owed(p, v), route)
+    if 0 < pushes.len() {
+        return Fate::NoRoute;
+    }
+    Fate::Vacant
 }
 
 // What comes of it where no vacant route exists.
@@ -118,7 +120,8 @@ fn by_pushes(p: &[u8], v: View, h: usize, route: &[u16], pushes: &[u16]) -> Fate
     }
 }
 
-// What comes of the group in hex `h`, which was sent this route and these pushes.
+// What comes of the group in hex `h`, which was sent this route and these pushes. Where nobody near might be pushed, pushes are not looked
+// for: a series without one would be a vacant route.
 pub fn decide(p: &[u8], v: View, h: usize, route: &[u16], pushes: &[u16]) -> Fate
     requires { ⌜ Laid (now p) v × (h < v .hexes) × (1 ≤ board (now p) .desk .owed) × (board (now p) .desk .owed ≤ 3) ⌝ }
     ensures { λ r. ⌜ r ≡ fateOf (board (now (p .entry))) h (now (route .entry)) (now (pushes .entry)) ⌝ }
@@ -126,14 +129,10 @@ pub fn decide(p: &[u8], v: View, h: usize, route: &[u16], pushes: &[u16]) -> Fat
     if !any_walks(p, v, h) {
         return Fate::Lost;
     }
-    if !has_route(p, v, h) {
-        return by_pushes(p, v, h, route, pushes);
+    match judge(p, v, h, route) {
+        Outlook::Legal => by_route(pushes),
+        Outlook::Illegal => Fate::NoRoute,
+        Outlook::Friends => by_pushes(p, v, h, route, pushes),
+        Outlook::Alone => Fate::Lost,
     }
-    if 0 < pushes.len() {
-        return Fate::NoRoute;
-    }
-    if may_go(p, v, h, route) {
-        return Fate::Vacant;
-    }
-    Fate::NoRoute
 }

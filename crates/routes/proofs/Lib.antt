@@ -1,5 +1,6 @@
 pub mod Steps
 pub mod Windows
+pub mod Nearby
 pub mod Legal
 pub mod Words
 pub mod Ahead

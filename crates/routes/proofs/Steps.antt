@@ -8,14 +8,15 @@ use lib.Dec.{eqb}
 use borrow.Author.Tests.{eqb-true, eq-eqb}
 use Rattle.grid.specs.declared.Beside.{Beside}
 use Rattle.grid.specs.declared.Beside.the-variants.{At, Off}
+use Rattle.grid.specs.Map.{neighbourOf}
 use Rattle.grid.specs.Walk.{distanceOf}
 use Rattle.position.specs.declared.View.{View}
-use Rattle.position.specs.Layout.{width}
+use Rattle.position.specs.Layout.{ViewOf, width}
 use Rattle.position.specs.Laid.{Laid}
 use Rattle.position.specs.Board.{Board, Map, ground}
-use Rattle.position.specs.Ground.{next, isAt, joined}
-use Rattle.position.proofs.Tallies.{both-yes, not-both, any-some, any-true}
-use Rattle.position.proofs.Sides.{reaches, joined-is, off-at, next-dir, next-in}
+use Rattle.position.specs.Ground.{blockedSide, isAt, joined, next, side}
+use Rattle.position.proofs.Tallies.{any-some, any-true, both-yes, not-both, same-or}
+use Rattle.position.proofs.Sides.{beside-view, joined-is, next-beside, next-blocked, next-dir, next-in, off-at, reaches}
 use Rattle.routes.specs.Bears.{refuge}
 use Rattle.routes.specs.Run.{Step}
 use Rattle.routes.specs.Legal.{enters, stepsTo}
@@ -120,3 +121,15 @@ module _ (b : Board) (f start i a : ℕ) where
     pub is-step : Step b f start i a d x → stepOf b f start i a d ≡ At x
     unfolding stepOf entered
     is-step s = simp (s .leads, enters-away b f start i x (s .away), s .into)
+
+-- where a step leads, by the neighbour and the side
+module _ {p : List ℕ} {v : View} (o : ViewOf p v) (a d : ℕ) where
+  pub leads-off : neighbourOf (v .width) (v .height) a d ≡ Off → Off ≡ next (ground p) a d
+  leads-off e =
+      same-or (side (ground p) a d) blockedSide
+      (λ z. sym (next-blocked (ground p) a d z))
+      (λ z. sym (next-beside (ground p) a d z ∙ sym (beside-view o a d) ∙ e))
+
+  pub leads-at :
+      {x : ℕ} → neighbourOf (v .width) (v .height) a d ≡ At x → (side (ground p) a d ≡ blockedSide → ⊥) → At x ≡ next (ground p) a d
+  leads-at e z = sym (next-beside (ground p) a d z ∙ sym (beside-view o a d) ∙ e)

@@ -21,7 +21,7 @@ use Rattle.position.specs.Ground.{standable}
 use Rattle.field.specs.Scene.{scene}
 use Rattle.paint.specs.declared.frame.Frame.{Frame}
 use Rattle.paint.specs.Frame.{Inside, placeOf, Room}
-use Rattle.paint.specs.Paint.{Marked}
+use Rattle.paint.specs.Paint.{Marked, Shows}
 use Rattle.paint.proofs.Units.{marked-zone, marked-held}
 use Rattle.routes.specs.Bears.{bears, refuge}
 use Rattle.routes.specs.Window.{free, Edge, Around, Window}
@@ -83,10 +83,19 @@ module _ {w h : ℕ} {s : Spot} (o : SpotOf w h s) (at : Frame) {r b : ℕ} (lef
       }
 
 -- it has room in 49 bytes
+pub around-small : {w h start : ℕ} {at : Frame} → Around w h start at → at .wide * at .high ≤ 49
+around-small a = mul-le-mul (a .wide) (a .high)
+
 pub around-room : {v : View} {start : ℕ} {at : Frame} {l : List ℕ} → Around (v .width) (v .height) start at → length l ≡ 49 → Room v at l
-around-room {at = at} a e =
-    let s : at .wide * at .high ≤ 7 * 7 = mul-le-mul (a .wide) (a .high) in
-    record { frame = a .frame; long = omega arith }
+around-room a e = record { frame = a .frame; long = omega (arith, around-small a) }
+
+-- painted round the start's spot it is the window
+pub window-is :
+    {p : List ℕ} {v : View} {f start x : ℕ} {at : Frame} {l : List ℕ} → Around (v .width) (v .height) x at → x ≡ start → length l ≡ 49
+    → Shows (scene (board p)) f at l → Window p v f start at l
+window-is {v = v} {at = at} a e n s =
+    let k = subst (λ (y : ℕ). Around (v .width) (v .height) y at) e a in
+    record { around = k; room = around-room k n; shows = s }
 
 -- the byte at a hex's place has the hex's marks
 pub window-marked :

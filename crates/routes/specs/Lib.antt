@@ -4,5 +4,6 @@ pub mod Words
 pub mod Legal
 pub mod Search
 pub mod Window
+pub mod Outlook
 pub mod Rulings
 pub mod Examples

@@ -1,4 +1,6 @@
-// Routes of a retreat: which are legal, and the first of them.
+// Routes of a retreat: which are legal, and what comes of the search for one.
+mod friends;
+mod sent;
 mod window;
 
 ghost use mathlib.Core.Path.{_≡_};
@@ -6,12 +8,10 @@ ghost use Prim.Native.Nat.{_<_, _≤_};
 ghost use lib.ListN.{length};
 ghost use Rattle.position.specs.Board.{board};
 ghost use Rattle.position.specs.Laid.{Laid};
-ghost use Rattle.routes.specs.Bears.{refuge};
-ghost use Rattle.routes.specs.Legal.{enters, stepsTo, legal};
-ghost use Rattle.routes.specs.Search.{firstRoute};
+ghost use Rattle.routes.specs.Outlook.{OutlookOf};
 use grid::near;
+use paint::frame;
 use position::View;
-use position::ground;
 
 // A place of a route that is not used.
 pub const NONE: usize = 65535;
@@ -22,74 +22,49 @@ pub enum Found {
     Nothing,
 }
 
-// Whether a retreating group of force `f` may enter hex `h`: vacant unprohibited land or coast outside Enemy zones.
-fn refuge(p: &[u8], v: View, f: usize, h: usize) -> bool
-    requires { ⌜ Laid (now p) v × (h < v .hexes) ⌝ }
-    ensures { λ r. ⌜ r ≡ refuge (board (now (p .entry))) f h ⌝ }
-{
-    if ground::standable(p, v, h) {
-        return window::free(paint::look(p, v, f, h));
-    }
-    false
+// Legal: the route that was sent is legal. Illegal: it is not, and another is. Friends: none is, and friends near the start might be
+// pushed. Alone: none is, and nobody near might be pushed.
+pub enum Outlook {
+    Legal,
+    Illegal,
+    Friends,
+    Alone,
 }
 
-// Whether a run may enter hex `x` after `i` steps: a refuge at distance i + 1 from its start. The distance is asked first, since it costs
-// least.
-fn enters(p: &[u8], v: View, f: usize, start: usize, i: usize, x: usize) -> bool
-    requires { ⌜ Laid (now p) v × (start < v .hexes) × (x < v .hexes) × (i < 3) ⌝ }
-    ensures { λ r. ⌜ r ≡ enters (board (now (p .entry))) f start i x ⌝ }
-{
-    if window::as_far(p, v, start, i, x) {
-        return refuge(p, v, f, x);
-    }
-    false
-}
-
-// Whether a run may go on from hex `a` to hex `x` after `i` steps.
-fn steps_to(p: &[u8], v: View, f: usize, start: usize, i: usize, a: usize, x: usize) -> bool
-    requires { ⌜ Laid (now p) v × (start < v .hexes) × (i < 3) ⌝ }
-    ensures { λ r. ⌜ r ≡ stepsTo (board (now (p .entry))) f start i a x ⌝ }
-{
-    if !ground::joined(p, v, a, x) {
-        return false;
-    }
-    enters(p, v, f, start, i, x)
-}
-
-// Whether a route is a legal one of n hexes for a group of force `f`.
-pub fn is_legal(p: &[u8], v: View, f: usize, start: usize, n: usize, route: &[u16]) -> bool
-    requires { ⌜ Laid (now p) v × (start < v .hexes) × (n ≤ 3) ⌝ }
-    ensures { λ r. ⌜ r ≡ legal (board (now (p .entry))) f start n (now (route .entry)) ⌝ }
-{
-    if route.len() != n {
-        return false;
-    }
-    let mut a = start;
-    for i in 0..n {
-        let x = route[i] as usize;
-        if !steps_to(p, v, f, start, i, a, x) {
-            return false;
-        }
-        a = x;
-    }
-    true
-}
-
-// The first legal route of n hexes, by a window round the start that is painted first.
-fn search_by(p: &[u8], v: View, f: usize, start: usize, n: usize, room: &mut [u8]) -> Found
+// What is seen in a window round the start, which is painted first: whether a legal route exists, whether the route sent is one, and
+// whether there are friends if none exists.
+fn judge_by(
+    p: &[u8],
+    v: View,
+    f: usize,
+    start: usize,
+    n: usize,
+    route: &[u16],
+    room: &mut [u8],
+) -> Outlook
     requires { ⌜ Laid (now p) v × (start < v .hexes) × (1 ≤ n) × (n ≤ 3) × (length (now room) ≡ 49) ⌝ }
-    ensures { λ r. ⌜ r ≡ firstRoute (board (now (p .entry))) f start n ⌝ }
+    ensures { λ r. ⌜ OutlookOf (board (now (p .entry))) f start n (now (route .entry)) r ⌝ }
 {
-    let at = window::around(v, near::spot(v.width, v.height, start));
+    let here = near::spot(v.width, v.height, start);
+    let at = window::around(v, here);
     paint::paint(p, v, at, f, room);
-    window::search(p, v, at, room, f, start, n)
+    if let Found::Nothing = window::search(p, v, at, room, f, start, n) {
+        if friends::near(room, frame::place(v, at, here)) {
+            return Outlook::Friends;
+        }
+        return Outlook::Alone;
+    }
+    if sent::is_legal(p, v, at, room, f, start, n, route) {
+        return Outlook::Legal;
+    }
+    Outlook::Illegal
 }
 
-// The first legal route of n hexes, directions tried clockwise.
-pub fn search(p: &[u8], v: View, f: usize, start: usize, n: usize) -> Found
+// What the outlook of a group of force `f` in hex `start` is that owes `n` hexes and was sent this route.
+pub fn judge(p: &[u8], v: View, f: usize, start: usize, n: usize, route: &[u16]) -> Outlook
     requires { ⌜ Laid (now p) v × (start < v .hexes) × (1 ≤ n) × (n ≤ 3) ⌝ }
-    ensures { λ r. ⌜ r ≡ firstRoute (board (now (p .entry))) f start n ⌝ }
+    ensures { λ r. ⌜ OutlookOf (board (now (p .entry))) f start n (now (route .entry)) r ⌝ }
 {
     let mut room = [0u8; 49];
-    search_by(p, v, f, start, n, &mut room)
+    judge_by(p, v, f, start, n, route, &mut room)
 }

@@ -5,7 +5,8 @@ ghost use lib.Dec.{eqb};
 ghost use Rattle.grid.specs.Spot.{SpotOf};
 ghost use Rattle.grid.specs.Walk.{distanceOf};
 ghost use Rattle.position.specs.Layout.{width};
-ghost use Rattle.position.specs.Board.{board};
+ghost use Rattle.position.specs.Board.{board, ground};
+ghost use Rattle.position.specs.Ground.{next};
 ghost use Rattle.position.specs.Laid.{Laid};
 ghost use Rattle.paint.specs.Frame.{Inside};
 ghost use Rattle.routes.specs.Bears.{refuge};
@@ -95,7 +96,7 @@ fn refuge(p: &[u8], v: View, at: Frame, shown: &[u8], f: usize, start: usize, x:
 }
 
 // Whether a run may enter hex `x` after `i` steps.
-fn enters(
+pub fn enters(
     p: &[u8],
     v: View,
     at: Frame,
@@ -114,6 +115,20 @@ fn enters(
     false
 }
 
+// Where a step from hex `a` in direction `d` leads, if the side is not blocked. The neighbour is looked up once, for itself and its sides.
+fn leads(p: &[u8], v: View, a: usize, d: usize) -> Beside
+    requires { ⌜ Laid (now p) v × (d < 6) ⌝ }
+    ensures { λ r. ⌜ r ≡ next (ground (now (p .entry))) a d ⌝ }
+{
+    let Beside::At(n) = grid::neighbour(v.width, v.height, a, d) else {
+        return Beside::Off;
+    };
+    if ground::between(p, v, a, n, d) == ground::BLOCKED {
+        return Beside::Off;
+    }
+    Beside::At(n)
+}
+
 // The hex that a run goes on to from hex `a` in direction `d` after `i` steps.
 fn step(
     p: &[u8],
@@ -129,7 +144,7 @@ fn step(
     requires { ⌜ Laid (now p) v × (start < v .hexes) × (i < 3) × (d < 6) × Window (now p) v f start at (now shown) ⌝ }
     ensures { λ r. ⌜ r ≡ stepOf (board (now (p .entry))) f start i a d ⌝ }
 {
-    let Beside::At(x) = ground::next(p, v, a, d) else {
+    let Beside::At(x) = leads(p, v, a, d) else {
         return Beside::Off;
     };
     if enters(p, v, at, shown, f, start, i, x) {

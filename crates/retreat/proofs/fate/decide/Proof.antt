@@ -1,11 +1,12 @@
--- `fate::decide` meets its contract: whether others than supply units owe is asked first, then whether a vacant route exists.
+-- `fate::decide` meets its contract: whether others than supply units owe is asked first, then what the outlook is.
 -- Assumes nothing.
 use mathlib.Core.Path.{sym, _∙_}
-use native.Mathlib.Omega.{arith}
 use borrow.Author.Needs.{needs}
 use borrow.Author.Tests.{not-false, not-true}
 use Rattle.position.specs.Board.{board}
-use Rattle.retreat.proofs.Fates.{doomed-supply, fate-doomed, fate-illegal, fate-legal, fate-sent, fate-served}
+use Rattle.retreat.proofs.Alone.{alone-series}
+use Rattle.retreat.proofs.Fates.{doomed-supply, fate-doomed, fate-illegal, fate-legal, fate-lost, fate-served}
+use Rattle.retreat.proofs.Groups.{told-alone, told-friends, told-illegal, told-legal}
 use Rattle.retreat.proofs.fate.decide.Statement.{statement}
 use Rattle.retreat.proofs.fate.decide.Tie as tie
 
@@ -18,51 +19,70 @@ returns c =
     let e = sym (c .before .any-walks .ensures) ∙ not-true _ (c .if1 .taken) in
     sym (fate-doomed (board (s .p .now)) (s .h) (s .route .now) (s .pushes .now) (doomed-supply (board (s .p .now)) (s .h) e))
 
-has-route-requires : tie.Need-has-route-requires
-has-route-requires c κs = search needs
+judge-requires : tie.Need-judge-requires
+judge-requires c κs = search needs
+
+enum-told : tie.Need-enum-told
+enum-told c = search needs
+
+by-route-requires : tie.Need-by-route-requires
+by-route-requires c κs = search needs
+
+enum-told-2 : tie.Need-enum-told-2
+enum-told-2 c = search needs
+
+enum-told-3 : tie.Need-enum-told-3
+enum-told-3 c = search needs
 
 by-pushes-requires : tie.Need-by-pushes-requires
 by-pushes-requires c κs = search needs
 
+enum-told-4 : tie.Need-enum-told-4
+enum-told-4 c = search needs
+
 returns-2 : tie.Need-returns-2
 returns-2 c =
-    let i = c .before in
-    let s = i .before .before .before .before .before .before .before .args in
-    c .by-pushes .ensures
-    ∙ fate-served (board (s .p .now)) (s .h) (s .route .now) (s .pushes .now)
-    (sym (i .before .before .before .any-walks .ensures) ∙ not-false _ (i .before .before .if1 .left))
-    (sym (i .before .has-route .ensures) ∙ not-true _ (i .if2 .taken))
+    let j = c .before .before .before in
+    let i = j .before in
+    let s = i .before .before .before .before .before .args in
+    let e = told-legal (board (s .p .now)) (s .h) (s .route .now) _ (j .judge .ensures) (c .before .enum-told .given .1) in
+    c .by-route .ensures
+    ∙ fate-legal (board (s .p .now)) (s .h) (s .route .now) (s .pushes .now)
+    (sym (i .before .any-walks .ensures) ∙ not-false _ (i .if1 .left))
+    (e .0)
+    (e .1)
 
 returns-3 : tie.Need-returns-3
 returns-3 c =
-    let i = c .before in
-    let s = i .before .before .before .before .before .before .before .args in
-    fate-sent (board (s .p .now)) (s .h) (s .route .now) (s .pushes .now)
-    (sym (i .before .before .before .any-walks .ensures) ∙ not-false _ (i .before .before .if1 .left))
-    (sym (i .before .has-route .ensures) ∙ not-false _ (i .if2 .left))
-    (omega (arith, c .if3 .taken))
-
-may-go-requires : tie.Need-may-go-requires
-may-go-requires c κs = search needs
+    let j = c .before .before in
+    let i = j .before in
+    let s = i .before .before .before .before .before .args in
+    let e = told-illegal (board (s .p .now)) (s .h) (s .route .now) _ (j .judge .ensures) (c .enum-told2 .given .1) in
+    fate-illegal (board (s .p .now)) (s .h) (s .route .now) (s .pushes .now)
+    (sym (i .before .any-walks .ensures) ∙ not-false _ (i .if1 .left))
+    (e .0)
+    (e .1)
 
 returns-4 : tie.Need-returns-4
 returns-4 c =
-    let i = c .before .before .before in
-    let s = i .before .before .before .before .before .before .before .args in
-    fate-legal (board (s .p .now)) (s .h) (s .route .now) (s .pushes .now)
-    (sym (i .before .before .before .any-walks .ensures) ∙ not-false _ (i .before .before .if1 .left))
-    (sym (i .before .has-route .ensures) ∙ not-false _ (i .if2 .left))
-    (omega (arith, c .before .before .if3 .left))
-    (sym (c .before .may-go .ensures) ∙ c .if4 .taken)
+    let j = c .before .before .before in
+    let i = j .before in
+    let s = i .before .before .before .before .before .args in
+    c .by-pushes .ensures
+    ∙ fate-served (board (s .p .now)) (s .h) (s .route .now) (s .pushes .now)
+    (sym (i .before .any-walks .ensures) ∙ not-false _ (i .if1 .left))
+    (told-friends (board (s .p .now)) (s .h) (s .route .now) _ (j .judge .ensures) (c .before .enum-told3 .given .1))
 
 returns-5 : tie.Need-returns-5
 returns-5 c =
-    let i = c .before .before .before in
-    let s = i .before .before .before .before .before .before .before .args in
-    fate-illegal (board (s .p .now)) (s .h) (s .route .now) (s .pushes .now)
-    (sym (i .before .before .before .any-walks .ensures) ∙ not-false _ (i .before .before .if1 .left))
-    (sym (i .before .has-route .ensures) ∙ not-false _ (i .if2 .left))
-    (sym (c .before .may-go .ensures) ∙ c .if4 .left)
+    let j = c .before .before in
+    let i = j .before in
+    let o = i .before .before .before .before .before in
+    let b = board (o .args .p .now) in
+    let h = o .args .h in
+    let e = told-alone b h (o .args .route .now) _ (j .judge .ensures) (c .enum-told4 .given .1) in
+    fate-lost b h (o .args .route .now) (o .args .pushes .now) (sym (i .before .any-walks .ensures) ∙ not-false _ (i .if1 .left)) (e .0)
+    (alone-series b h (o .pre .3) (e .1) (e .0))
 
 pub decide-spec : {M : Type 1} → statement M
 decide-spec =
@@ -70,10 +90,14 @@ decide-spec =
     (tie.spec
     any-walks-requires
     returns
-    has-route-requires
+    judge-requires
+    enum-told
+    by-route-requires
+    enum-told-2
+    enum-told-3
     by-pushes-requires
+    enum-told-4
     returns-2
     returns-3
-    may-go-requires
     returns-4
     returns-5)

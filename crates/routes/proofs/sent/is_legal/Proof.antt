@@ -1,4 +1,4 @@
--- `routes::is_legal` meets its contract. The loop's invariant: what is left of the test is the test of what is left of the route.
+-- `sent::is_legal` meets its contract. The loop's invariant: what is left of the test is the test of what is left of the route.
 -- The measure is how many hexes are left.
 -- Assumes nothing.
 use Prim.Native.Nat.{_-_, _≤_}
@@ -9,14 +9,14 @@ use borrow.Author.Tests.{not-true, not-false}
 use Rattle.position.specs.Board.{board}
 use Rattle.routes.specs.Legal.{legal}
 use Rattle.routes.proofs.Legal.{wrong-length, right-length, Still, all-passed, stopped, passed}
-use Rattle.routes.proofs.is_legal.Statement.{statement}
-use Rattle.routes.proofs.is_legal.Tie as tie
+use Rattle.routes.proofs.sent.is_legal.Statement.{statement}
+use Rattle.routes.proofs.sent.is_legal.Tie as tie
 
 abbrev Inv-loop : tie.InvT-loop
-Inv-loop p v f start n route a₀ i₀ a i = (i ≤ n) × Still (legal (board p) f start n route) (board p) f start i a route
+Inv-loop p v at shown f start n route a₀ i₀ a i = (i ≤ n) × Still (legal (board p) f start n route) (board p) f start i a route
 
 abbrev μ-loop : tie.MeasureT-loop
-μ-loop p v f start n route a₀ i₀ a i = n - i
+μ-loop p v at shown f start n route a₀ i₀ a i = n - i
 
 returns : tie.Need-returns Inv-loop μ-loop
 returns c = sym (wrong-length _ _ _ _ _ (c .if1 .taken))
@@ -31,7 +31,7 @@ shared-slice-read-x : tie.Need-shared-slice-read-x Inv-loop μ-loop
 shared-slice-read-x c = omega arith
 
 cast-x : tie.Need-cast-x Inv-loop μ-loop
-cast-x c = omega (arith, c .shared-slice-known3 .given (c .before .before .loop .i))
+cast-x c = omega (arith, c .shared-slice-known4 .given (c .before .before .loop .i))
 
 steps-to-requires : tie.Need-steps-to-requires Inv-loop μ-loop
 steps-to-requires c κs = search needs

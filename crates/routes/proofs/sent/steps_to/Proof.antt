@@ -1,12 +1,12 @@
--- `routes::steps_to` meets its contract, test by test.
+-- `sent::steps_to` meets its contract, test by test.
 -- Assumes nothing.
 use mathlib.Core.Path.{sym, _∙_}
 use borrow.Author.Needs.{needs}
 use borrow.Author.Tests.{not-true, not-false}
 use Rattle.routes.specs.Legal.{stepsTo}
 use Rattle.routes.proofs.Steps.{joined-in}
-use Rattle.routes.proofs.steps_to.Statement.{statement}
-use Rattle.routes.proofs.steps_to.Tie as tie
+use Rattle.routes.proofs.sent.steps_to.Statement.{statement}
+use Rattle.routes.proofs.sent.steps_to.Tie as tie
 
 joined-requires : tie.Need-joined-requires
 joined-requires c κs = search needs
@@ -17,8 +17,8 @@ returns c = simp (sym (c .before .joined .ensures) ∙ not-true _ (c .if1 .taken
 
 enters-requires : tie.Need-enters-requires
 enters-requires c κs =
-    let s = c .before .before .before .pre in
-    (s .0, s .1, joined-in (s .0) _ _ (sym (c .before .joined .ensures) ∙ not-false _ (c .if1 .left)), s .2)
+    let s = c .before .before .before .before .pre in
+    (s .0, s .1, s .2, joined-in (s .0) _ _ (sym (c .before .joined .ensures) ∙ not-false _ (c .if1 .left)), s .3)
 
 returns-2 : tie.Need-returns-2
 unfolding stepsTo

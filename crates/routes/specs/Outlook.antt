@@ -1,0 +1,46 @@
+-- What the outlook of a retreating group is: a legal route, friends near who might be pushed, or neither.
+-- Assumes nothing.
+use Prim.Native.Nat.{ℕ, _≤_}
+use mathlib.Core.Path.{_≡_}
+use mathlib.Core.Bool.{Bool, true, false, not, _&&_}
+use mathlib.Core.List.{List}
+use Rattle.grid.specs.Map.{On}
+use Rattle.grid.specs.Walk.{distanceOf}
+use Rattle.position.specs.Tally.{any}
+use Rattle.position.specs.Bits.{has}
+use Rattle.position.specs.Layout.{byte}
+use Rattle.position.specs.Board.{Board}
+use Rattle.field.specs.Scene.{scene}
+use Rattle.field.specs.Zone.{holds, supplyUnitOn, enemyZone}
+use Rattle.paint.specs.Paint.{zoneMark, ownMark, depotMark}
+use Rattle.routes.specs.declared.Outlook.{Outlook}
+use Rattle.routes.specs.declared.Outlook.the-variants.{Legal, Illegal, Friends, Alone}
+use Rattle.routes.specs.Legal.{legal}
+use Rattle.routes.specs.Search.{firstRoute, found}
+
+-- "A stack with a supply unit .. can't be pushed", and it is pushed out of "a hex that bears": one that force f can push is only in a hex x
+-- that holds units of f, no supply unit of f among them, outside Enemy zones
+unfoldable pub friends : Board → ℕ → ℕ → Bool
+friends b f x =
+    holds (scene b) f x && (not (any (supplyUnitOn (scene b) f x) (b .units .count)) && not (enemyZone (scene b) f x))
+
+-- the same by the hex's marks m,
+unfoldable pub friendly : ℕ → Bool
+friendly m = has ownMark m && (not (has depotMark m) && not (has zoneMark m))
+
+-- and by place i of a window
+unfoldable pub friendlyAt : List ℕ → ℕ → Bool
+friendlyAt l i = friendly (byte l i)
+
+-- no hex within three of the start, but for the start itself, has friends who might be pushed
+pub record Nobody (b : Board) (f start : ℕ) : Type 0 where
+  pub near :
+      (x : ℕ) → On (b .map .width) (b .map .height) x → distanceOf (b .map .width) start x ≤ 3 → (x ≡ start → ⊥)
+      → friends b f x ≡ false
+
+-- what each outlook says of a group that was sent this route; `Friends` leaves open whether one of them can be pushed
+abbrev pub OutlookOf : Board → ℕ → ℕ → ℕ → List ℕ → Outlook → Type 0
+OutlookOf b f start n route Legal = (found (firstRoute b f start n) ≡ true) × (legal b f start n route ≡ true)
+OutlookOf b f start n route Illegal = (found (firstRoute b f start n) ≡ true) × (legal b f start n route ≡ false)
+OutlookOf b f start n route Friends = found (firstRoute b f start n) ≡ false
+OutlookOf b f start n route Alone = (found (firstRoute b f start n) ≡ false) × Nobody b f start
