@@ -7,14 +7,16 @@ use mathlib.Core.List.{[], _∷_, map}
 use Rattle.position.specs.Board.{Board, nowhere}
 use Rattle.position.specs.Kind.{force, castsZone}
 use Rattle.field.specs.Scene.{forceIn}
+use Rattle.field.specs.Zone.{holds, supplyUnitOn}
 use Rattle.routes.specs.declared.Found.the-variants.{Route, Nothing}
 use Rattle.routes.specs.Bears.{bears, refuge}
 use Rattle.routes.specs.Search.{entered, stepOf, firstOf, goOn, firstRoute}
+use Rattle.routes.specs.Outlook.{friends}
 use Rattle.routes.specs.Rulings.{routesOpen, plain}
 
 -- 'unfolding searching' opens all that the search computes by
 unfoldable pub searching : ℕ
-unfolding routesOpen force castsZone forceIn entered stepOf firstOf goOn firstRoute
+unfolding routesOpen force castsZone forceIn entered stepOf firstOf goOn firstRoute holds supplyUnitOn friends
 searching = 0
 
 abbrev pub standing : ℕ → ℕ
@@ -52,6 +54,11 @@ no-lift = refl
 pub vacant-only : (bears watched 2 24 ≡ true) × (refuge watched 2 24 ≡ false)
 unfolding searching
 vacant-only = (refl, refl)
+
+-- force 2 might push its unit out of hex 24; force 0 not its own out of hex 7, which lies in a zone, nor a unit of force 2
+pub who-is-near : (friends watched 2 24 ≡ true) × (friends watched 0 7 ≡ false) × (friends watched 0 24 ≡ false)
+unfolding searching
+who-is-near = (refl, refl, refl)
 
 -- the first route on the plain board, one past the zones, and none out of the corner that they close
 pub northward : firstRoute plain 0 12 2 ≡ Route 7 2 nowhere

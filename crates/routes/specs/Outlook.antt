@@ -18,8 +18,8 @@ use Rattle.routes.specs.declared.Outlook.the-variants.{Legal, Illegal, F
 use Rattle.routes.specs.Legal.{legal}
 use Rattle.routes.specs.Search.{firstRoute, found}
 
--- "A stack with a supply unit .. can't be pushed", and it is pushed out of "a hex that bears": one that force f can push is only in a hex x
--- that holds units of f, no supply unit of f among them, outside Enemy zones
+-- "A stack with a supply unit .. can't be pushed", and a step goes "into a hex that bears": so the hex x of a stack that force f can push
+-- holds units of f, no supply unit of f among them, and lies outside Enemy zones
 unfoldable pub friends : Board → ℕ → ℕ → Bool
 friends b f x =
     holds (scene b) f x && (not (any (supplyUnitOn (scene b) f x) (b .units .count)) && not (enemyZone (scene b) f x))
