@@ -38,7 +38,7 @@ pub record Nobody (b : Board) (f start : ℕ) : Type 0 where
       (x : ℕ) → On (b .map .width) (b .map .height) x → distanceOf (b .map .width) start x ≤ 3 → (x ≡ start → ⊥)
       → friends b f x ≡ false
 
--- what each outlook says of a group that was sent this route; `Friends` leaves open whether one of them can be pushed
+-- what each outlook says of a group that was sent this route. `Friends` says only that no route exists: pushes have to be looked for
 abbrev pub OutlookOf : Board → ℕ → ℕ → ℕ → List ℕ → Outlook → Type 0
 OutlookOf b f start n route Legal = (found (firstRoute b f start n) ≡ true) × (legal b f start n route ≡ true)
 OutlookOf b f start n route Illegal = (found (firstRoute b f start n) ≡ true) × (legal b f start n route ≡ false)
