@@ -5,4 +5,5 @@ pub mod Legal
 pub mod Words
 pub mod Ahead
 pub mod First
+pub mod Part
 pub mod Rulings

@@ -3,6 +3,7 @@ pub mod Run
 pub mod Words
 pub mod Legal
 pub mod Search
+pub mod Part
 pub mod Window
 pub mod Outlook
 pub mod Rulings

@@ -1,4 +1,4 @@
--- What the outlook of a retreating group is: a legal route, friends near who might be pushed, or neither.
+-- What the outlook of a retreating group is: a legal route, friends near who might be pushed, or neither, and a part route then.
 -- Assumes nothing.
 use Prim.Native.Nat.{ℕ, _≤_}
 use mathlib.Core.Path.{_≡_}
@@ -17,6 +17,7 @@ use Rattle.routes.specs.declared.Outlook.{Outlook}
 use Rattle.routes.specs.declared.Outlook.the-variants.{Legal, Illegal, Friends, Alone}
 use Rattle.routes.specs.Legal.{legal}
 use Rattle.routes.specs.Search.{firstRoute, found}
+use Rattle.routes.specs.Part.{partRoute}
 
 -- "A stack with a supply unit .. can't be pushed", and a step goes "into a hex that bears": so the hex x of a stack that force f can push
 -- holds units of f, no supply unit of f among them, and lies outside Enemy zones
@@ -38,9 +39,10 @@ pub record Nobody (b : Board) (f start : ℕ) : Type 0 where
       (x : ℕ) → On (b .map .width) (b .map .height) x → distanceOf (b .map .width) start x ≤ 3 → (x ≡ start → ⊥)
       → friends b f x ≡ false
 
--- what each outlook says of a group that was sent this route. `Friends` says only that no route exists: pushes have to be looked for
+-- what each outlook says of a group that was sent this route. `Friends` says of pushes only that they have to be looked for
 abbrev pub OutlookOf : Board → ℕ → ℕ → ℕ → List ℕ → Outlook → Type 0
 OutlookOf b f start n route Legal = (found (firstRoute b f start n) ≡ true) × (legal b f start n route ≡ true)
 OutlookOf b f start n route Illegal = (found (firstRoute b f start n) ≡ true) × (legal b f start n route ≡ false)
-OutlookOf b f start n route Friends = found (firstRoute b f start n) ≡ false
-OutlookOf b f start n route Alone = (found (firstRoute b f start n) ≡ false) × Nobody b f start
+OutlookOf b f start n route (Friends part) = (found (firstRoute b f start n) ≡ false) × (part ≡ partRoute b f start route)
+OutlookOf b f start n route (Alone part) =
+    (found (firstRoute b f start n) ≡ false) × (part ≡ partRoute b f start route) × Nobody b f start

@@ -9,8 +9,10 @@ ghost use lib.ListN.{length};
 ghost use Rattle.position.specs.Board.{board};
 ghost use Rattle.position.specs.Laid.{Laid};
 ghost use Rattle.routes.specs.Outlook.{OutlookOf};
+ghost use Rattle.routes.specs.Window.{Window};
 use grid::near;
 use paint::frame;
+use paint::frame::Frame;
 use position::View;
 
 // A place of a route that is not used.
@@ -23,16 +25,44 @@ pub enum Found {
 }
 
 // Legal: the route that was sent is legal. Illegal: it is not, and another is. Friends: none is, and friends near the start might be
-// pushed. Alone: none is, and nobody near might be pushed.
+// pushed. Alone: none is, and nobody near might be pushed. Where none is, it says too whether the route that was sent is a part route.
 pub enum Outlook {
     Legal,
     Illegal,
-    Friends,
-    Alone,
+    Friends(bool),
+    Alone(bool),
 }
 
-// What is seen in a window round the start, which is painted first: whether a legal route exists, whether the route sent is one, and
-// whether there are friends if none exists.
+// What a window that was painted round the start tells: whether a legal route exists, whether the route sent is one, and if none exists,
+// whether it is a part route and whether there are friends.
+fn tell(
+    p: &[u8],
+    v: View,
+    at: Frame,
+    shown: &mut [u8],
+    f: usize,
+    start: usize,
+    n: usize,
+    route: &[u16],
+) -> Outlook
+    requires { ⌜ Laid (now p) v × Window (now p) v f start at (now shown) × (length (now shown) ≡ 49) × (start < v .hexes) × (1 ≤ n) × (n ≤ 3) ⌝ }
+    ensures { λ r. ⌜ OutlookOf (board (now (p .entry))) f start n (now (route .entry)) r ⌝ }
+{
+    if let Found::Nothing = window::search(p, v, at, shown, f, start, n) {
+        let part = sent::is_part(p, v, at, shown, f, start, n, route);
+        let here = near::spot(v.width, v.height, start);
+        if friends::near(shown, frame::place(v, at, here)) {
+            return Outlook::Friends(part);
+        }
+        return Outlook::Alone(part);
+    }
+    if sent::is_legal(p, v, at, shown, f, start, n, route) {
+        return Outlook::Legal;
+    }
+    Outlook::Illegal
+}
+
+// What a window round the start tells, which is painted first.
 fn judge_by(
     p: &[u8],
     v: View,
@@ -45,19 +75,9 @@ fn judge_by(
     requires { ⌜ Laid (now p) v × (start < v .hexes) × (1 ≤ n) × (n ≤ 3) × (length (now room) ≡ 49) ⌝ }
     ensures { λ r. ⌜ OutlookOf (board (now (p .entry))) f start n (now (route .entry)) r ⌝ }
 {
-    let here = near::spot(v.width, v.height, start);
-    let at = window::around(v, here);
+    let at = window::around(v, near::spot(v.width, v.height, start));
     paint::paint(p, v, at, f, room);
-    if let Found::Nothing = window::search(p, v, at, room, f, start, n) {
-        if friends::near(room, frame::place(v, at, here)) {
-            return Outlook::Friends;
-        }
-        return Outlook::Alone;
-    }
-    if sent::is_legal(p, v, at, room, f, start, n, route) {
-        return Outlook::Legal;
-    }
-    Outlook::Illegal
+    tell(p, v, at, room, f, start, n, route)
 }
 
 // What the outlook of a group of force `f` in hex `start` is that owes `n` hexes and was sent this route.
