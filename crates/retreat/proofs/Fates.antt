@@ -1,23 +1,26 @@
 -- What comes of a group, by the tests that decide it, and what each fate says of the refusals.
 -- Assumes nothing.
 use Prim.Native.Nat.{_<_, _≤_, ℕ}
-use mathlib.Core.Bool.{Bool, _&&_, cond, false, or-true, true}
+use mathlib.Core.Bool.{Bool, _&&_, _||_, cond, false, or-true, true}
 use mathlib.Core.List.{List, [], _∷_}
-use mathlib.Core.Path.{_≡_, refl, sym}
+use mathlib.Core.Path.{_≡_, refl, sym, ap, _∙_}
 use native.Mathlib.Omega.{arith}
+use borrow.Author.Tests.{ne-eqb}
+use lib.Dec.{eqb}
 use lib.ListN.{length}
 use Rattle.position.proofs.Tallies.{either}
 use Rattle.position.specs.Board.{Board}
 use Rattle.position.specs.Tally.{any}
 use Rattle.routes.specs.Legal.{legal}
+use Rattle.routes.specs.Part.{partRoute}
 use Rattle.chains.specs.Follows.{legalPushes, none}
 use Rattle.chains.specs.Serves.{pushesServe}
 use Rattle.pushes.specs.Pushes.{served}
 use Rattle.shoves.specs.Group.{groupForce}
 use Rattle.retreat.specs.declared.fate.Fate.{Fate}
 use Rattle.retreat.specs.declared.fate.Fate.the-variants.{Lost, NoPushes, NoRoute, Pushing, Vacant}
-use Rattle.retreat.specs.Retreat.{doomed, hasRoute, hasSeries, notPushed, notVacant, walksFrom}
-use Rattle.retreat.specs.Fate.{fateOf, pushFate, routeFate, servedFate}
+use Rattle.retreat.specs.Retreat.{doomed, hasRoute, hasSeries, isPart, notPart, notPushed, notVacant, walksFrom}
+use Rattle.retreat.specs.Fate.{fateOf, lostFate, pushFate, routeFate, servedFate}
 
 -- who is destroyed
 module _ (b : Board) (h : ℕ) where
@@ -46,6 +49,10 @@ pub none-some : (xs : List ℕ) → 0 < length xs → none xs ≡ false
 none-some [] l = absurd (omega arith)
 none-some (x ∷ xs) l = refl
 
+none-eqb : (xs : List ℕ) → eqb (length xs) 0 ≡ none xs
+none-eqb [] = refl
+none-eqb (x ∷ xs) = ne-eqb (length (x ∷ xs)) 0 (λ e. omega arith)
+
 -- the fate of a group, as the tests come one after another
 module _ (b : Board) (h : ℕ) (route pushes : List ℕ) where
   abbrev pub fits : Bool
@@ -54,9 +61,21 @@ module _ (b : Board) (h : ℕ) (route pushes : List ℕ) where
   abbrev pub serves : Bool
   serves = legalPushes b (groupForce b h) h (b .desk .owed) route pushes
 
-  pub fate-doomed : doomed b h ≡ true → fateOf b h route pushes ≡ Lost
+  abbrev pub parts : Bool
+  parts = isPart b h route && none pushes
+
+  fate-doomed : doomed b h ≡ true → fateOf b h route pushes ≡ lostFate (isPart b h route) pushes
   unfolding fateOf
   fate-doomed e = simp e
+
+  module _ (e : doomed b h ≡ true) where
+    pub fate-lost : parts ≡ true → fateOf b h route pushes ≡ Lost
+    unfolding fateOf lostFate
+    fate-lost f = simp (e, f)
+
+    pub fate-no-part : parts ≡ false → fateOf b h route pushes ≡ NoRoute
+    unfolding fateOf lostFate
+    fate-no-part f = simp (e, f)
 
   module _ (e : doomed b h ≡ false) where
     module _ (r : hasRoute b h ≡ true) where
@@ -77,22 +96,34 @@ module _ (b : Board) (h : ℕ) (route pushes : List ℕ) where
       unfolding fateOf pushFate
       fate-no-pushes f = simp (e, r, f)
 
+  -- where only supply units owe
+  pub fate-supply :
+      any (walksFrom b h) (b .units .count) ≡ false → lostFate (eqb (length route) 0) pushes ≡ fateOf b h route pushes
+  unfolding isPart
+  fate-supply w =
+      ap (λ (t : Bool). lostFate t pushes) (none-eqb route ∙ sym (simp w)) ∙ sym (fate-doomed (doomed-supply b h w))
+
   module _ (w : any (walksFrom b h) (b .units .count) ≡ true) where
+    -- where no vacant route exists, and no series either
+    pub fate-trapped :
+        {t : Bool} → hasRoute b h ≡ false → hasSeries b h ≡ false → t ≡ partRoute b (groupForce b h) h route
+        → lostFate t pushes ≡ fateOf b h route pushes
+    unfolding isPart
+    fate-trapped r s e =
+        ap (λ (t : Bool). lostFate t pushes) (e ∙ sym (simp w)) ∙ sym (fate-doomed (doomed-neither b h r s))
+
     -- where no vacant route exists
     pub fate-served :
-        hasRoute b h ≡ false → servedFate (served b (groupForce b h) h (b .desk .owed) route pushes) ≡ fateOf b h route pushes
+        {t : Bool} → hasRoute b h ≡ false → t ≡ partRoute b (groupForce b h) h route
+        → servedFate (lostFate t pushes) (served b (groupForce b h) h (b .desk .owed) route pushes) ≡ fateOf b h route pushes
     unfolding served hasSeries
-    fate-served r =
+    fate-served r e =
         either (pushesServe b (groupForce b h) h (b .desk .owed))
         (λ s.
         either serves
         (λ f. simp (s, f) (sym (fate-pushing (spared-series b h w s) r f)))
         (λ f. simp (s, f) (sym (fate-no-pushes (spared-series b h w s) r f))))
-        (λ s. simp s (sym (fate-doomed (doomed-neither b h r s))))
-
-    -- where none does, and no series either
-    pub fate-lost : hasRoute b h ≡ false → hasSeries b h ≡ false → Lost ≡ fateOf b h route pushes
-    fate-lost r s = sym (fate-doomed (doomed-neither b h r s))
+        (λ s. simp s (fate-trapped r s e))
 
     -- where one does
     module _ (r : hasRoute b h ≡ true) where
@@ -113,18 +144,25 @@ pub record Goes (b : Board) (h : ℕ) (route pushes : List ℕ) (r : Bool) : Typ
   pub vacant : notVacant b h route pushes ≡ false
   pub pushed : notPushed b h route pushes ≡ false
 
+pub record Falls (b : Board) (h : ℕ) (route pushes : List ℕ) : Type 0 where
+  pub lost : doomed b h ≡ true
+  pub part : notPart b h route pushes ≡ false
+
 abbrev pub FateSays : Board → ℕ → List ℕ → List ℕ → Fate → Type 0
-FateSays b h route pushes Lost = doomed b h ≡ true
-FateSays b h route pushes NoRoute = notVacant b h route pushes ≡ true
-FateSays b h route pushes NoPushes = (notVacant b h route pushes ≡ false) × (notPushed b h route pushes ≡ true)
+FateSays b h route pushes Lost = Falls b h route pushes
+FateSays b h route pushes NoRoute = (notPart b h route pushes || notVacant b h route pushes) ≡ true
+FateSays b h route pushes NoPushes = (doomed b h ≡ false) × (notVacant b h route pushes ≡ false) × (notPushed b h route pushes ≡ true)
 FateSays b h route pushes Vacant = Goes b h route pushes true
 FateSays b h route pushes Pushing = Goes b h route pushes false
 
 pub fate-says : (b : Board) (h : ℕ) (route pushes : List ℕ) → FateSays b h route pushes (fateOf b h route pushes)
-unfolding notVacant notPushed
+unfolding notPart notVacant notPushed
 fate-says b h route pushes =
     either (doomed b h)
-    (λ e. rw (fate-doomed b h route pushes e) e)
+    (λ e.
+    either (parts b h route pushes)
+    (λ f. rw (fate-lost b h route pushes e f) (record { lost = e; part = simp (e, f) }))
+    (λ f. rw (fate-no-part b h route pushes e f) (simp (e, f))))
     (λ e.
     either (hasRoute b h)
     (λ r.
@@ -134,14 +172,19 @@ fate-says b h route pushes =
     (λ r.
     either (serves b h route pushes)
     (λ f. rw (fate-pushing b h route pushes e r f) (record { spared = e; way = r; vacant = simp (e, r); pushed = simp (e, r, f) }))
-    (λ f. rw (fate-no-pushes b h route pushes e r f) (simp (e, r), simp (e, r, f)))))
+    (λ f. rw (fate-no-pushes b h route pushes e r f) (e, simp (e, r), simp (e, r, f)))))
 
--- who is destroyed is refused by neither
-module _ (b : Board) (h : ℕ) (route pushes : List ℕ) (e : doomed b h ≡ true) where
-  pub doomed-vacant : notVacant b h route pushes ≡ false
+module _ (b : Board) (h : ℕ) (route pushes : List ℕ) where
+  -- who is destroyed is refused by neither test of those who are spared,
+  pub doomed-vacant : doomed b h ≡ true → notVacant b h route pushes ≡ false
   unfolding notVacant
-  doomed-vacant = simp e
+  doomed-vacant e = simp e
 
-  pub doomed-pushed : notPushed b h route pushes ≡ false
+  pub doomed-pushed : doomed b h ≡ true → notPushed b h route pushes ≡ false
   unfolding notPushed
-  doomed-pushed = simp e
+  doomed-pushed e = simp e
+
+  -- and who is spared not by the test of those who are destroyed
+  pub spared-part : doomed b h ≡ false → notPart b h route pushes ≡ false
+  unfolding notPart
+  spared-part e = simp e

@@ -24,6 +24,7 @@ use Rattle.field.proofs.Lists.{sieve-long}
 use Rattle.field.specs.Listed.{onMapAll, onMapFrom, sieve}
 use Rattle.routes.specs.Legal.{legal}
 use Rattle.routes.specs.Outlook.{Nobody, OutlookOf}
+use Rattle.routes.specs.Part.{partRoute}
 use Rattle.routes.specs.declared.Outlook.{Outlook}
 use Rattle.routes.specs.declared.Outlook.the-variants.{Alone, Friends, Illegal, Legal}
 use Rattle.pushes.specs.Pushes.{served}
@@ -91,11 +92,12 @@ module _ (b : Board) (h : ℕ) (route : List ℕ) (r : Outlook) (o : OutlookOf b
   unfolding hasRoute
   told-illegal e = told e
 
-  pub told-friends : r ≡ Friends → hasRoute b h ≡ false
+  pub told-friends : {t : Bool} → r ≡ Friends t → (hasRoute b h ≡ false) × (t ≡ partRoute b (groupForce b h) h route)
   unfolding hasRoute
   told-friends e = told e
 
-  pub told-alone : r ≡ Alone → (hasRoute b h ≡ false) × Nobody b (groupForce b h) h
+  pub told-alone :
+      {t : Bool} → r ≡ Alone t → (hasRoute b h ≡ false) × (t ≡ partRoute b (groupForce b h) h route) × Nobody b (groupForce b h) h
   unfolding hasRoute
   told-alone e = told e
 

@@ -156,13 +156,13 @@ pushed-off {p} {q} s h route pushes e f =
     ∙ ap (λ (b : Board). makes q (marches b h route pushes)) (ap board e ∙ board-make s n)
     ∙ ap (λ (l : List ℕ). makes l (marches (change (board p) n) h route pushes)) e
 
+-- or into the box
 pub fallen :
-    {p q m : List ℕ} → Shaped p → (h : ℕ) {r : ℕ} → r ≡ routes (board p) → q ≡ make p (routed r h nowhere nowhere nowhere)
-    → m ≡ makes q (map destroyed (group (board q) h)) → m ≡ makes p (doomChanges (board p) h)
-unfolding doomChanges
-fallen {p} s h {r} er e f =
-    routed-falls s r h nowhere nowhere nowhere e h f
-    ∙ ap (λ (k : ℕ). makes p (routed k h nowhere nowhere nowhere ∷ map destroyed (group (board p) h))) er
+    {p q m : List ℕ} → Shaped p → (h : ℕ) (route : List ℕ) → q ≡ make p (noteOf (board p) h route)
+    → m ≡ makes q (map destroyed (group (board q) h)) → m ≡ makes p (doomChanges (board p) h route)
+unfolding doomChanges noteOf
+fallen {p} s h route e f =
+    routed-falls s (routes (board p)) h (getD route 0 nowhere) (getD route 1 nowhere) (getD route 2 nowhere) e h f
 
 -- where the route ends, of the numbers as they were read
 pub ends :

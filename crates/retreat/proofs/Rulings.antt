@@ -1,9 +1,10 @@
 -- The rulings on a retreat, one law for each way that it ends.
 -- Assumes nothing.
 use Prim.Native.Nat.{ℕ}
-use mathlib.Core.Bool.{Bool, cond, false, true}
+use mathlib.Core.Bool.{Bool, _||_, cond, false, true}
 use mathlib.Core.List.{List, [], _∷_}
 use mathlib.Core.Path.{_≡_}
+use Rattle.position.proofs.Tallies.{either}
 use Rattle.position.specs.Board.{board}
 use Rattle.position.specs.Change.{makes}
 use Rattle.acceptance.specs.Accepted.{Accepted}
@@ -19,6 +20,7 @@ use Rattle.retreat.specs.Retreat.{
   endOf,
   groupChecks,
   leaveChanges,
+  notPart,
   notPushed,
   notVacant,
   pushChanges,
@@ -27,7 +29,7 @@ use Rattle.retreat.specs.Retreat.{
   retreatValues,
   retreatVerdict,
 }
-use Rattle.retreat.proofs.Fates.{Goes, doomed-pushed, doomed-vacant}
+use Rattle.retreat.proofs.Fates.{Falls, Goes, doomed-pushed, doomed-vacant, spared-part}
 
 module _ {p : List ℕ} (h : ℕ) (route pushes : List ℕ) (y : Accepted p) where
   -- refused before its route is asked for
@@ -37,27 +39,38 @@ module _ {p : List ℕ} (h : ℕ) (route pushes : List ℕ) (y : Accepted p) whe
   stops-group s = pass (broken-false y) (s [] _)
 
   module _ (o : Passes p (groupChecks (board p) h route pushes)) where
-    -- destroyed, whatever was sent
+    -- destroyed with its part route
     pub ends-doomed :
-        {q : List ℕ} → doomed (board p) h ≡ true → q ≡ makes p (thenOn (board p) (doomChanges (board p) h))
+        {q : List ℕ} → Falls (board p) h route pushes → q ≡ makes p (thenOn (board p) (doomChanges (board p) h route))
         → Met p [] (retreatVerdict p h route pushes) (accepted (2 ∷ [])) q []
     unfolding retreatVerdict retreatRule retreatValues leaveChanges
-    ends-doomed e f =
+    ends-doomed g f =
         pass (broken-false y)
         (o [] _ _ _ _
-        (pass (doomed-vacant (board p) h route pushes e) (pass (doomed-pushed (board p) h route pushes e) (rw e (ruled f)))))
+        (pass (g .part)
+        (pass (doomed-vacant (board p) h route pushes (g .lost))
+        (pass (doomed-pushed (board p) h route pushes (g .lost)) (rw (g .lost) (ruled f))))))
 
-    -- "pushes sent beside a vacant route are 14", and so is a route that is none
-    pub stops-route : notVacant (board p) h route pushes ≡ true → Met p [] (retreatVerdict p h route pushes) (refused 14 0) p []
+    -- "14 also covers a part route that is too short or not legal"; "pushes sent beside a vacant route are 14", and so is a route that is
+    -- none
+    pub stops-route :
+        (notPart (board p) h route pushes || notVacant (board p) h route pushes) ≡ true
+        → Met p [] (retreatVerdict p h route pushes) (refused 14 0) p []
     unfolding retreatVerdict retreatRule
-    stops-route g = pass (broken-false y) (o [] _ _ _ _ (stop g))
+    stops-route g =
+        pass (broken-false y)
+        (o [] _ _ _ _
+        (either (notPart (board p) h route pushes)
+        (λ e. stop e)
+        (λ e. pass e (stop (simp e at g)))))
 
     -- "17 in place of 14 where only pushes serve and route or pushes are not legal"
     pub stops-pushes :
-        notVacant (board p) h route pushes ≡ false → notPushed (board p) h route pushes ≡ true
+        doomed (board p) h ≡ false → notVacant (board p) h route pushes ≡ false → notPushed (board p) h route pushes ≡ true
         → Met p [] (retreatVerdict p h route pushes) (refused 17 0) p []
     unfolding retreatVerdict retreatRule
-    stops-pushes g k = pass (broken-false y) (o [] _ _ _ _ (pass g (stop k)))
+    stops-pushes e g k =
+        pass (broken-false y) (o [] _ _ _ _ (pass (spared-part (board p) h route pushes e) (pass g (stop k))))
 
     -- retreated with its end, along a vacant route or by pushes
     pub ends-going :
@@ -67,4 +80,6 @@ module _ {p : List ℕ} (h : ℕ) (route pushes : List ℕ) (y : Accepted p) whe
     unfolding retreatVerdict retreatRule retreatValues leaveChanges
     ends-going g i f =
         pass (broken-false y)
-        (o [] _ _ _ _ (pass (g .vacant) (pass (g .pushed) (rw (i, g .spared, g .way) (ruled f)))))
+        (o [] _ _ _ _
+        (pass (spared-part (board p) h route pushes (g .spared))
+        (pass (g .vacant) (pass (g .pushed) (rw (i, g .spared, g .way) (ruled f))))))

@@ -1,7 +1,7 @@
 -- What comes of a group, once it is known that it owes.
 -- Assumes nothing.
 use Prim.Native.Nat.{ℕ}
-use mathlib.Core.Bool.{cond, _&&_}
+use mathlib.Core.Bool.{Bool, cond, _&&_}
 use mathlib.Core.List.{List}
 use Rattle.position.specs.Board.{Board}
 use Rattle.routes.specs.Legal.{legal}
@@ -11,7 +11,11 @@ use Rattle.pushes.specs.declared.Served.the-variants.{None, Wrong, Right}
 use Rattle.shoves.specs.Group.{groupForce}
 use Rattle.retreat.specs.declared.fate.Fate.{Fate}
 use Rattle.retreat.specs.declared.fate.Fate.the-variants.{Lost, NoRoute, NoPushes, Vacant, Pushing}
-use Rattle.retreat.specs.Retreat.{hasRoute, doomed}
+use Rattle.retreat.specs.Retreat.{hasRoute, doomed, isPart}
+
+-- where the group is destroyed: a part route and nothing else was sent, or what was sent is refused
+unfoldable pub lostFate : Bool → List ℕ → Fate
+lostFate part pushes = cond (part && none pushes) Lost NoRoute
 
 -- by route alone, where a vacant one exists
 unfoldable pub routeFate : Board → ℕ → List ℕ → List ℕ → Fate
@@ -22,12 +26,13 @@ routeFate b h route pushes =
 unfoldable pub pushFate : Board → ℕ → List ℕ → List ℕ → Fate
 pushFate b h route pushes = cond (legalPushes b (groupForce b h) h (b .desk .owed) route pushes) Pushing NoPushes
 
--- the fate that an answer about pushes comes to
-abbrev pub servedFate : Served → Fate
-servedFate None = Lost
-servedFate Wrong = NoPushes
-servedFate Right = Pushing
+-- the fate that an answer about pushes comes to, for one who would be destroyed with this fate
+abbrev pub servedFate : Fate → Served → Fate
+servedFate lost None = lost
+servedFate lost Wrong = NoPushes
+servedFate lost Right = Pushing
 
 unfoldable pub fateOf : Board → ℕ → List ℕ → List ℕ → Fate
 fateOf b h route pushes =
-    cond (doomed b h) Lost (cond (hasRoute b h) (routeFate b h route pushes) (pushFate b h route pushes))
+    cond (doomed b h) (lostFate (isPart b h route) pushes)
+    (cond (hasRoute b h) (routeFate b h route pushes) (pushFate b h route pushes))

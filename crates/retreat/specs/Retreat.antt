@@ -20,6 +20,7 @@ use Rattle.ruling.specs.Verdict.Verdict.{refuseIf, judge}
 use Rattle.field.specs.Listed.{onMapAll, onMapFrom}
 use Rattle.routes.specs.Legal.{legal}
 use Rattle.routes.specs.Search.{firstRoute, found}
+use Rattle.routes.specs.Part.{partRoute}
 use Rattle.chains.specs.Follows.{none, legalPushes}
 use Rattle.chains.specs.Serves.{pushesServe}
 use Rattle.shoves.specs.Group.{group, groupForce}
@@ -41,6 +42,14 @@ hasSeries b h = pushesServe b (groupForce b h) h (b .desk .owed)
 -- "The group is destroyed exactly if neither a vacant route nor such a series of pushes exists", or if "only supply units owe"
 unfoldable pub doomed : Board → ℕ → Bool
 doomed b h = not (any (walksFrom b h) (b .units .count)) || not (hasRoute b h || hasSeries b h)
+
+-- "the owner sends the part route .. It uses vacant hexes alone, and is empty where only supply units owe"
+unfoldable pub isPart : Board → ℕ → List ℕ → Bool
+isPart b h route = cond (any (walksFrom b h) (b .units .count)) (partRoute b (groupForce b h) h route) (none route)
+
+-- "14 also covers a part route that is too short or not legal", and pushes sent with it
+unfoldable pub notPart : Board → ℕ → List ℕ → List ℕ → Bool
+notPart b h route pushes = doomed b h && not (isPart b h route && none pushes)
 
 -- "If a vacant route exists, the route must be one and the pushes empty, else 14"
 unfoldable pub notVacant : Board → ℕ → List ℕ → List ℕ → Bool
@@ -64,7 +73,7 @@ unfoldable pub goesOff : Board → ℕ → List ℕ → List Change
 goesOff b end [] = []
 goesOff b end (u ∷ us) = leaves b end u ++ goesOff b end us
 
--- "Else start and route are written."
+-- "Else start and route are written", and of a group that is destroyed "start and part route"
 unfoldable pub noteOf : Board → ℕ → List ℕ → Change
 noteOf b h route = routed (routes b) h (getD route 0 nowhere) (getD route 1 nowhere) (getD route 2 nowhere)
 
@@ -75,9 +84,9 @@ retreatChanges b h route = noteOf b h route ∷ goesOff b (endOf b route) (group
 unfoldable pub pushChanges : Board → ℕ → List ℕ → List ℕ → List Change
 pushChanges b h route pushes = noteOf b h route ∷ marches (change b (noteOf b h route)) h route pushes
 
--- "the group is destroyed whatever route was sent, and the starting hex alone is written as the route"
-unfoldable pub doomChanges : Board → ℕ → List Change
-doomChanges b h = routed (routes b) h nowhere nowhere nowhere ∷ map destroyed (group b h)
+-- "it goes as far as it can and is lost there": "The route written is start and part route"
+unfoldable pub doomChanges : Board → ℕ → List ℕ → List Change
+doomChanges b h route = noteOf b h route ∷ map destroyed (group b h)
 
 -- "The answer is one of: retreated with its end, destroyed, or refused": 1 and the end, or 2
 unfoldable pub retreatValues : Board → ℕ → List ℕ → List ℕ
@@ -102,15 +111,17 @@ groupChecks b h route pushes rest =
 -- what the group does: it is destroyed, goes along a vacant route, or pushes
 unfoldable pub leaveChanges : Board → ℕ → List ℕ → List ℕ → List Change
 leaveChanges b h route pushes =
-    cond (doomed b h) (doomChanges b h) (cond (hasRoute b h) (retreatChanges b h route) (pushChanges b h route pushes))
+    cond (doomed b h) (doomChanges b h route) (cond (hasRoute b h) (retreatChanges b h route) (pushChanges b h route pushes))
 
--- all the questions of a retreat, "retreat 4, 14", with 17 "in place of 14 where only pushes serve", and what follows
+-- all the questions of a retreat, "retreat 4, 14", with 17 "in place of 14 where only pushes serve", and what follows. What is asked of
+-- route and pushes depends on what there is for the group, so that at most one of the three applies
 unfoldable pub retreatRule : Board → ℕ → List ℕ → List ℕ → Verdict
 retreatRule b h route pushes =
     groupChecks b h route pushes
+    (refuseIf (notPart b h route pushes) 14 0
     (refuseIf (notVacant b h route pushes) 14 0
     (refuseIf (notPushed b h route pushes) 17 0
-    (judge (rule (retreatValues b h route) (thenOn b (leaveChanges b h route pushes)) []))))
+    (judge (rule (retreatValues b h route) (thenOn b (leaveChanges b h route pushes)) [])))))
 
 -- the ruling on a retreat: refusal 1 unless the position is accepted
 unfoldable pub retreatVerdict : List ℕ → ℕ → List ℕ → List ℕ → Verdict

@@ -5,15 +5,16 @@ use mathlib.Core.Path.{_≡_}
 use mathlib.Core.Bool.{true}
 use mathlib.Core.List.{List, [], _∷_}
 use mathlib.Core.Logic.{_↔_, _⊎_}
-use lib.ListN.{length}
+use lib.ListN.{getD, length}
 use Rattle.position.specs.Kind.{supplyKind}
-use Rattle.position.specs.Board.{Board, board, forceOf}
-use Rattle.position.specs.Crowd.{owesAt}
+use Rattle.position.specs.Board.{Board, board, forceOf, nowhere}
+use Rattle.position.specs.Crowd.{owesAt, routes}
 use Rattle.acceptance.specs.Accepted.{Accepted}
 use Rattle.ruling.specs.Verdict.{Ruling, outcome}
 use Rattle.ruling.specs.Verdict.Ruling.{refused, accepted}
 use Rattle.field.specs.Listed.{Charted}
 use Rattle.routes.specs.Run.{LegalRoute, RouteExists}
+use Rattle.routes.specs.Part.{PartRoute}
 use Rattle.chains.specs.Series.{LegalSeries, SeriesExists}
 use Rattle.shoves.specs.Group.{groupForce}
 use Rattle.retreat.specs.Retreat.{endOf, retreatVerdict}
@@ -54,9 +55,12 @@ Pushed b h = SeriesExists b (groupForce b h) h (b .desk .owed)
 abbrev pub Neither : Board → ℕ → Type 0
 Neither b h = (Vacant b h → ⊥) × (Pushed b h → ⊥)
 
--- what a retreat is answered
+-- what a retreat is answered, and the board that it leaves
 abbrev pub answerTo : List ℕ → ℕ → List ℕ → List ℕ → Ruling
 answerTo p h route pushes = outcome p [] (retreatVerdict p h route pushes) .answer
+
+abbrev pub boardAfter : List ℕ → ℕ → List ℕ → List ℕ → Board
+boardAfter p h route pushes = board (outcome p [] (retreatVerdict p h route pushes) .position)
 
 -- "Its role 1 units go together": all that owe in a hex are of the group's force. Proved, like the rest, in proofs/Words.antt.
 abbrev pub GroupRight : Type 0
@@ -64,12 +68,37 @@ GroupRight =
     (p : List ℕ) (h u : ℕ) → Accepted p → u < board p .units .count → owesAt (board p) h u ≡ true
     → forceOf (board p) u ≡ groupForce (board p) h
 
--- "The group is destroyed exactly if neither a vacant route nor such a series of pushes exists", or only supply units owe, whatever was
--- sent
+-- who is lost: "neither a vacant route nor such a series of pushes exists", or "only supply units owe"
+abbrev pub Trapped : Board → ℕ → Type 0
+Trapped b h = Neither b h ⊎ OnlySupply b h
+
+-- "the part route .. must be as long as the longest run .., and is empty where only supply units owe"
+pub record PartFor (b : Board) (h : ℕ) (route : List ℕ) : Type 0 where
+  pub others : (OnlySupply b h → ⊥) → PartRoute b (groupForce b h) h route
+  pub supply : OnlySupply b h → route ≡ []
+
+-- a group is destroyed exactly if it is trapped and was sent its part route and no pushes
 abbrev pub DestroyedRight : Type 0
 DestroyedRight =
     (p : List ℕ) (h : ℕ) (route pushes : List ℕ) → Due p h route pushes
-    → (answerTo p h route pushes ≡ accepted (2 ∷ [])) ↔ Neither (board p) h ⊎ OnlySupply (board p) h
+    → (answerTo p h route pushes ≡ accepted (2 ∷ [])) ↔ Trapped (board p) h × PartFor (board p) h route × (pushes ≡ [])
+
+-- and one that is trapped is refused by 14 exactly if it was sent anything else
+abbrev pub TrappedRight : Type 0
+TrappedRight =
+    (p : List ℕ) (h : ℕ) (route pushes : List ℕ) → Due p h route pushes → Trapped (board p) h
+    → (answerTo p h route pushes ≡ refused 14 0) ↔ (PartFor (board p) h route × (pushes ≡ []) → ⊥)
+
+-- "The route written is start and part route": when a group is destroyed its road, the next on the desk, is the start and a part route,
+-- 65535 behind it. It is there as long as the battle goes on; where it is over all routes are cleared
+pub record Road (p : List ℕ) (h : ℕ) (route : List ℕ) (after : Board) : Type 0 where
+  pub longest : PartFor (board p) h route
+  pub written : (j : ℕ) → j ≤ 3 → after .desk .route (routes (board p)) j ≡ getD (h ∷ route) j nowhere
+
+abbrev pub RoadRight : Type 0
+RoadRight =
+    (p : List ℕ) (h : ℕ) (route pushes : List ℕ) → Due p h route pushes → answerTo p h route pushes ≡ accepted (2 ∷ [])
+    → (boardAfter p h route pushes .desk .stage ≡ 0 → ⊥) → Road p h route (boardAfter p h route pushes)
 
 -- if a vacant route exists, the group retreats to the route's end exactly if the route sent is one and no pushes were sent, and is refused
 -- by 14 exactly if not

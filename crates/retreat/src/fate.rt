@@ -12,7 +12,7 @@ ghost use Rattle.pushes.specs.Pushes.{served};
 ghost use Rattle.shoves.specs.Group.{group, groupForce};
 ghost use Rattle.retreat.specs.Retreat.{walksFrom};
 ghost use Rattle.retreat.specs.declared.fate.Fate.the-variants.{NoRoute, Vacant};
-ghost use Rattle.retreat.specs.Fate.{fateOf, servedFate};
+ghost use Rattle.retreat.specs.Fate.{fateOf, lostFate, servedFate};
 use position::View;
 use position::forces;
 use position::kind::Kind;
@@ -21,8 +21,8 @@ use pushes::Served;
 use routes::Outlook;
 use shoves::group;
 
-// Lost: destroyed whatever was sent. NoRoute and NoPushes: refused, since a vacant route exists or only pushes serve and what was sent is
-// none. Vacant and Pushing: it goes.
+// Lost: destroyed, with the part route that was sent. NoRoute: refused, since a vacant route exists or a part route is due, and what was
+// sent is none. NoPushes: refused, since only pushes serve. Vacant and Pushing: it goes.
 pub enum Fate {
     Lost,
     NoRoute,
@@ -100,10 +100,23 @@ fn by_route(pushes: &[u16]) -> Fate
     Fate::Vacant
 }
 
-// What comes of it where no vacant route exists.
-fn by_pushes(p: &[u8], v: View, h: usize, route: &[u16], pushes: &[u16]) -> Fate
+// What comes of it where it is destroyed: its part route must have been sent, and no pushes with it.
+fn by_part(part: bool, pushes: &[u16]) -> Fate
+    ensures { λ r. ⌜ r ≡ lostFate part (now (pushes .entry)) ⌝ }
+{
+    if !part {
+        return Fate::NoRoute;
+    }
+    if 0 < pushes.len() {
+        return Fate::NoRoute;
+    }
+    Fate::Lost
+}
+
+// What comes of it where no vacant route exists; `part` tells whether the route is a part route.
+fn by_pushes(p: &[u8], v: View, h: usize, part: bool, route: &[u16], pushes: &[u16]) -> Fate
     requires { ⌜ Laid (now p) v × (h < v .hexes) × (board (now p) .desk .owed ≤ 3) ⌝ }
-    ensures { λ r. ⌜ r ≡ servedFate (served (board (now (p .entry))) (groupForce (board (now (p .entry))) h) h (board (now (p .entry)) .desk .owed) (now (route .entry)) (now (pushes .entry))) ⌝ }
+    ensures { λ r. ⌜ r ≡ servedFate (lostFate part (now (pushes .entry))) (served (board (now (p .entry))) (groupForce (board (now (p .entry))) h) h (board (now (p .entry)) .desk .owed) (now (route .entry)) (now (pushes .entry))) ⌝ }
 {
     match pushes::judge(
         p,
@@ -114,25 +127,25 @@ fn by_pushes(p: &[u8], v: View, h: usize, route: &[u16], pushes: &[u16]) -> Fate
         route,
         pushes,
     ) {
-        Served::None => Fate::Lost,
+        Served::None => by_part(part, pushes),
         Served::Wrong => Fate::NoPushes,
         Served::Right => Fate::Pushing,
     }
 }
 
-// What comes of the group in hex `h`, which was sent this route and these pushes. Where nobody near might be pushed, pushes are not looked
-// for: a series without one would be a vacant route.
+// What comes of the group in hex `h`, which was sent this route and these pushes. Where only supply units owe, the part route is empty.
+// Where nobody near might be pushed, pushes are not looked for: a series without one would be a vacant route.
 pub fn decide(p: &[u8], v: View, h: usize, route: &[u16], pushes: &[u16]) -> Fate
     requires { ⌜ Laid (now p) v × (h < v .hexes) × (1 ≤ board (now p) .desk .owed) × (board (now p) .desk .owed ≤ 3) ⌝ }
     ensures { λ r. ⌜ r ≡ fateOf (board (now (p .entry))) h (now (route .entry)) (now (pushes .entry)) ⌝ }
 {
     if !any_walks(p, v, h) {
-        return Fate::Lost;
+        return by_part(route.len() == 0, pushes);
     }
     match judge(p, v, h, route) {
         Outlook::Legal => by_route(pushes),
         Outlook::Illegal => Fate::NoRoute,
-        Outlook::Friends => by_pushes(p, v, h, route, pushes),
-        Outlook::Alone => Fate::Lost,
+        Outlook::Friends(part) => by_pushes(p, v, h, part, route, pushes),
+        Outlook::Alone(part) => by_part(part, pushes),
     }
 }

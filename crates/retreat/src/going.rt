@@ -87,12 +87,11 @@ fn fall_all(p: &mut [u8], v: View, h: usize)
     }
 }
 
-// Start and route are written as the next route; the answer is where the route ends.
-fn note(p: &mut [u8], v: View, h: usize, route: &[u16]) -> usize
-    requires { ⌜ Laid (now p) v × (h < 65536) × (1 ≤ board (now p) .desk .owed) ⌝ }
-    ensures { λ r. ⌜ (r ≡ endOf (board (now (p .entry))) (now (route .entry))) × (now (p .exit) ≡ make (now (p .entry)) (noteOf (board (now (p .entry))) h (now (route .entry)))) ⌝ }
+// Start and route are written as the next route.
+fn note(p: &mut [u8], v: View, h: usize, route: &[u16])
+    requires { ⌜ Laid (now p) v × (h < 65536) ⌝ }
+    ensures { λ _. ⌜ now (p .exit) ≡ make (now (p .entry)) (noteOf (board (now (p .entry))) h (now (route .entry))) ⌝ }
 {
-    let end = hex_at(route, read::owed(p, v) - 1);
     let r = crowd::routes(p, v);
     write::set_route(
         p,
@@ -103,7 +102,14 @@ fn note(p: &mut [u8], v: View, h: usize, route: &[u16]) -> usize
         hex_at(route, 1),
         hex_at(route, 2),
     );
-    end
+}
+
+// Where the route ends.
+fn end_of(p: &[u8], v: View, route: &[u16]) -> usize
+    requires { ⌜ Laid (now p) v × (1 ≤ board (now p) .desk .owed) ⌝ }
+    ensures { λ r. ⌜ r ≡ endOf (board (now (p .entry))) (now (route .entry)) ⌝ }
+{
+    hex_at(route, read::owed(p, v) - 1)
 }
 
 // The group in hex `h` goes off along the vacant route; the answer is where it ends.
@@ -111,7 +117,8 @@ pub fn go_off(p: &mut [u8], v: View, h: usize, route: &[u16]) -> usize
     requires { ⌜ Laid (now p) v × (h < 65536) × (1 ≤ board (now p) .desk .owed) ⌝ }
     ensures { λ r. ⌜ (r ≡ endOf (board (now (p .entry))) (now (route .entry))) × (now (p .exit) ≡ makes (now (p .entry)) (thenOn (board (now (p .entry))) (retreatChanges (board (now (p .entry))) h (now (route .entry))))) ⌝ }
 {
-    let end = note(p, v, h, route);
+    let end = end_of(p, v, route);
+    note(p, v, h, route);
     leave_all(p, v, h, end);
     stage::pass_on(p, v);
     end
@@ -122,19 +129,19 @@ pub fn push_off(p: &mut [u8], v: View, h: usize, route: &[u16], pushes: &[u16]) 
     requires { ⌜ Laid (now p) v × (h < 65536) × (1 ≤ board (now p) .desk .owed) ⌝ }
     ensures { λ r. ⌜ (r ≡ endOf (board (now (p .entry))) (now (route .entry))) × (now (p .exit) ≡ makes (now (p .entry)) (thenOn (board (now (p .entry))) (pushChanges (board (now (p .entry))) h (now (route .entry)) (now (pushes .entry))))) ⌝ }
 {
-    let end = note(p, v, h, route);
+    let end = end_of(p, v, route);
+    note(p, v, h, route);
     shoves::march_off(p, v, h, route, pushes);
     stage::pass_on(p, v);
     end
 }
 
-// The group in hex `h` is destroyed, and its hex alone is the route.
-pub fn fall(p: &mut [u8], v: View, h: usize)
+// The group in hex `h` is destroyed at the end of its part route.
+pub fn fall(p: &mut [u8], v: View, h: usize, route: &[u16])
     requires { ⌜ Laid (now p) v × (h < 65536) ⌝ }
-    ensures { λ _. ⌜ now (p .exit) ≡ makes (now (p .entry)) (thenOn (board (now (p .entry))) (doomChanges (board (now (p .entry))) h)) ⌝ }
+    ensures { λ _. ⌜ now (p .exit) ≡ makes (now (p .entry)) (thenOn (board (now (p .entry))) (doomChanges (board (now (p .entry))) h (now (route .entry)))) ⌝ }
 {
-    let r = crowd::routes(p, v);
-    write::set_route(p, v, r, h, routes::NONE, routes::NONE, routes::NONE);
+    note(p, v, h, route);
     fall_all(p, v, h);
     stage::pass_on(p, v);
 }

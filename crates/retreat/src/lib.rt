@@ -1,4 +1,4 @@
-// Retreat: a group that owes goes off along a vacant route, pushes friends out of its road, or is destroyed where it stands.
+// Retreat: a group that owes goes off along a vacant route, pushes friends out of its road, or is destroyed where it can go no further.
 ghost use mathlib.Core.List.{[]};
 ghost use Rattle.ruling.specs.Verdict.{Met};
 ghost use Rattle.retreat.specs.Retreat.{retreatVerdict};
@@ -31,7 +31,7 @@ pub fn retreat(p: &mut [u8], hex: usize, route: &[u16], pushes: &[u16]) -> Retre
     }
     match fate::decide(p, v, hex, route, pushes) {
         Fate::Lost => {
-            going::fall(p, v, hex);
+            going::fall(p, v, hex, route);
             Retreated::Destroyed
         }
         Fate::NoRoute => Retreated::Refused(14, 0),

@@ -1,102 +1,89 @@
--- `fate::decide` meets its contract: whether others than supply units owe is asked first, then what the outlook is.
--- Assumes nothing.
-use mathlib.Core.Path.{sym, _∙_}
 use borrow.Author.Needs.{needs}
-use borrow.Author.Tests.{not-false, not-true}
-use Rattle.position.specs.Board.{board}
-use Rattle.retreat.proofs.Alone.{alone-series}
-use Rattle.retreat.proofs.Fates.{doomed-supply, fate-doomed, fate-illegal, fate-legal, fate-lost, fate-served}
-use Rattle.retreat.proofs.Groups.{told-alone, told-friends, told-illegal, told-legal}
 use Rattle.retreat.proofs.fate.decide.Statement.{statement}
 use Rattle.retreat.proofs.fate.decide.Tie as tie
+use Rattle.retreat.proofs.fate.decide.Reads as reads
+use Rattle.retreat.proofs.fate.decide.Lts as lts
+use Rattle.retreat.proofs.fate.any_walks.Reads as any-walks-reads
+use Rattle.retreat.proofs.fate.by_part.Reads as by-part-reads
+use Rattle.retreat.proofs.fate.by_pushes.Reads as by-pushes-reads
+use Rattle.retreat.proofs.fate.by_route.Reads as by-route-reads
+use Rattle.retreat.proofs.fate.judge.Reads as judge-reads
 
+-- src/fate.rt:142:9
 any-walks-requires : tie.Need-any-walks-requires
 any-walks-requires c κs = search needs
 
-returns : tie.Need-returns
-returns c =
-    let s = c .before .before .before .before .before .args in
-    let e = sym (c .before .any-walks .ensures) ∙ not-true _ (c .if1 .taken) in
-    sym (fate-doomed (board (s .p .now)) (s .h) (s .route .now) (s .pushes .now) (doomed-supply (board (s .p .now)) (s .h) e))
+-- src/fate.rt:143:9
+by-part-requires : tie.Need-by-part-requires
+by-part-requires c κs = search needs
 
+-- src/fate.rt:143:9
+returns : tie.Need-returns
+returns c = ?
+
+-- src/fate.rt:145:11
 judge-requires : tie.Need-judge-requires
 judge-requires c κs = search needs
 
+-- src/fate.rt:146:27
 enum-told : tie.Need-enum-told
 enum-told c = search needs
 
+-- src/fate.rt:146:27
 by-route-requires : tie.Need-by-route-requires
 by-route-requires c κs = search needs
 
+-- src/fate.rt:147:29
 enum-told-2 : tie.Need-enum-told-2
 enum-told-2 c = search needs
 
-enum-told-3 : tie.Need-enum-told-3
-enum-told-3 c = search needs
+-- src/fate.rt:148:26
+enum-known-part : tie.Need-enum-known-part
+enum-known-part c = search needs
 
+-- src/fate.rt:148:35
 by-pushes-requires : tie.Need-by-pushes-requires
 by-pushes-requires c κs = search needs
 
-enum-told-4 : tie.Need-enum-told-4
-enum-told-4 c = search needs
+-- src/fate.rt:149:24
+enum-known-part-2 : tie.Need-enum-known-part-2
+enum-known-part-2 c = search needs
 
+-- src/fate.rt:149:33
+by-part-requires-2 : tie.Need-by-part-requires-2
+by-part-requires-2 c κs = search needs
+
+-- src/fate.rt:138:1
 returns-2 : tie.Need-returns-2
-returns-2 c =
-    let j = c .before .before .before in
-    let i = j .before in
-    let s = i .before .before .before .before .before .args in
-    let e = told-legal (board (s .p .now)) (s .h) (s .route .now) _ (j .judge .ensures) (c .before .enum-told .given .1) in
-    c .by-route .ensures
-    ∙ fate-legal (board (s .p .now)) (s .h) (s .route .now) (s .pushes .now)
-    (sym (i .before .any-walks .ensures) ∙ not-false _ (i .if1 .left))
-    (e .0)
-    (e .1)
+returns-2 c = ?
 
+-- src/fate.rt:138:1
 returns-3 : tie.Need-returns-3
-returns-3 c =
-    let j = c .before .before in
-    let i = j .before in
-    let s = i .before .before .before .before .before .args in
-    let e = told-illegal (board (s .p .now)) (s .h) (s .route .now) _ (j .judge .ensures) (c .enum-told2 .given .1) in
-    fate-illegal (board (s .p .now)) (s .h) (s .route .now) (s .pushes .now)
-    (sym (i .before .any-walks .ensures) ∙ not-false _ (i .if1 .left))
-    (e .0)
-    (e .1)
+returns-3 c = ?
 
+-- src/fate.rt:138:1
 returns-4 : tie.Need-returns-4
-returns-4 c =
-    let j = c .before .before .before in
-    let i = j .before in
-    let s = i .before .before .before .before .before .args in
-    c .by-pushes .ensures
-    ∙ fate-served (board (s .p .now)) (s .h) (s .route .now) (s .pushes .now)
-    (sym (i .before .any-walks .ensures) ∙ not-false _ (i .if1 .left))
-    (told-friends (board (s .p .now)) (s .h) (s .route .now) _ (j .judge .ensures) (c .before .enum-told3 .given .1))
+returns-4 c = ?
 
+-- src/fate.rt:138:1
 returns-5 : tie.Need-returns-5
-returns-5 c =
-    let j = c .before .before in
-    let i = j .before in
-    let o = i .before .before .before .before .before in
-    let b = board (o .args .p .now) in
-    let h = o .args .h in
-    let e = told-alone b h (o .args .route .now) _ (j .judge .ensures) (c .enum-told4 .given .1) in
-    fate-lost b h (o .args .route .now) (o .args .pushes .now) (sym (i .before .any-walks .ensures) ∙ not-false _ (i .if1 .left)) (e .0)
-    (alone-series b h (o .pre .3) (e .1) (e .0))
+returns-5 c = ?
 
 pub decide-spec : {M : Type 1} → statement M
 decide-spec =
     tie.close
     (tie.spec
     any-walks-requires
+    by-part-requires
     returns
     judge-requires
     enum-told
     by-route-requires
     enum-told-2
-    enum-told-3
+    enum-known-part
     by-pushes-requires
-    enum-told-4
+    enum-known-part-2
+    by-part-requires-2
     returns-2
     returns-3
     returns-4

@@ -1,50 +1,32 @@
--- `going::fall` meets its contract: the hex alone is written, the group is destroyed, and the stage passes on.
--- Assumes nothing.
 use borrow.Author.Needs.{needs}
-use Rattle.position.proofs.Changes.{laid-make, laid-makes}
-use Rattle.position.specs.Board.{board}
-use Rattle.aftermath.proofs.Stages.{then-on}
-use Rattle.retreat.specs.Retreat.{doomChanges}
-use Rattle.retreat.proofs.Leaving.{fallen}
 use Rattle.retreat.proofs.going.fall.Statement.{statement}
 use Rattle.retreat.proofs.going.fall.Tie as tie
+use Rattle.retreat.proofs.going.fall.Reads as reads
+use Rattle.retreat.proofs.going.fall.Lts as lts
+use Rattle.aftermath.proofs.stage.pass_on.Reads as pass-on-reads
+use Rattle.retreat.proofs.going.fall_all.Reads as fall-all-reads
+use Rattle.retreat.proofs.going.note.Reads as note-reads
 
-routes-requires : tie.Need-routes-requires
-routes-requires c κs = search needs
+-- src/going.rt:144:5
+note-requires : tie.Need-note-requires
+note-requires c κs = search needs
 
-set-route-requires : tie.Need-set-route-requires
-set-route-requires c κs = search needs
-
+-- src/going.rt:145:5
 fall-all-requires : tie.Need-fall-all-requires
-fall-all-requires c κs =
-    let n = c .before .before .before in
-    rw (n .set-route .ensures) (laid-make (n .before .before .before .before .before .pre .0) _)
+fall-all-requires c κs = ?
 
+-- src/going.rt:146:5
 pass-on-requires : tie.Need-pass-on-requires
-pass-on-requires c κs =
-    let n = c .before .before .before .before .before .before .before in
-    laid-makes _ (rw (n .set-route .ensures) (laid-make (n .before .before .before .before .before .pre .0) _))
-    (c .before .before .before .fall-all .ensures)
+pass-on-requires c κs = ?
 
+-- src/going.rt:140:1
 same-length : tie.Need-same-length
 same-length c = search needs
 
+-- src/going.rt:140:1
 returns : tie.Need-returns
-returns c =
-    let n = c .before .before .before .before .before .before .before .before .before .before in
-    let s = (n .before .before .before .before .before) in
-    then-on (s .pre .0 .shaped) (doomChanges (board (s .args .p .now)) (s .args .h))
-    (fallen (s .pre .0 .shaped) (s .args .h) (n .before .before .routes .ensures .is) (n .set-route .ensures)
-    (c .before .before .before .before .before .before .fall-all .ensures))
-    (c .before .before .pass-on .ensures)
+returns c = ?
 
 pub fall-spec : {M : Type 1} → statement M
 fall-spec =
-    tie.close
-    (tie.spec
-    routes-requires
-    set-route-requires
-    fall-all-requires
-    pass-on-requires
-    same-length
-    returns)
+    tie.close (tie.spec note-requires fall-all-requires pass-on-requires same-length returns)
