@@ -8,7 +8,7 @@ use native.Mathlib.Omega.{arith}
 use borrow.Author.Tests.{ne-eqb}
 use lib.Dec.{eqb}
 use lib.ListN.{length}
-use Rattle.position.proofs.Tallies.{either}
+use Rattle.position.proofs.Tallies.{either, not-both}
 use Rattle.position.specs.Board.{Board}
 use Rattle.position.specs.Tally.{any}
 use Rattle.routes.specs.Legal.{legal}
@@ -49,9 +49,24 @@ pub none-some : (xs : List ℕ) → 0 < length xs → none xs ≡ false
 none-some [] l = absurd (omega arith)
 none-some (x ∷ xs) l = refl
 
+pub none-nil : (xs : List ℕ) → none xs ≡ true → xs ≡ []
+none-nil [] e = refl
+none-nil (x ∷ xs) e = not-both false e refl
+
 none-eqb : (xs : List ℕ) → eqb (length xs) 0 ≡ none xs
 none-eqb [] = refl
 none-eqb (x ∷ xs) = ne-eqb (length (x ∷ xs)) 0 (λ e. omega arith)
+
+-- what a group that is destroyed must be sent
+module _ (b : Board) (h : ℕ) (route : List ℕ) where
+  pub part-walks :
+      any (walksFrom b h) (b .units .count) ≡ true → isPart b h route ≡ partRoute b (groupForce b h) h route
+  unfolding isPart
+  part-walks w = simp w
+
+  pub part-supply : any (walksFrom b h) (b .units .count) ≡ false → isPart b h route ≡ none route
+  unfolding isPart
+  part-supply w = simp w
 
 -- the fate of a group, as the tests come one after another
 module _ (b : Board) (h : ℕ) (route pushes : List ℕ) where
@@ -99,18 +114,18 @@ module _ (b : Board) (h : ℕ) (route pushes : List ℕ) where
   -- where only supply units owe
   pub fate-supply :
       any (walksFrom b h) (b .units .count) ≡ false → lostFate (eqb (length route) 0) pushes ≡ fateOf b h route pushes
-  unfolding isPart
   fate-supply w =
-      ap (λ (t : Bool). lostFate t pushes) (none-eqb route ∙ sym (simp w)) ∙ sym (fate-doomed (doomed-supply b h w))
+      ap (λ (t : Bool). lostFate t pushes) (none-eqb route ∙ sym (part-supply b h route w))
+      ∙ sym (fate-doomed (doomed-supply b h w))
 
   module _ (w : any (walksFrom b h) (b .units .count) ≡ true) where
     -- where no vacant route exists, and no series either
     pub fate-trapped :
         {t : Bool} → hasRoute b h ≡ false → hasSeries b h ≡ false → t ≡ partRoute b (groupForce b h) h route
         → lostFate t pushes ≡ fateOf b h route pushes
-    unfolding isPart
     fate-trapped r s e =
-        ap (λ (t : Bool). lostFate t pushes) (e ∙ sym (simp w)) ∙ sym (fate-doomed (doomed-neither b h r s))
+        ap (λ (t : Bool). lostFate t pushes) (e ∙ sym (part-walks b h route w))
+        ∙ sym (fate-doomed (doomed-neither b h r s))
 
     -- where no vacant route exists
     pub fate-served :
@@ -148,6 +163,10 @@ pub record Falls (b : Board) (h : ℕ) (route pushes : List ℕ) : Type 0 where
   pub lost : doomed b h ≡ true
   pub part : notPart b h route pushes ≡ false
 
+pub falls-by : (b : Board) (h : ℕ) (route pushes : List ℕ) → doomed b h ≡ true → parts b h route pushes ≡ true → Falls b h route pushes
+unfolding notPart
+falls-by b h route pushes e f = record { lost = e; part = simp (e, f) }
+
 abbrev pub FateSays : Board → ℕ → List ℕ → List ℕ → Fate → Type 0
 FateSays b h route pushes Lost = Falls b h route pushes
 FateSays b h route pushes NoRoute = (notPart b h route pushes || notVacant b h route pushes) ≡ true
@@ -161,7 +180,7 @@ fate-says b h route pushes =
     either (doomed b h)
     (λ e.
     either (parts b h route pushes)
-    (λ f. rw (fate-lost b h route pushes e f) (record { lost = e; part = simp (e, f) }))
+    (λ f. rw (fate-lost b h route pushes e f) (falls-by b h route pushes e f))
     (λ f. rw (fate-no-part b h route pushes e f) (simp (e, f))))
     (λ e.
     either (hasRoute b h)

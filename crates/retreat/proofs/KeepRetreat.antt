@@ -30,8 +30,9 @@ use Rattle.field.specs.Listed.{offMap, onMapAll, onMapFrom}
 use Rattle.field.specs.Scene.{scene}
 use Rattle.field.specs.Zone.{standsOn, vacant}
 use Rattle.routes.specs.Legal.{legal}
-use Rattle.routes.specs.Run.{LegalRoute}
+use Rattle.routes.specs.Run.{LegalRoute, Run, stay}
 use Rattle.routes.proofs.Legal.{legal-right}
+use Rattle.routes.proofs.Part.{part-right}
 use Rattle.chains.specs.Stand.{stand}
 use Rattle.chains.specs.Series.{LegalSeries, landOf}
 use Rattle.chains.specs.Follows.{none, legalPushes}
@@ -50,15 +51,19 @@ use Rattle.retreat.specs.Retreat.{
   doomed,
   endOf,
   hasRoute,
+  isPart,
   leaveChanges,
   noteOf,
+  notPart,
   notPushed,
   notVacant,
   pushChanges,
   retreatChanges,
   retreatRule,
   retreatVerdict,
+  walksFrom,
 }
+use Rattle.retreat.proofs.Fates.{none-nil, part-supply, part-walks}
 use Rattle.retreat.proofs.KeepRoute.{
   refuge-stands,
   refuge-vacant,
@@ -181,14 +186,17 @@ module _ {b : Board} (l : Lawful b) (most : b .map .hexes ≤ nowhere) (e : b .d
         lawful-passed l most (λ i. omega arith) (o .since)
         (λ n. lawful-since l (o .since) (omega (arith, as-before .0)) (λ _. l .clock .combat (λ i. omega arith)) (goes-on n))
 
-  -- the group is destroyed
-  doom : Left b (noted b h nowhere nowhere nowhere) h (changes b (doomChanges b h))
-  unfolding doomChanges changes
-  doom =
-      rw (sym (noted-group b h nowhere nowhere nowhere))
-      (doomed-left
-      (since-written l most e h nowhere nowhere nowhere stands (λ n. absurd (n refl)) (λ n. absurd (n refl)) (λ n. absurd (n refl)))
-      most h)
+  -- the group is destroyed at the end of a run
+  module _ (f : ℕ) (route : List ℕ) {last : ℕ} (r : Run b f h 0 h route last) where
+    pub doom :
+        Left b (noted b h (getD route 0 nowhere) (getD route 1 nowhere) (getD route 2 nowhere)) h (changes b (doomChanges b h route))
+    unfolding doomChanges noteOf changes
+    doom =
+        let x = getD route 0 nowhere in
+        let y = getD route 1 nowhere in
+        let z = getD route 2 nowhere in
+        let k = run-follows most real r in
+        rw (sym (noted-group b h x y z)) (doomed-left (since-written l most e h x y z stands (k 0) (k 1) (k 2)) most h)
 
   -- it goes along a vacant route
   module _ (f : ℕ) (route : List ℕ) (r : LegalRoute b f h (b .desk .owed) route) where
@@ -223,7 +231,18 @@ module _ {b : Board} (l : Lawful b) (most : b .map .hexes ≤ nowhere) (e : b .d
         series-left f most (since-written l most e h x y z stands (k 0) (k 1) (k 2)) real (noted-own b h x y z f own)
         (far-start b h) (r .series) (noted-stand b h x y z f)
 
-  -- what is not refused by 14 or 17 is doomed or legal
+  -- what is not refused by 14 or 17 is a part route, and so a run, or legal
+  pub is-run : (route pushes : List ℕ) → notPart b h route pushes ≡ false → doomed b h ≡ true
+      → (last : ℕ) × Run b (groupForce b h) h 0 h route last
+  unfolding notPart
+  is-run route pushes n d =
+      let t = isPart b h route in
+      let q : not (t && none pushes) ≡ false = simp d at n in
+      let z = both-yes t (none pushes) (not-false (t && none pushes) q) .0 in
+      either (any (walksFrom b h) (b .units .count))
+      (λ w. let r = part-right b (groupForce b h) h route .0 (sym (part-walks b h route w) ∙ z) .run in (r .last, r .run))
+      (λ w. rw (none-nil route (sym (part-supply b h route w) ∙ z)) (h, stay))
+
   is-legal : (route pushes : List ℕ) → notVacant b h route pushes ≡ false → doomed b h ≡ false → hasRoute b h ≡ true
       → LegalRoute b (groupForce b h) h (b .desk .owed) route
   unfolding notVacant
@@ -240,7 +259,7 @@ module _ {b : Board} (l : Lawful b) (most : b .map .hexes ≤ nowhere) (e : b .d
       let q : not t ≡ false = simp (d, s) at n in
       legal-pushes-right b (groupForce b h) h (b .desk .owed) route pushes .0 (not-false t q)
 
-  module _ (route pushes : List ℕ) (vacant14 : notVacant b h route pushes ≡ false) (pushed17 : notPushed b h route pushes ≡ false) where
+  module _ (route pushes : List ℕ) (part14 : notPart b h route pushes ≡ false) (vacant14 : notVacant b h route pushes ≡ false) (pushed17 : notPushed b h route pushes ≡ false) where
     abbrev first : ℕ
     first = getD route 0 nowhere
 
@@ -253,29 +272,30 @@ module _ {b : Board} (l : Lawful b) (most : b .map .hexes ≤ nowhere) (e : b .d
     -- however it leaves, by what is known of the board then
     leaves-by :
         {A : Board → Type 0}
-        → ((x y z : ℕ) (c : Board) → Left b (noted b h x y z) h c → A c)
+        → ((c : Board) → Left b (noted b h first second third) h c → A c)
         → A (changes b (leaveChanges b h route pushes))
     unfolding leaveChanges
     leaves-by {A} k =
         either (doomed b h)
-        (λ d. simp d (k nowhere nowhere nowhere (changes b (doomChanges b h)) doom))
+        (λ d.
+        simp d (k (changes b (doomChanges b h route)) (doom (groupForce b h) route (is-run route pushes part14 d .1))))
         (λ d.
         either (hasRoute b h)
-        (λ s. simp (d, s) (k first second third (changes b (retreatChanges b h route)) (off (groupForce b h) route (is-legal route pushes vacant14 d s))))
+        (λ s. simp (d, s) (k (changes b (retreatChanges b h route)) (off (groupForce b h) route (is-legal route pushes vacant14 d s))))
         (λ s.
         simp (d, s)
-        (k first second third (changes b (pushChanges b h route pushes)) (pushed (groupForce b h) (group-own l h) route pushes (is-pushed route pushes pushed17 d s)))))
+        (k (changes b (pushChanges b h route pushes)) (pushed (groupForce b h) (group-own l h) route pushes (is-pushed route pushes pushed17 d s)))))
 
     -- an accepted retreat leaves fewer that owe
     pub retreat-lightens : Lighter b (changes b (leaveChanges b h route pushes))
-    retreat-lightens = leaves-by {A = Lighter b} (λ x y z c o. lighter x y z o)
+    retreat-lightens = leaves-by {A = Lighter b} (λ c o. lighter first second third o)
 
     lawful-retreat : Lawful (changes b (thenOn b (leaveChanges b h route pushes)))
     unfolding thenOn
     lawful-retreat =
         let xs = leaveChanges b h route pushes in
         rw (changes-then xs (passesOn (changes b xs)) b)
-        (leaves-by {A = λ c. Lawful (changes c (passesOn c))} (λ x y z c o. lawful-left x y z o))
+        (leaves-by {A = λ c. Lawful (changes c (passesOn c))} (λ c o. lawful-left first second third o))
 
 module _ {p : List ℕ} (a : Accepted p) (h : ℕ) (route pushes : List ℕ) where
   kept-retreat : {l : List ℕ} → Kept p l (retreatVerdict p h route pushes)
@@ -298,6 +318,8 @@ module _ {p : List ℕ} (a : Accepted p) (h : ℕ) (route pushes : List ℕ) whe
       (λ e.
       kept-past a (not (any (owesAt b h) (b .units .count)))
       (λ f.
+      kept-past a (notPart b h route pushes)
+      (λ d.
       kept-past a (notVacant b h route pushes)
       (λ g.
       kept-past a (notPushed b h route pushes)
@@ -311,8 +333,9 @@ module _ {p : List ℕ} (a : Accepted p) (h : ℕ) (route pushes : List ℕ) whe
       (s .below, s .passes)
       route
       pushes
+      d
       g
-      i)))))))))))
+      i))))))))))))
 
 pub retreat-keeps :
     (p l : List ℕ) (h : ℕ) (route pushes : List ℕ) → Accepted p → Accepted (outcome p l (retreatVerdict p h route pushes) .position)

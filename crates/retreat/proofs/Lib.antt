@@ -7,3 +7,4 @@ pub mod Alone
 pub mod Leaving
 pub mod Rulings
 pub mod Words
+pub mod Road

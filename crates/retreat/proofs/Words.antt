@@ -1,10 +1,10 @@
--- A group is destroyed exactly if neither a vacant route nor a series of pushes exists or only supply units owe; else what was sent is
--- accepted exactly if it is legal.
+-- A group is destroyed exactly if neither a vacant route nor a series of pushes exists or only supply units owe, and it was sent its part
+-- route; else what was sent is accepted exactly if it is legal.
 -- Assumes nothing.
 use Prim.Native.Nat.{ℕ}
-use mathlib.Core.Bool.{Bool, false, not, true}
+use mathlib.Core.Bool.{Bool, _&&_, false, not, true}
 use mathlib.Core.List.{List, [], _∷_}
-use mathlib.Core.Logic.{_↔_, _⊎_, inl, inr}
+use mathlib.Core.Logic.{_↔_, inl, inr}
 use mathlib.Core.Path.{_∙_, _≡_, ap, refl, sym}
 use native.Mathlib.Omega.{arith}
 use borrow.Author.Tests.{eq-eqb, eqb-true, not-false}
@@ -20,23 +20,26 @@ use Rattle.field.proofs.Lists.{map-all}
 use Rattle.field.specs.Listed.{onMapAll, onMapFrom}
 use Rattle.routes.proofs.First.{found-right}
 use Rattle.routes.proofs.Legal.{legal-right}
+use Rattle.routes.proofs.Part.{part-right}
 use Rattle.routes.specs.Legal.{legal}
 use Rattle.chains.proofs.Follows.{legal-pushes-right}
 use Rattle.chains.proofs.Serves.{serves-right}
 use Rattle.chains.specs.Follows.{none}
 use Rattle.shoves.specs.Group.{groupForce}
-use Rattle.retreat.specs.Retreat.{doomed, endOf, groupChecks, hasRoute, hasSeries, walksFrom}
+use Rattle.retreat.specs.Retreat.{doomed, endOf, groupChecks, hasRoute, hasSeries, isPart, walksFrom}
 use Rattle.retreat.specs.Fate.{fateOf}
 use Rattle.retreat.specs.Words.{
   DestroyedRight,
   Due,
   GroupRight,
   LegalFor,
-  Neither,
   OnlySupply,
+  PartFor,
   Pushed,
   PushedRight,
   RetreatedRight,
+  Trapped,
+  TrappedRight,
   Vacant,
   answerTo,
 }
@@ -46,13 +49,18 @@ use Rattle.retreat.proofs.Fates.{
   FateSays,
   doomed-neither,
   doomed-supply,
-  fate-doomed,
+  fate-lost,
+  fate-no-part,
   fate-no-pushes,
   fate-no-route,
   fate-pushing,
   fate-says,
   fate-vacant,
   fits,
+  none-nil,
+  part-supply,
+  part-walks,
+  parts,
   serves,
   spared-route,
   spared-series,
@@ -103,7 +111,7 @@ fails t r = (λ e y. not-both t (r .1 y) e, λ n. either t (λ e. absurd (n (r .
 
 -- the test is true exactly of the groups that are lost
 module _ (b : Board) (h : ℕ) where
-  lost : doomed b h ≡ true → Neither b h ⊎ OnlySupply b h
+  lost : doomed b h ≡ true → Trapped b h
   lost e =
       either (any (walksFrom b h) (b .units .count))
       (λ w.
@@ -113,7 +121,7 @@ module _ (b : Board) (h : ℕ) where
       ))
       (λ w. inr (only-supply b h w))
 
-  lost-any : Neither b h ⊎ OnlySupply b h → doomed b h ≡ true
+  pub lost-any : Trapped b h → doomed b h ≡ true
   lost-any (inl n) =
       doomed-neither b h (fails (hasRoute b h) (route-right b h) .1 (n .0)) (fails (hasSeries b h) (series-right b h) .1 (n .1))
   lost-any (inr s) = doomed-supply b h (none-walks b h s)
@@ -130,7 +138,7 @@ module _ {p : List ℕ} {h : ℕ} {route pushes : List ℕ} (d : Due p h route p
   answers : (f : Fate) → FateSays (board p) h route pushes f → answerTo p h route pushes ≡ answerOf (endOf (board p) route) f
   answers F.Lost e = sym (ends-doomed h route pushes (d .whole) (passes-due d) e refl .answers)
   answers F.NoRoute e = sym (stops-route h route pushes (d .whole) (passes-due d) e .answers)
-  answers F.NoPushes e = sym (stops-pushes h route pushes (d .whole) (passes-due d) (e .0) (e .1) .answers)
+  answers F.NoPushes e = sym (stops-pushes h route pushes (d .whole) (passes-due d) (e .0) (e .1) (e .2) .answers)
   answers F.Vacant g = sym (ends-going h route pushes (d .whole) (passes-due d) g refl refl .answers)
   answers F.Pushing g = sym (ends-going h route pushes (d .whole) (passes-due d) g refl refl .answers)
 
@@ -153,6 +161,35 @@ module _ {P : Type 0} {t : Bool} {x y n : Ruling} (r : (t ≡ true) ↔ P) (yes 
   when-no : (x ≡ n) ↔ (P → ⊥)
   when-no = (λ e h. other (ap sort (sym (yes (r .1 h)) ∙ e)), λ h. no (fails t r .1 h))
 
+-- a test of the route, and nothing beside it
+with-none : {P : Type 0} (t : Bool) (pushes : List ℕ) → (t ≡ true) ↔ P → ((t && none pushes) ≡ true) ↔ P × (pushes ≡ [])
+with-none t pushes r = (
+  λ e. let z = both-yes t (none pushes) e in (r .0 (z .0), none-nil pushes (z .1)),
+  λ l. simp (r .1 (l .0), ap none (l .1)),
+)
+
+fits-right : (b : Board) (h : ℕ) (route pushes : List ℕ) → (fits b h route pushes ≡ true) ↔ LegalFor b h route × (pushes ≡ [])
+fits-right b h route pushes =
+    with-none (legal b (groupForce b h) h (b .desk .owed) route) pushes (legal-right b (groupForce b h) h (b .desk .owed) route)
+
+part-for : (b : Board) (h : ℕ) (route : List ℕ) → (isPart b h route ≡ true) ↔ PartFor b h route
+part-for b h route =
+    let r = part-right b (groupForce b h) h route in (
+      λ e.
+          record {
+            others = λ n. r .0 (sym (part-walks b h route (walks b h n)) ∙ e);
+            supply = λ s. none-nil route (sym (part-supply b h route (none-walks b h s)) ∙ e);
+          },
+      λ k.
+          let w = any (walksFrom b h) (b .units .count) in
+          either w
+          (λ y. part-walks b h route y ∙ r .1 (k .others (λ s. not-both w y (none-walks b h s))))
+          (λ n. part-supply b h route n ∙ ap none (k .supply (only-supply b h n))),
+    )
+
+pub parts-right : (b : Board) (h : ℕ) (route pushes : List ℕ) → (parts b h route pushes ≡ true) ↔ PartFor b h route × (pushes ≡ [])
+parts-right b h route pushes = with-none (isPart b h route) pushes (part-for b h route)
+
 pub destroyed-right : DestroyedRight
 destroyed-right p h route pushes d =
     let b = board p in
@@ -160,7 +197,11 @@ destroyed-right p h route pushes d =
     let other : (f : Fate) → x ≡ answerOf (endOf b route) f → (sort (answerOf (endOf b route) f) ≡ 2 → ⊥) → x ≡ accepted (2 ∷ []) → ⊥ =
     λ f e k a. k (ap sort (sym e ∙ a)) in (
       λ a.
-          either (doomed b h) (lost b h)
+          either (doomed b h)
+          (λ e.
+          either (parts b h route pushes)
+          (λ f. let k = parts-right b h route pushes .0 f in (lost b h e, k .0, k .1))
+          (λ f. absurd (other F.NoRoute (answered d (fate-no-part b h route pushes e f)) (λ z. omega arith) a)))
           (λ e.
           absurd
           (either (hasRoute b h)
@@ -172,22 +213,18 @@ destroyed-right p h route pushes d =
           either (serves b h route pushes)
           (λ f. other F.Pushing (answered d (fate-pushing b h route pushes e r f)) (λ z. omega arith) a)
           (λ f. other F.NoPushes (answered d (fate-no-pushes b h route pushes e r f)) (λ z. omega arith) a)))),
-      λ l. answered d (fate-doomed b h route pushes (lost-any b h l)),
+      λ l. answered d (fate-lost b h route pushes (lost-any b h (l .0)) (parts-right b h route pushes .1 (l .1, l .2))),
     )
 
--- a vacant route was sent, and nothing beside it
-no-pushes : (xs : List ℕ) → none xs ≡ true → xs ≡ []
-no-pushes [] e = refl
-no-pushes (x ∷ xs) e = not-both false e refl
-
-fits-right : (b : Board) (h : ℕ) (route pushes : List ℕ) → (fits b h route pushes ≡ true) ↔ LegalFor b h route × (pushes ≡ [])
-fits-right b h route pushes =
-    let r = legal-right b (groupForce b h) h (b .desk .owed) route in (
-      λ e.
-          let z = both-yes (legal b (groupForce b h) h (b .desk .owed) route) (none pushes) e in
-          (r .0 (z .0), no-pushes pushes (z .1)),
-      λ l. simp (r .1 (l .0), ap none (l .1)),
-    )
+pub trapped-right : TrappedRight
+trapped-right p h route pushes d t =
+    let b = board p in
+    let e = lost-any b h t in
+    let yes : parts b h route pushes ≡ true → answerTo p h route pushes ≡ accepted (2 ∷ []) =
+    λ f. answered d (fate-lost b h route pushes e f) in
+    let no : parts b h route pushes ≡ false → answerTo p h route pushes ≡ refused 14 0 =
+    λ f. answered d (fate-no-part b h route pushes e f) in
+    when-no (parts-right b h route pushes) yes no (λ z. omega arith)
 
 pub retreated-right : RetreatedRight
 retreated-right p h route pushes d y n =

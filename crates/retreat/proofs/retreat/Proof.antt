@@ -145,8 +145,8 @@ returns-5 c =
     let d = c .before .before in
     let a = d .before .before in
     let w = d .before .before .before .before .before .before in
-    let f = (said d (c .enum-told5 .given .1)) in
-    stops-pushes _ _ _ (whole w .0) (asked a .0) (f .0) (f .1)
+    let f = said d (c .enum-told5 .given .1) in
+    stops-pushes _ _ _ (whole w .0) (asked a .0) (f .0) (f .1) (f .2)
 
 same-length-6 : tie.Need-same-length-6
 same-length-6 c = search needs

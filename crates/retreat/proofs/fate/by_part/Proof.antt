@@ -1,19 +1,27 @@
+-- `fate::by_part` meets its contract: whether the route is a part route is asked, and whether the list is empty.
+-- Assumes nothing.
+use native.Mathlib.Omega.{arith}
+use borrow.Author.Tests.{not-false, not-true}
+use Rattle.retreat.specs.Fate.{lostFate}
+use Rattle.retreat.proofs.Fates.{none-empty, none-some}
 use Rattle.retreat.proofs.fate.by_part.Statement.{statement}
 use Rattle.retreat.proofs.fate.by_part.Tie as tie
-use Rattle.retreat.proofs.fate.by_part.Reads as reads
-use Rattle.retreat.proofs.fate.by_part.Lts as lts
 
--- src/fate.rt:108:9
 returns : tie.Need-returns
-returns c = ?
+unfolding lostFate
+returns c = simp (not-true (c .before .args .part) (c .if1 .taken))
 
--- src/fate.rt:111:9
 returns-2 : tie.Need-returns-2
-returns-2 c = ?
+unfolding lostFate
+returns-2 c =
+    let s = c .before .before .args in
+    simp (not-false (s .part) (c .before .if1 .left), none-some (s .pushes .now) (omega (arith, c .if2 .taken)))
 
--- src/fate.rt:104:1
 returns-3 : tie.Need-returns-3
-returns-3 c = ?
+unfolding lostFate
+returns-3 c =
+    let s = c .before .before .args in
+    simp (not-false (s .part) (c .before .if1 .left), none-empty (s .pushes .now) (omega (arith, c .if2 .left)))
 
 pub by-part-spec : {M : Type 1} → statement M
 by-part-spec = tie.close (tie.spec returns returns-2 returns-3)

@@ -1,52 +1,68 @@
+-- `fate::by_pushes` meets its contract: each answer about pushes comes to its fate.
+-- Assumes nothing.
+use mathlib.Core.Path.{_≡_, ap, sym, _∙_}
 use borrow.Author.Needs.{needs}
+use Rattle.position.specs.Board.{board}
+use Rattle.pushes.specs.Pushes.{served}
+use Rattle.shoves.specs.Group.{groupForce}
+use Rattle.retreat.specs.Fate.{lostFate, servedFate}
+use Rattle.retreat.proofs.Groups.{served-as}
 use Rattle.retreat.proofs.fate.by_pushes.Statement.{statement}
 use Rattle.retreat.proofs.fate.by_pushes.Tie as tie
-use Rattle.retreat.proofs.fate.by_pushes.Reads as reads
-use Rattle.retreat.proofs.fate.by_pushes.Lts as lts
-use Rattle.position.proofs.read.owed.Reads as owed-reads
-use Rattle.pushes.proofs.judge.Reads as judge-reads
-use Rattle.retreat.proofs.fate.by_part.Reads as by-part-reads
-use Rattle.retreat.proofs.fate.group_force.Reads as group-force-reads
 
--- src/fate.rt:124:9
+-- what is known of pushes
+known :
+    (c : tie.After-judge)
+    → let s = c .before .before .before .before .before .before .args in
+    let b = board (s .p .now) in
+    c .judge .result ≡ served b (groupForce b (s .h)) (s .h) (b .desk .owed) (s .route .now) (s .pushes .now)
+known c =
+    let s = c .before .before .before .before .before .before .args in
+    served-as (board (s .p .now)) (s .h) (s .route .now) (s .pushes .now) (c .before .before .group-force .ensures)
+    (c .before .owed .ensures .is)
+    (c .judge .ensures)
+
 group-force-requires : tie.Need-group-force-requires
 group-force-requires c κs = search needs
 
--- src/fate.rt:126:9
 owed-requires : tie.Need-owed-requires
 owed-requires c κs = search needs
 
--- src/fate.rt:121:11
 judge-requires : tie.Need-judge-requires
 judge-requires c κs = search needs
 
--- src/fate.rt:130:25
 enum-told : tie.Need-enum-told
 enum-told c = search needs
 
--- src/fate.rt:130:25
 by-part-requires : tie.Need-by-part-requires
 by-part-requires c κs = search needs
 
--- src/fate.rt:131:26
 enum-told-2 : tie.Need-enum-told-2
 enum-told-2 c = search needs
 
--- src/fate.rt:132:26
 enum-told-3 : tie.Need-enum-told-3
 enum-told-3 c = search needs
 
--- src/fate.rt:117:1
 returns : tie.Need-returns
-returns c = ?
+returns c =
+    let j = c .before .before .before in
+    let s = j .before .before .before .before .before .before .args in
+    let lost = lostFate (s .part) (s .pushes .now) in
+    c .by-part .ensures ∙ ap (servedFate lost) (sym (c .before .enum-told .given .1) ∙ known j)
 
--- src/fate.rt:117:1
 returns-2 : tie.Need-returns-2
-returns-2 c = ?
+returns-2 c =
+    let j = c .before .before in
+    let s = j .before .before .before .before .before .before .args in
+    let lost = lostFate (s .part) (s .pushes .now) in
+    ap (servedFate lost) (sym (c .enum-told2 .given .1) ∙ known j)
 
--- src/fate.rt:117:1
 returns-3 : tie.Need-returns-3
-returns-3 c = ?
+returns-3 c =
+    let j = c .before .before in
+    let s = j .before .before .before .before .before .before .args in
+    let lost = lostFate (s .part) (s .pushes .now) in
+    ap (servedFate lost) (sym (c .enum-told3 .given .1) ∙ known j)
 
 pub by-pushes-spec : {M : Type 1} → statement M
 by-pushes-spec =

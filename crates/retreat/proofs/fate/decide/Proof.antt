@@ -1,73 +1,100 @@
+-- `fate::decide` meets its contract: whether others than supply units owe is asked first, then what the outlook is.
+-- Assumes nothing.
+use mathlib.Core.Bool.{true}
+use mathlib.Core.Path.{_≡_, sym, _∙_}
 use borrow.Author.Needs.{needs}
+use borrow.Author.Tests.{not-false, not-true}
+use Rattle.position.specs.Board.{board}
+use Rattle.position.specs.Tally.{any}
+use Rattle.retreat.specs.Retreat.{walksFrom}
+use Rattle.retreat.proofs.Alone.{alone-series}
+use Rattle.retreat.proofs.Fates.{fate-illegal, fate-legal, fate-served, fate-supply, fate-trapped}
+use Rattle.retreat.proofs.Groups.{told-alone, told-friends, told-illegal, told-legal}
 use Rattle.retreat.proofs.fate.decide.Statement.{statement}
 use Rattle.retreat.proofs.fate.decide.Tie as tie
-use Rattle.retreat.proofs.fate.decide.Reads as reads
-use Rattle.retreat.proofs.fate.decide.Lts as lts
-use Rattle.retreat.proofs.fate.any_walks.Reads as any-walks-reads
-use Rattle.retreat.proofs.fate.by_part.Reads as by-part-reads
-use Rattle.retreat.proofs.fate.by_pushes.Reads as by-pushes-reads
-use Rattle.retreat.proofs.fate.by_route.Reads as by-route-reads
-use Rattle.retreat.proofs.fate.judge.Reads as judge-reads
 
--- src/fate.rt:142:9
+-- others than supply units owe
+walks :
+    (c : tie.Else1)
+    → let s = c .before .before .before .before .before .args in
+    any (walksFrom (board (s .p .now)) (s .h)) (board (s .p .now) .units .count) ≡ true
+walks c = sym (c .before .any-walks .ensures) ∙ not-false _ (c .if1 .left)
+
 any-walks-requires : tie.Need-any-walks-requires
 any-walks-requires c κs = search needs
 
--- src/fate.rt:143:9
 by-part-requires : tie.Need-by-part-requires
 by-part-requires c κs = search needs
 
--- src/fate.rt:143:9
 returns : tie.Need-returns
-returns c = ?
+returns c =
+    let i = c .before in
+    let s = i .before .before .before .before .before .args in
+    let e = sym (i .before .any-walks .ensures) ∙ not-true _ (i .if1 .taken) in
+    c .by-part .ensures ∙ fate-supply (board (s .p .now)) (s .h) (s .route .now) (s .pushes .now) e
 
--- src/fate.rt:145:11
 judge-requires : tie.Need-judge-requires
 judge-requires c κs = search needs
 
--- src/fate.rt:146:27
 enum-told : tie.Need-enum-told
 enum-told c = search needs
 
--- src/fate.rt:146:27
 by-route-requires : tie.Need-by-route-requires
 by-route-requires c κs = search needs
 
--- src/fate.rt:147:29
 enum-told-2 : tie.Need-enum-told-2
 enum-told-2 c = search needs
 
--- src/fate.rt:148:26
 enum-known-part : tie.Need-enum-known-part
 enum-known-part c = search needs
 
--- src/fate.rt:148:35
 by-pushes-requires : tie.Need-by-pushes-requires
 by-pushes-requires c κs = search needs
 
--- src/fate.rt:149:24
 enum-known-part-2 : tie.Need-enum-known-part-2
 enum-known-part-2 c = search needs
 
--- src/fate.rt:149:33
 by-part-requires-2 : tie.Need-by-part-requires-2
 by-part-requires-2 c κs = search needs
 
--- src/fate.rt:138:1
 returns-2 : tie.Need-returns-2
-returns-2 c = ?
+returns-2 c =
+    let j = c .before .before .before in
+    let i = j .before in
+    let s = i .before .before .before .before .before .args in
+    let e = told-legal (board (s .p .now)) (s .h) (s .route .now) _ (j .judge .ensures) (c .before .enum-told .given .1) in
+    c .by-route .ensures
+    ∙ fate-legal (board (s .p .now)) (s .h) (s .route .now) (s .pushes .now) (walks i) (e .0) (e .1)
 
--- src/fate.rt:138:1
 returns-3 : tie.Need-returns-3
-returns-3 c = ?
+returns-3 c =
+    let j = c .before .before in
+    let i = j .before in
+    let s = i .before .before .before .before .before .args in
+    let e = told-illegal (board (s .p .now)) (s .h) (s .route .now) _ (j .judge .ensures) (c .enum-told2 .given .1) in
+    fate-illegal (board (s .p .now)) (s .h) (s .route .now) (s .pushes .now) (walks i) (e .0) (e .1)
 
--- src/fate.rt:138:1
 returns-4 : tie.Need-returns-4
-returns-4 c = ?
+returns-4 c =
+    let k = c .before .before in
+    let j = k .before .before in
+    let i = j .before in
+    let s = i .before .before .before .before .before .args in
+    let e = told-friends (board (s .p .now)) (s .h) (s .route .now) _ (j .judge .ensures) (k .part .given .1) in
+    c .by-pushes .ensures
+    ∙ fate-served (board (s .p .now)) (s .h) (s .route .now) (s .pushes .now) (walks i) (e .0) (e .1)
 
--- src/fate.rt:138:1
 returns-5 : tie.Need-returns-5
-returns-5 c = ?
+returns-5 c =
+    let k = c .before .before in
+    let j = k .before .before in
+    let i = j .before in
+    let o = i .before .before .before .before .before in
+    let b = board (o .args .p .now) in
+    let h = o .args .h in
+    let e = told-alone b h (o .args .route .now) _ (j .judge .ensures) (k .part2 .given .1) in
+    c .by-part2 .ensures
+    ∙ fate-trapped b h (o .args .route .now) (o .args .pushes .now) (walks i) (e .0) (alone-series b h (o .pre .3) (e .2) (e .0)) (e .1)
 
 pub decide-spec : {M : Type 1} → statement M
 decide-spec =

@@ -1,31 +1,39 @@
+-- `going::fall` meets its contract: start and part route are written, the group is destroyed, and the stage passes on.
+-- Assumes nothing.
 use borrow.Author.Needs.{needs}
+use Rattle.position.proofs.Changes.{laid-make, laid-makes}
+use Rattle.position.specs.Board.{board}
+use Rattle.aftermath.proofs.Stages.{then-on}
+use Rattle.retreat.specs.Retreat.{doomChanges}
+use Rattle.retreat.proofs.Leaving.{fallen}
 use Rattle.retreat.proofs.going.fall.Statement.{statement}
 use Rattle.retreat.proofs.going.fall.Tie as tie
-use Rattle.retreat.proofs.going.fall.Reads as reads
-use Rattle.retreat.proofs.going.fall.Lts as lts
-use Rattle.aftermath.proofs.stage.pass_on.Reads as pass-on-reads
-use Rattle.retreat.proofs.going.fall_all.Reads as fall-all-reads
-use Rattle.retreat.proofs.going.note.Reads as note-reads
 
--- src/going.rt:144:5
 note-requires : tie.Need-note-requires
 note-requires c κs = search needs
 
--- src/going.rt:145:5
 fall-all-requires : tie.Need-fall-all-requires
-fall-all-requires c κs = ?
+fall-all-requires c κs =
+    let n = c .before .before .before in
+    rw (n .note .ensures) (laid-make (n .before .before .before .before .pre .0) _)
 
--- src/going.rt:146:5
 pass-on-requires : tie.Need-pass-on-requires
-pass-on-requires c κs = ?
+pass-on-requires c κs =
+    let n = c .before .before .before .before .before .before .before in
+    laid-makes _ (rw (n .note .ensures) (laid-make (n .before .before .before .before .pre .0) _))
+    (c .before .before .before .fall-all .ensures)
 
--- src/going.rt:140:1
 same-length : tie.Need-same-length
 same-length c = search needs
 
--- src/going.rt:140:1
 returns : tie.Need-returns
-returns c = ?
+returns c =
+    let n = c .before .before .before .before .before .before .before .before .before .before in
+    let s = (n .before .before .before .before) in
+    then-on (s .pre .0 .shaped) (doomChanges (board (s .args .p .now)) (s .args .h) (s .args .route .now))
+    (fallen (s .pre .0 .shaped) (s .args .h) (s .args .route .now) (n .note .ensures)
+    (c .before .before .before .before .before .before .fall-all .ensures))
+    (c .before .before .pass-on .ensures)
 
 pub fall-spec : {M : Type 1} → statement M
 fall-spec =

@@ -1,44 +1,47 @@
+-- `going::go_off` meets its contract: start and route are written, the group leaves, and the stage passes on.
+-- Assumes nothing.
 use borrow.Author.Needs.{needs}
+use Rattle.position.proofs.Changes.{laid-make, laid-makes}
+use Rattle.position.specs.Board.{board}
+use Rattle.aftermath.proofs.Stages.{then-on}
+use Rattle.retreat.specs.Retreat.{retreatChanges}
+use Rattle.retreat.proofs.Leaving.{gone-off}
 use Rattle.retreat.proofs.going.go_off.Statement.{statement}
 use Rattle.retreat.proofs.going.go_off.Tie as tie
-use Rattle.retreat.proofs.going.go_off.Reads as reads
-use Rattle.retreat.proofs.going.go_off.Lts as lts
-use Rattle.aftermath.proofs.stage.pass_on.Reads as pass-on-reads
-use Rattle.retreat.proofs.going.end_of.Reads as end-of-reads
-use Rattle.retreat.proofs.going.leave_all.Reads as leave-all-reads
-use Rattle.retreat.proofs.going.note.Reads as note-reads
 
--- src/going.rt:120:9
 end-of-requires : tie.Need-end-of-requires
 end-of-requires c κs = search needs
 
--- src/going.rt:121:5
 note-requires : tie.Need-note-requires
 note-requires c κs = search needs
 
--- src/going.rt:122:5
 leave-all-requires : tie.Need-leave-all-requires
-leave-all-requires c κs = ?
+leave-all-requires c κs =
+    let n = c .before .before .before in
+    rw (n .note .ensures) (laid-make (n .before .before .before .before .before .before .pre .0) _)
 
--- src/going.rt:123:5
 pass-on-requires : tie.Need-pass-on-requires
-pass-on-requires c κs = ?
+pass-on-requires c κs =
+    let n = c .before .before .before .before .before .before .before in
+    laid-makes _ (rw (n .note .ensures) (laid-make (n .before .before .before .before .before .before .pre .0) _))
+    (c .before .before .before .leave-all .ensures)
 
--- src/going.rt:116:1
 same-length : tie.Need-same-length
 same-length c = search needs
 
--- src/going.rt:116:1
 returns : tie.Need-returns
-returns c = ?
+returns c =
+    let n = c .before .before .before .before .before .before .before .before .before .before in
+    let e = n .before .before in
+    let s = (e .before .before .before .before) in (
+      e .end-of .ensures,
+      then-on (s .pre .0 .shaped) (retreatChanges (board (s .args .p .now)) (s .args .h) (s .args .route .now))
+          (gone-off (s .pre .0 .shaped) (s .args .h) (s .args .route .now) (e .end-of .ensures) (n .note .ensures)
+          (c .before .before .before .before .before .before .leave-all .ensures))
+          (c .before .before .pass-on .ensures),
+    )
 
 pub go-off-spec : {M : Type 1} → statement M
 go-off-spec =
     tie.close
-    (tie.spec
-    end-of-requires
-    note-requires
-    leave-all-requires
-    pass-on-requires
-    same-length
-    returns)
+    (tie.spec end-of-requires note-requires leave-all-requires pass-on-requires same-length returns)

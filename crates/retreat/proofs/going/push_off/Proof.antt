@@ -1,44 +1,47 @@
+-- `going::push_off` meets its contract: start and route are written, the group goes step by step, and the stage passes on.
+-- Assumes nothing.
 use borrow.Author.Needs.{needs}
+use Rattle.position.proofs.Changes.{laid-make, laid-makes}
+use Rattle.position.specs.Board.{board}
+use Rattle.aftermath.proofs.Stages.{then-on}
+use Rattle.retreat.specs.Retreat.{pushChanges}
+use Rattle.retreat.proofs.Leaving.{pushed-off}
 use Rattle.retreat.proofs.going.push_off.Statement.{statement}
 use Rattle.retreat.proofs.going.push_off.Tie as tie
-use Rattle.retreat.proofs.going.push_off.Reads as reads
-use Rattle.retreat.proofs.going.push_off.Lts as lts
-use Rattle.aftermath.proofs.stage.pass_on.Reads as pass-on-reads
-use Rattle.retreat.proofs.going.end_of.Reads as end-of-reads
-use Rattle.retreat.proofs.going.note.Reads as note-reads
-use Rattle.shoves.proofs.march_off.Reads as march-off-reads
 
--- src/going.rt:132:9
 end-of-requires : tie.Need-end-of-requires
 end-of-requires c κs = search needs
 
--- src/going.rt:133:5
 note-requires : tie.Need-note-requires
 note-requires c κs = search needs
 
--- src/going.rt:134:5
 march-off-requires : tie.Need-march-off-requires
-march-off-requires c κs = ?
+march-off-requires c κs =
+    let n = c .before .before .before in
+    rw (n .note .ensures) (laid-make (n .before .before .before .before .before .before .before .pre .0) _)
 
--- src/going.rt:135:5
 pass-on-requires : tie.Need-pass-on-requires
-pass-on-requires c κs = ?
+pass-on-requires c κs =
+    let n = c .before .before .before .before .before .before .before in
+    laid-makes _ (rw (n .note .ensures) (laid-make (n .before .before .before .before .before .before .before .pre .0) _))
+    (c .before .before .before .march-off .ensures)
 
--- src/going.rt:128:1
 same-length : tie.Need-same-length
 same-length c = search needs
 
--- src/going.rt:128:1
 returns : tie.Need-returns
-returns c = ?
+returns c =
+    let n = c .before .before .before .before .before .before .before .before .before .before in
+    let e = n .before .before in
+    let s = (e .before .before .before .before .before) in (
+      e .end-of .ensures,
+      then-on (s .pre .0 .shaped) (pushChanges (board (s .args .p .now)) (s .args .h) (s .args .route .now) (s .args .pushes .now))
+          (pushed-off (s .pre .0 .shaped) (s .args .h) (s .args .route .now) (s .args .pushes .now) (n .note .ensures)
+          (c .before .before .before .before .before .before .march-off .ensures))
+          (c .before .before .pass-on .ensures),
+    )
 
 pub push-off-spec : {M : Type 1} → statement M
 push-off-spec =
     tie.close
-    (tie.spec
-    end-of-requires
-    note-requires
-    march-off-requires
-    pass-on-requires
-    same-length
-    returns)
+    (tie.spec end-of-requires note-requires march-off-requires pass-on-requires same-length returns)
