@@ -1,7 +1,8 @@
 //! A second referee for the land rules of Invasion: America, written from the documents alone.
 //!
 //! The rules: one module for each, named in the documents' words. The record: `order`,
-//! `record`, `table`. The cases to compare by: `generator`; what they reach: `tally`, `retreat_cases`.
+//! `record`, `table`. The cases to compare by: `generator`; what they reach: `counting`, `tally`, `retreat_cases`,
+//! `part_route_cases`.
 
 pub mod acceptance;
 pub mod advance;
@@ -11,12 +12,15 @@ pub mod checks;
 pub mod clock;
 pub mod close;
 pub mod contents;
+pub mod counting;
 pub mod end_phase;
 pub mod generator;
 pub mod grid;
 pub mod losses;
 pub mod movement;
 pub mod order;
+pub mod part_route_cases;
+pub mod part_routes;
 pub mod position;
 pub mod pushes;
 pub mod record;

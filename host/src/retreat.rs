@@ -2,6 +2,7 @@
 
 use crate::checks;
 use crate::grid::DIRECTIONS;
+use crate::part_routes::part_routes;
 use crate::position::*;
 use crate::pushes::Way;
 use crate::refusal::*;
@@ -36,7 +37,7 @@ pub fn owing_group(position: &Position, hex: usize) -> Vec<usize> {
     position.units_on(hex).into_iter().filter(|&unit| position.units[unit].role == OWES).collect()
 }
 
-/// The group retreats by a vacant route, else by pushes, or is destroyed where nothing else is left to it.
+/// The group retreats by a vacant route, else by pushes, or goes its part route and is destroyed.
 fn go(
     position: &mut Position,
     start: usize,
@@ -44,19 +45,30 @@ fn go(
     route: &[usize],
     pushes: &[usize],
 ) -> Result<Retreated, Refusal> {
-    let legal = legal_routes(position, start, group);
-    let way = Way::from(position, start, group);
-    if only_supply_units(position, group) || legal.is_empty() && !way.some_series() {
-        destroy_group(position, start, group);
+    if is_doomed(position, start, group) {
+        require(pushes.is_empty() && names_one(route, &part_routes(position, start, group)), ROUTE_NOT_LEGAL, 0)?;
+        destroy_group(position, start, group, route);
         return Ok(Retreated::Destroyed);
     }
+    let legal = legal_routes(position, start, group);
     if legal.is_empty() {
+        let way = Way::from(position, start, group);
         let steps = way.named(route, pushes).ok_or(Refusal { number: PUSHES_NOT_LEGAL, place: 0 })?;
         *position = way.carried_out(&steps);
     } else {
-        require(pushes.is_empty() && legal.iter().any(|one| one == route), ROUTE_NOT_LEGAL, 0)?;
+        require(pushes.is_empty() && names_one(route, &legal), ROUTE_NOT_LEGAL, 0)?;
     }
     Ok(Retreated::To(lead_away(position, start, group, route)))
+}
+
+/// Is the group to be destroyed? Only supply units owe, or neither a vacant route nor a series of pushes exists.
+pub fn is_doomed(position: &Position, start: usize, group: &[usize]) -> bool {
+    only_supply_units(position, group)
+        || legal_routes(position, start, group).is_empty() && !Way::from(position, start, group).some_series()
+}
+
+fn names_one(route: &[usize], routes: &[Vec<usize>]) -> bool {
+    routes.iter().any(|one| one == route)
 }
 
 pub fn only_supply_units(position: &Position, group: &[usize]) -> bool {
@@ -78,7 +90,7 @@ pub fn legal_routes(position: &Position, start: usize, group: &[usize]) -> Vec<V
 }
 
 /// A route with each step that may follow it.
-fn longer_by_one(position: &Position, start: usize, zones: &[bool], route: &[usize]) -> Vec<Vec<usize>> {
+pub fn longer_by_one(position: &Position, start: usize, zones: &[bool], route: &[usize]) -> Vec<Vec<usize>> {
     let here = *route.last().unwrap_or(&start);
     let mut longer = Vec::new();
     for direction in DIRECTIONS {
@@ -91,12 +103,12 @@ fn longer_by_one(position: &Position, start: usize, zones: &[bool], route: &[usi
     longer
 }
 
-/// The whole group is destroyed; its hex alone is the route.
-fn destroy_group(position: &mut Position, start: usize, group: &[usize]) {
+/// The whole group is destroyed; start and part route are written.
+fn destroy_group(position: &mut Position, start: usize, group: &[usize], part_route: &[usize]) {
     for &unit in group {
         stages::destroy(&mut position.units[unit]);
     }
-    stages::write_route(&mut position.desk, &[start as u16]);
+    write_from(&mut position.desk, start, part_route);
 }
 
 /// The group goes to the route's end, its supply units are destroyed; start and route are written.
@@ -111,7 +123,12 @@ fn lead_away(position: &mut Position, start: usize, group: &[usize], route: &[us
             unit.role = 0;
         }
     }
-    let hexes: Vec<u16> = [&[start], route].concat().into_iter().map(|hex| hex as u16).collect();
-    stages::write_route(&mut position.desk, &hexes);
+    write_from(&mut position.desk, start, route);
     end
+}
+
+/// Write start and route behind the filled routes.
+fn write_from(desk: &mut Desk, start: usize, route: &[usize]) {
+    let hexes: Vec<u16> = [&[start], route].concat().into_iter().map(|hex| hex as u16).collect();
+    stages::write_route(desk, &hexes);
 }

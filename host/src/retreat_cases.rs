@@ -1,10 +1,11 @@
-//! Which case a retreat was: what lay open to the group as the call began, and what came of it.
+//! Which cases a retreat was: what lay open to the group as the call began, and what came of it.
 
 use crate::order::{Answer, Order};
+use crate::part_route_cases::{sent, Sent};
 use crate::position::*;
 use crate::pushes::Way;
 use crate::refusal::{PUSHES_NOT_LEGAL, ROUTE_NOT_LEGAL};
-use crate::retreat::{legal_routes, only_supply_units, owing_group};
+use crate::retreat::{is_doomed, legal_routes, only_supply_units, owing_group};
 
 #[derive(Clone, Copy, Debug, PartialEq, Eq)]
 pub enum Case {
@@ -22,10 +23,14 @@ pub enum Case {
     DestroyedForAFourth,
     DestroyedBesideOwnUnits,
     DestroyedAlone,
+    /// Neither a vacant route nor pushes serve, and this was sent.
+    Doomed(Sent),
     OnlySupplyUnits,
+    /// 14, for something was sent.
+    OnlySupplyUnitsRefused,
 }
 
-pub const CASES: [Case; 11] = [
+pub const CASES: [Case; 25] = [
     Case::VacantRoute,
     Case::VacantRouteRefused,
     Case::PushesBesideVacantRoute,
@@ -36,7 +41,21 @@ pub const CASES: [Case; 11] = [
     Case::DestroyedForAFourth,
     Case::DestroyedBesideOwnUnits,
     Case::DestroyedAlone,
+    Case::Doomed(Sent::Right { steps: 0, several: false }),
+    Case::Doomed(Sent::Right { steps: 1, several: false }),
+    Case::Doomed(Sent::Right { steps: 1, several: true }),
+    Case::Doomed(Sent::Right { steps: 2, several: false }),
+    Case::Doomed(Sent::Right { steps: 2, several: true }),
+    Case::Doomed(Sent::TooShort { by: 1 }),
+    Case::Doomed(Sent::TooShort { by: 2 }),
+    Case::Doomed(Sent::Curls { longer: false }),
+    Case::Doomed(Sent::Curls { longer: true }),
+    Case::Doomed(Sent::TooLong),
+    Case::Doomed(Sent::NoStep),
+    Case::Doomed(Sent::PushesBeside),
+    Case::Doomed(Sent::NotLegal),
     Case::OnlySupplyUnits,
+    Case::OnlySupplyUnitsRefused,
 ];
 
 impl Case {
@@ -50,31 +69,56 @@ impl Case {
             Case::DestroyedForAFourth => "destroyed, own units beside it, a chain of 4 would serve".to_string(),
             Case::DestroyedBesideOwnUnits => "destroyed, own units beside it".to_string(),
             Case::DestroyedAlone => "destroyed, no own units beside it".to_string(),
+            Case::Doomed(sent) => sent.name(),
             Case::OnlySupplyUnits => "destroyed, only supply units owe".to_string(),
+            Case::OnlySupplyUnitsRefused => "only supply units owe, something sent, refused 14".to_string(),
         }
     }
 }
 
-/// The case of an order that this position answered so; none if it was no retreat or not judged so far.
-pub fn case_of(position: &Position, order: &Order, answer: &Answer) -> Option<Case> {
-    let Order::Retreat { hex, route, pushes } = order else { return None };
-    let start = usize::from(*hex);
+/// The cases of an order that this position answered so; none if it was no retreat or not judged so far.
+/// A destroyed group has two: who stands about it, and what it was sent.
+pub fn cases_of(position: &Position, order: &Order, answer: &Answer) -> Vec<Case> {
+    let Order::Retreat { hex, route, pushes } = order else { return Vec::new() };
+    let hexes = |list: &[u16]| list.iter().map(|&hex| usize::from(hex)).collect::<Vec<usize>>();
+    let (start, route, pushes) = (usize::from(*hex), hexes(route), hexes(pushes));
     let group = owing_group(position, start);
     match answer {
-        Answer::Destroyed if only_supply_units(position, &group) => Some(Case::OnlySupplyUnits),
-        Answer::Destroyed if Way::from(position, start, &group).with_chains_of(4).some_series() => {
-            Some(Case::DestroyedForAFourth)
+        Answer::Destroyed if only_supply_units(position, &group) => vec![Case::OnlySupplyUnits],
+        Answer::Destroyed => {
+            let sent = sent(position, start, &group, &route, &pushes);
+            vec![who_stands_about(position, start, &group), Case::Doomed(sent)]
         }
-        Answer::Destroyed if own_units_beside(position, start) => Some(Case::DestroyedBesideOwnUnits),
-        Answer::Destroyed => Some(Case::DestroyedAlone),
-        Answer::Retreated { .. } if !legal_routes(position, start, &group).is_empty() => Some(Case::VacantRoute),
-        Answer::Retreated { .. } => longest_chain(position, start, &group, route, pushes),
-        Answer::Refused(refusal) if refusal.number == PUSHES_NOT_LEGAL => Some(Case::OnlyPushesRefused),
-        Answer::Refused(refusal) if refusal.number == ROUTE_NOT_LEGAL && pushes.is_empty() => {
-            Some(Case::VacantRouteRefused)
+        Answer::Retreated { .. } if !legal_routes(position, start, &group).is_empty() => vec![Case::VacantRoute],
+        Answer::Retreated { .. } => longest_chain(position, start, &group, &route, &pushes).into_iter().collect(),
+        Answer::Refused(refusal) if refusal.number == PUSHES_NOT_LEGAL => vec![Case::OnlyPushesRefused],
+        Answer::Refused(refusal) if refusal.number == ROUTE_NOT_LEGAL => {
+            vec![refused(position, start, &group, &route, &pushes)]
         }
-        Answer::Refused(refusal) if refusal.number == ROUTE_NOT_LEGAL => Some(Case::PushesBesideVacantRoute),
-        _ => None,
+        _ => Vec::new(),
+    }
+}
+
+/// The case of a group that was refused 14.
+fn refused(position: &Position, start: usize, group: &[usize], route: &[usize], pushes: &[usize]) -> Case {
+    if only_supply_units(position, group) {
+        Case::OnlySupplyUnitsRefused
+    } else if is_doomed(position, start, group) {
+        Case::Doomed(sent(position, start, group, route, pushes))
+    } else if pushes.is_empty() {
+        Case::VacantRouteRefused
+    } else {
+        Case::PushesBesideVacantRoute
+    }
+}
+
+fn who_stands_about(position: &Position, start: usize, group: &[usize]) -> Case {
+    if Way::from(position, start, group).with_chains_of(4).some_series() {
+        Case::DestroyedForAFourth
+    } else if own_units_beside(position, start) {
+        Case::DestroyedBesideOwnUnits
+    } else {
+        Case::DestroyedAlone
     }
 }
 
@@ -85,8 +129,13 @@ fn own_units_beside(position: &Position, start: usize) -> bool {
     near.flat_map(|hex| position.units_on(hex)).any(|unit| position.units[unit].force() == force)
 }
 
-fn longest_chain(position: &Position, start: usize, group: &[usize], route: &[u16], pushes: &[u16]) -> Option<Case> {
-    let hexes = |list: &[u16]| list.iter().map(|&hex| usize::from(hex)).collect::<Vec<usize>>();
-    let steps = Way::from(position, start, group).named(&hexes(route), &hexes(pushes))?;
+fn longest_chain(
+    position: &Position,
+    start: usize,
+    group: &[usize],
+    route: &[usize],
+    pushes: &[usize],
+) -> Option<Case> {
+    let steps = Way::from(position, start, group).named(route, pushes)?;
     steps.iter().map(|step| step.pushes.len()).max().map(|longest| Case::Pushed { longest })
 }

@@ -59,6 +59,7 @@ pub struct Tally {
     stages: [[u64; 4]; 4],
     /// By case and owed retreat n.
     retreats: [[u64; 4]; CASES.len()],
+    followed: u64,
 }
 
 impl Default for Tally {
@@ -69,6 +70,7 @@ impl Default for Tally {
             accepted_positions: 0,
             stages: [[0; 4]; 4],
             retreats: [[0; 4]; CASES.len()],
+            followed: 0,
         }
     }
 }
@@ -105,6 +107,15 @@ impl Tally {
     pub fn retreats(&self, case: Case) -> [u64; 3] {
         let row = CASES.iter().position(|one| *one == case);
         row.map_or([0; 3], |row| [1, 2, 3].map(|n: usize| self.retreats[row][n]))
+    }
+
+    /// Count an advance to a hex of a part route behind its first.
+    pub fn count_followed(&mut self) {
+        self.followed += 1;
+    }
+
+    pub fn followed(&self) -> u64 {
+        self.followed
     }
 
     pub fn calls(&self) -> u64 {
@@ -156,7 +167,7 @@ impl Tally {
         }
     }
 
-    /// A row for each case of a retreat: how often in all, and for each n.
+    /// A row for each case of a retreat: how often in all, and for each n; then the advances along part routes.
     fn retreats_text(&self) -> String {
         let mut text = format!("{:>9}{:>9}{:>9}{:>9}  retreats\n", "all", "n 1", "n 2", "n 3");
         for case in CASES {
@@ -164,7 +175,7 @@ impl Tally {
             let all = one + two + three;
             text += &format!("{all:>9}{one:>9}{two:>9}{three:>9}  {}\n", case.name());
         }
-        text
+        text + &format!("{:>9}  advances along a part route, behind its first hex\n", self.followed)
     }
 
     fn stages_text(&self) -> String {

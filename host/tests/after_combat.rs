@@ -166,14 +166,14 @@ fn surrounded() -> Position {
 }
 
 #[test]
-fn with_no_legal_route_the_group_is_destroyed_whatever_was_sent() {
-    for line in ["retreat 12", "retreat 12 7", "retreat 12 0 0 0"] {
-        let (answer, after) = rule(&surrounded(), line);
-        assert_eq!(answer, "destroyed");
-        assert_eq!(after.units[0], Unit { hex: NONE, role: 0, marks: TRIED, ..surrounded().units[0] });
-        assert_eq!(after.desk.filled_routes(), [vec![12]]);
-        assert_eq!(after.desk.stage, ADVANCES);
-    }
+fn with_no_legal_route_the_group_is_destroyed() {
+    let (answer_then, after) = rule(&surrounded(), "retreat 12");
+    assert_eq!(answer_then, "destroyed");
+    assert_eq!(after.units[0], Unit { hex: NONE, role: 0, marks: TRIED, ..surrounded().units[0] });
+    assert_eq!(after.desk.filled_routes(), [vec![12]]);
+    assert_eq!(after.desk.stage, ADVANCES);
+    assert_eq!(answer(&surrounded(), "retreat 12 7"), "no 14 0");
+    assert_eq!(answer(&surrounded(), "retreat 12 0 0 0"), "no 14 0");
     assert_eq!(answer(&surrounded(), "retreat 12 25"), "no 3 1");
 }
 
@@ -182,7 +182,8 @@ fn supply_units_alone_are_destroyed_though_a_route_exists() {
     let mut position = owing(1);
     position.units[0] = Unit { role: OWES, ..Unit::new(ESC, SUPPLY_UNIT, 12, 3, 0) };
     stand(&mut position, ESC, INFANTRY, 12, 1);
-    let (answer, after) = rule(&position, "retreat 12 7");
+    assert_eq!(answer(&position, "retreat 12 7"), "no 14 0");
+    let (answer, after) = rule(&position, "retreat 12");
     assert_eq!(answer, "destroyed");
     assert_eq!([after.units[0].hex, after.units[2].hex], [NONE, 12]);
     assert_eq!(after.desk.filled_routes(), [vec![12]]);

@@ -1,57 +1,121 @@
-//! Which case of a retreat is counted.
+//! Which cases of a retreat are counted.
 
 mod common;
 use common::crowds::*;
 use common::*;
 use host::contents::written;
+use host::counting::Counting;
+use host::part_route_cases::Sent;
 use host::position::*;
-use host::record::{read, Line};
-use host::retreat_cases::{case_of, Case};
+use host::record::{hex_digits, read, Line};
+use host::retreat_cases::{cases_of, Case};
 use host::table::{Reply, Table};
 use host::tally::Tally;
 
-/// The case of one line of record.
-fn case(position: &Position, line: &str) -> Option<Case> {
+/// The cases of one line of record.
+fn cases(position: &Position, line: &str) -> Vec<Case> {
     let mut table = Table::with_all_calls();
     table.position = written(position);
     let Reply::Answered(_, answer) = table.play(line.as_bytes()) else { panic!("{line}") };
     let Line::Call(order) = read(line.as_bytes()) else { panic!("{line}") };
-    case_of(position, &order, &answer)
+    cases_of(position, &order, &answer)
+}
+
+/// What the doomed group was sent by this line.
+fn sent(position: &Position, line: &str) -> Sent {
+    match cases(position, line).last() {
+        Some(Case::Doomed(sent)) => *sent,
+        other => panic!("{line}: {other:?}"),
+    }
 }
 
 #[test]
 fn a_vacant_route_is_taken_or_refused_or_has_pushes_beside_it() {
     let position = land(1, &[7, 2, 8], &[7]);
-    assert_eq!(case(&position, "retreat 12 8"), Some(Case::VacantRoute));
-    assert_eq!(case(&position, "retreat 12 7"), Some(Case::VacantRouteRefused));
-    assert_eq!(case(&position, "retreat 12 7 / 2"), Some(Case::PushesBesideVacantRoute));
+    assert_eq!(cases(&position, "retreat 12 8"), [Case::VacantRoute]);
+    assert_eq!(cases(&position, "retreat 12 7"), [Case::VacantRouteRefused]);
+    assert_eq!(cases(&position, "retreat 12 7 / 2"), [Case::PushesBesideVacantRoute]);
 }
 
 #[test]
 fn pushes_are_counted_by_the_longest_chain() {
-    assert_eq!(case(&row(3, 1, &[1]), "retreat 0 1 / 2"), Some(Case::Pushed { longest: 1 }));
-    assert_eq!(case(&row(5, 3, &[1]), "retreat 0 1 2 3 / 2 3 4"), Some(Case::Pushed { longest: 1 }));
-    assert_eq!(case(&row(7, 3, &[1, 4]), "retreat 0 1 2 3 / 2 3 4 5"), Some(Case::Pushed { longest: 2 }));
-    assert_eq!(case(&row(5, 1, &[1, 2, 3]), "retreat 0 1 / 2 3 4"), Some(Case::Pushed { longest: 3 }));
-    assert_eq!(case(&row(5, 1, &[1, 2, 3]), "retreat 0 1 / 2 3"), Some(Case::OnlyPushesRefused));
+    assert_eq!(cases(&row(3, 1, &[1]), "retreat 0 1 / 2"), [Case::Pushed { longest: 1 }]);
+    assert_eq!(cases(&row(5, 3, &[1]), "retreat 0 1 2 3 / 2 3 4"), [Case::Pushed { longest: 1 }]);
+    assert_eq!(cases(&row(7, 3, &[1, 4]), "retreat 0 1 2 3 / 2 3 4 5"), [Case::Pushed { longest: 2 }]);
+    assert_eq!(cases(&row(5, 1, &[1, 2, 3]), "retreat 0 1 / 2 3 4"), [Case::Pushed { longest: 3 }]);
+    assert_eq!(cases(&row(5, 1, &[1, 2, 3]), "retreat 0 1 / 2 3"), [Case::OnlyPushesRefused]);
 }
 
 #[test]
 fn the_destroyed_are_counted_by_who_stands_about() {
-    assert_eq!(case(&row(6, 1, &[1, 2, 3, 4]), "retreat 0 1"), Some(Case::DestroyedForAFourth));
-    assert_eq!(case(&row(7, 1, &[1, 2, 3, 4, 5]), "retreat 0 1"), Some(Case::DestroyedBesideOwnUnits));
-    assert_eq!(case(&row(4, 3, &[3]), "retreat 0 1"), Some(Case::DestroyedAlone));
+    assert_eq!(cases(&row(6, 1, &[1, 2, 3, 4]), "retreat 0")[0], Case::DestroyedForAFourth);
+    assert_eq!(cases(&row(7, 1, &[1, 2, 3, 4, 5]), "retreat 0")[0], Case::DestroyedBesideOwnUnits);
+    assert_eq!(cases(&row(4, 3, &[3]), "retreat 0 1 2")[0], Case::DestroyedAlone);
     let mut position = row(3, 1, &[1]);
     position.units[0] = Unit { role: OWES, ..Unit::new(ESC, SUPPLY_UNIT, 0, 3, 0) };
-    assert_eq!(case(&position, "retreat 0 1 / 2"), Some(Case::OnlySupplyUnits));
+    assert_eq!(cases(&position, "retreat 0"), [Case::OnlySupplyUnits]);
+    for line in ["retreat 0 1 / 2", "retreat 0 1", "retreat 0 / 1"] {
+        assert_eq!(cases(&position, line), [Case::OnlySupplyUnitsRefused]);
+    }
+}
+
+#[test]
+fn the_destroyed_are_counted_by_their_longest_runs_too() {
+    assert_eq!(sent(&row(2, 1, &[1]), "retreat 0"), Sent::Right { steps: 0, several: false });
+    assert_eq!(sent(&row(2, 3, &[]), "retreat 0 1"), Sent::Right { steps: 1, several: false });
+    assert_eq!(sent(&land(2, &[7, 8], &[]), "retreat 12 8"), Sent::Right { steps: 1, several: true });
+    assert_eq!(sent(&row(3, 3, &[]), "retreat 0 1 2"), Sent::Right { steps: 2, several: false });
+    assert_eq!(sent(&land(3, &[7, 2, 1], &[]), "retreat 12 7 1"), Sent::Right { steps: 2, several: true });
+}
+
+#[test]
+fn wrong_part_routes_are_counted_by_what_is_wrong() {
+    let position = land(3, &[7, 2, 8], &[]);
+    assert_eq!(sent(&position, "retreat 12 7"), Sent::TooShort { by: 1 });
+    assert_eq!(sent(&position, "retreat 12 8"), Sent::TooShort { by: 1 });
+    assert_eq!(sent(&position, "retreat 12"), Sent::TooShort { by: 2 });
+    assert_eq!(sent(&position, "retreat 12 7 8"), Sent::Curls { longer: false });
+    assert_eq!(sent(&position, "retreat 12 8 7 2"), Sent::Curls { longer: true });
+    assert_eq!(sent(&position, "retreat 12 7 2 7"), Sent::Curls { longer: true });
+    assert_eq!(sent(&position, "retreat 12 7 2 1"), Sent::TooLong);
+    assert_eq!(sent(&position, "retreat 12 7 1"), Sent::NotLegal);
+    assert_eq!(sent(&position, "retreat 12 7 12"), Sent::NotLegal);
+    assert_eq!(sent(&position, "retreat 12 7 2 / 1"), Sent::PushesBeside);
+    assert_eq!(sent(&position, "retreat 12 7 / 2"), Sent::NotLegal);
+    assert_eq!(sent(&row(2, 1, &[1]), "retreat 0 1"), Sent::NoStep);
+    assert_eq!(sent(&row(2, 1, &[1]), "retreat 0 / 1"), Sent::PushesBeside);
+}
+
+#[test]
+fn advances_along_a_part_route_behind_its_first_hex_are_counted() {
+    let mut position = land(3, &[7, 2, 17], &[]);
+    for _ in 0..3 {
+        let unit = stand(&mut position, US, MILITIA, 17, 1);
+        give_role(&mut position, unit, MAY_ADVANCE);
+    }
+    let followed = |lines: &str| {
+        let record = format!("position {}\n{lines}", hex_digits(&written(&position)));
+        Counting::of(record.as_bytes()).tally.followed()
+    };
+    assert_eq!(followed("retreat 12 7 2\nadvance 1 7\nadvance 2 2\nadvance 3 12"), 2);
+    assert_eq!(followed("retreat 12 7 2\nadvance 1 1\nadvance 2 12\nclose"), 0);
+    // A route that was there before is no part route.
+    route(&mut position, 0, &[12, 7, 2]);
+    position.units[0].role = 0;
+    position.units[0].hex = 2;
+    position.desk.stage = ADVANCES;
+    position.desk.owed_retreat = 0;
+    let record = format!("position {}\nadvance 1 7", hex_digits(&written(&position)));
+    let counted = Counting::of(record.as_bytes());
+    assert_eq!((counted.tally.calls(), counted.tally.followed()), (1, 0));
 }
 
 #[test]
 fn what_is_not_judged_so_far_is_no_case() {
-    assert_eq!(case(&row(3, 1, &[1]), "retreat 1 2"), None);
-    assert_eq!(case(&row(3, 1, &[1]), "retreat 0 1 / 3"), None);
-    assert_eq!(case(&combat(3, 1, US), "retreat 0 1"), None);
-    assert_eq!(case(&row(3, 1, &[1]), "end"), None);
+    assert_eq!(cases(&row(3, 1, &[1]), "retreat 1 2"), []);
+    assert_eq!(cases(&row(3, 1, &[1]), "retreat 0 1 / 3"), []);
+    assert_eq!(cases(&combat(3, 1, US), "retreat 0 1"), []);
+    assert_eq!(cases(&row(3, 1, &[1]), "end"), []);
 }
 
 #[test]

@@ -2,16 +2,17 @@
 
 use host::acceptance::{accepted, line_names};
 use host::contents::written;
+use host::counting::Counting;
 use host::generator::breaks::{break_names, broken_bytes, changed_byte};
 use host::generator::chance::Chance;
 use host::generator::crowds::crowded_road;
+use host::generator::dead_ends::dead_end;
 use host::generator::record;
 use host::generator::stories::any_position;
 use host::order::{call_list, CALLS};
+use host::part_route_cases::Sent;
 use host::position::RETREATS;
-use host::record::{read, Line};
-use host::retreat_cases::{case_of, Case, CASES};
-use host::table::{Reply, Table};
+use host::retreat_cases::{Case, CASES};
 use host::tally::Tally;
 
 #[test]
@@ -55,19 +56,7 @@ fn a_changed_byte_is_one_byte() {
 }
 
 fn tally_of(text: &[u8]) -> Tally {
-    let mut table = Table::with_all_calls();
-    let mut tally = Tally::default();
-    for line in text.split(|&byte| byte == b'\n') {
-        let before = accepted(&table.position);
-        if let Reply::Answered(call, answer) = table.play(line) {
-            tally.count(call, &answer);
-            if let (Ok(before), Line::Call(order)) = (before, read(line)) {
-                let case = case_of(&before, &order, &answer);
-                case.into_iter().for_each(|case| tally.count_retreat(case, before.desk.owed_retreat));
-            }
-        }
-    }
-    tally
+    Counting::of(text).tally
 }
 
 #[test]
@@ -82,7 +71,8 @@ fn a_record_of_5000_calls_reaches_every_answer_and_refusal() {
 #[test]
 fn in_a_record_of_5000_calls_only_pushes_serve_300_retreats() {
     let tally = tally_of(&record(3, 5000, &CALLS));
-    for case in CASES.into_iter().filter(|case| *case != Case::DestroyedForAFourth) {
+    let doomed = |case: &Case| matches!(case, Case::Doomed(_) | Case::DestroyedForAFourth);
+    for case in CASES.into_iter().filter(|case| !doomed(case)) {
         assert!(tally.retreats(case).iter().all(|&count| count > 0), "{}", case.name());
     }
     let count = |case: Case| tally.retreats(case).iter().sum::<u64>();
@@ -94,10 +84,36 @@ fn in_a_record_of_5000_calls_only_pushes_serve_300_retreats() {
 }
 
 #[test]
+fn in_a_record_of_10000_calls_each_case_of_a_part_route_comes_up() {
+    let tally = tally_of(&record(4, 10000, &CALLS));
+    for case in CASES.into_iter().filter(|case| matches!(case, Case::Doomed(_))) {
+        assert!(tally.retreats(case).iter().sum::<u64>() >= 15, "{}", case.name());
+    }
+    // A run of one step leaves n 2 or 3, one of two steps n 3; and so does what curls.
+    for several in [false, true] {
+        let [_, two, three] = tally.retreats(Case::Doomed(Sent::Right { steps: 1, several }));
+        assert!(two.min(three) >= 10);
+    }
+    let [_, two, three] = tally.retreats(Case::Doomed(Sent::Curls { longer: true }));
+    assert!(two.min(three) > 0);
+    assert!(tally.followed() >= 20);
+}
+
+#[test]
 fn crowded_roads_are_accepted_and_somebody_owes() {
     let mut chance = Chance::new(14);
     for _ in 0..300 {
         let position = crowded_road(&mut chance);
+        assert_eq!(accepted(&written(&position)).err(), None);
+        assert_eq!(position.desk.stage, RETREATS);
+    }
+}
+
+#[test]
+fn dead_ends_are_accepted_and_somebody_owes() {
+    let mut chance = Chance::new(15);
+    for _ in 0..300 {
+        let position = dead_end(&mut chance);
         assert_eq!(accepted(&written(&position)).err(), None);
         assert_eq!(position.desk.stage, RETREATS);
     }

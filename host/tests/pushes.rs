@@ -16,7 +16,7 @@ fn a_chain_pushes_one_two_or_three_stacks() {
 fn a_fourth_stack_is_too_many_and_the_group_is_destroyed() {
     let position = row(9, 1, &[1, 2, 3, 4]);
     for line in ["retreat 0 1 / 2 3 4 5", "retreat 0 1 / 2 3 4", "retreat 0 1", "retreat 0 7 7 7 / 8 8 8 8 8 8 8 8 8"] {
-        assert_eq!(ends(&position, line), told("destroyed", &[NONE, 1, 2, 3, 4]), "{line}");
+        dooms(&position, line, "retreat 0");
     }
 }
 
@@ -58,7 +58,7 @@ fn each_steps_chain_is_done_before_the_next_step() {
     assert_eq!(ends(&row(7, 3, &[1, 2, 3]), nine), told("retreated 3", &[3, 4, 5, 6]));
     // One hex less, and the third step has no room.
     assert_eq!(ends(&row(6, 3, &[1, 2, 3]), nine), told("no 3 12", &[0, 1, 2, 3]));
-    assert_eq!(ends(&row(6, 3, &[1, 2, 3]), "retreat 0 1 2 3 / 2 3 4 3 4 5 4 5"), told("destroyed", &[NONE, 1, 2, 3]));
+    dooms(&row(6, 3, &[1, 2, 3]), "retreat 0 1 2 3 / 2 3 4 3 4 5 4 5", "retreat 0");
 }
 
 #[test]
@@ -68,7 +68,7 @@ fn a_step_into_a_vacant_hex_takes_no_push() {
     assert_eq!(ends(&row(6, 3, &[2]), "retreat 0 1 2 3 / 3 4"), told("retreated 3", &[3, 4]));
     assert_eq!(ends(&row(6, 3, &[1, 4]), "retreat 0 1 2 3 / 2 3 4 5"), told("retreated 3", &[3, 4, 5]));
     assert_eq!(answer(&row(6, 3, &[1, 4]), "retreat 0 1 2 3 / 2 3 4"), "no 17 0");
-    assert_eq!(answer(&row(5, 3, &[1, 4]), "retreat 0 1 2 3 / 2 3 4"), "destroyed");
+    dooms(&row(5, 3, &[1, 4]), "retreat 0 1 2 3 / 2 3 4", "retreat 0");
 }
 
 #[test]
@@ -76,9 +76,9 @@ fn a_stack_with_a_supply_unit_cannot_be_pushed() {
     let mut position = row(5, 1, &[1, 1, 2]);
     assert_eq!(answer(&position, "retreat 0 1 / 2 3"), "retreated 1");
     stand(&mut position, ESC, SUPPLY_UNIT, 2, 1);
-    assert_eq!(ends(&position, "retreat 0 1 / 2 3"), told("destroyed", &[NONE, 1, 1, 2, 2]));
+    dooms(&position, "retreat 0 1 / 2 3", "retreat 0");
     position.units[4].hex = 1;
-    assert_eq!(ends(&position, "retreat 0 1 / 2 3"), told("destroyed", &[NONE, 1, 1, 2, 1]));
+    dooms(&position, "retreat 0 1 / 2 3", "retreat 0");
     position.units[4].hex = 4;
     assert_eq!(ends(&position, "retreat 0 1 / 2 3"), told("retreated 1", &[1, 2, 2, 3, 4]));
 }
@@ -87,10 +87,10 @@ fn a_stack_with_a_supply_unit_cannot_be_pushed() {
 fn a_stack_with_a_unit_that_owes_cannot_be_pushed() {
     let mut position = row(5, 1, &[1, 1, 2]);
     give_role(&mut position, 3, OWES);
-    assert_eq!(ends(&position, "retreat 0 1 / 2 3"), told("destroyed", &[NONE, 1, 1, 2]));
+    dooms(&position, "retreat 0 1 / 2 3", "retreat 0");
     give_role(&mut position, 3, 0);
     give_role(&mut position, 2, OWES);
-    assert_eq!(ends(&position, "retreat 0 1 / 2 3"), told("destroyed", &[NONE, 1, 1, 2]));
+    dooms(&position, "retreat 0 1 / 2 3", "retreat 0");
     give_role(&mut position, 2, 0);
     assert_eq!(ends(&position, "retreat 0 1 / 2 3"), told("retreated 1", &[1, 2, 2, 3]));
 }
@@ -183,7 +183,7 @@ fn friends_lift_no_zone_for_group_or_pushed_stack() {
     // The Enemy on 14 covers hex 8, where a friend stands.
     let mut position = land(1, &[8, 3, 14], &[8]);
     stand(&mut position, US, INFANTRY, 14, 1);
-    assert_eq!(answer(&position, "retreat 12 8 / 3"), "destroyed");
+    dooms(&position, "retreat 12 8 / 3", "retreat 12");
     position.units[2].kind = MILITIA;
     assert_eq!(answer(&position, "retreat 12 8 / 3"), "retreated 8");
     // The stack on 7 can go nowhere but to 8, and the one there to 3.
@@ -191,7 +191,7 @@ fn friends_lift_no_zone_for_group_or_pushed_stack() {
     set_side(&mut position, 12, 1, BLOCKED);
     set_side(&mut position, 7, 1, BLOCKED);
     stand(&mut position, US, INFANTRY, 14, 1);
-    assert_eq!(answer(&position, "retreat 12 7 / 8 3"), "destroyed");
+    dooms(&position, "retreat 12 7 / 8 3", "retreat 12");
     position.units[3].kind = MILITIA;
     assert_eq!(answer(&position, "retreat 12 7 / 8 3"), "retreated 7");
 }
@@ -203,7 +203,7 @@ fn an_enemy_in_the_road_is_not_pushed() {
     for hex in [1, 2] {
         position = row(4, 1, &[3 - hex]);
         stand(&mut position, US, MILITIA, hex, 1);
-        assert_eq!(answer(&position, "retreat 0 1 / 2 3"), "destroyed");
+        dooms(&position, "retreat 0 1 / 2 3", "retreat 0");
     }
 }
 
@@ -212,16 +212,16 @@ fn blocked_sides_bar_the_group_and_the_chain() {
     for hex in [0, 1, 2] {
         let mut position = row(4, 1, &[1, 2]);
         set_side(&mut position, hex, if hex % 2 == 0 { 2 } else { 1 }, BLOCKED);
-        assert_eq!(answer(&position, "retreat 0 1 / 2 3"), "destroyed", "{hex}");
+        dooms(&position, "retreat 0 1 / 2 3", "retreat 0");
     }
 }
 
 #[test]
 fn no_chain_goes_through_the_groups_own_hex() {
-    assert_eq!(ends(&row(2, 1, &[1]), "retreat 0 1 / 0"), told("destroyed", &[NONE, 1]));
+    dooms(&row(2, 1, &[1]), "retreat 0 1 / 0", "retreat 0");
     // Hexes 12, 7 and 8 lie all beside each other.
     let ring = land(1, &[7, 8], &[7, 8]);
-    assert_eq!(ends(&ring, "retreat 12 7 / 8 12"), told("destroyed", &[NONE, 7, 8]));
+    dooms(&ring, "retreat 12 7 / 8 12", "retreat 12");
     let way_out = land(1, &[7, 8, 14], &[7, 8]);
     assert_eq!(answer(&way_out, "retreat 12 7 / 12 8 14"), "no 17 0");
     assert_eq!(answer(&way_out, "retreat 12 7 / 8 12"), "no 17 0");
@@ -235,7 +235,7 @@ fn no_hex_comes_twice_in_a_chain() {
     assert_eq!(answer(&position, "retreat 0 1 / 1 2 3"), "no 17 0");
     // Hexes 7, 8 and 3 lie all beside each other: round they could go, but out they cannot.
     let ring = land(1, &[7, 8, 3], &[7, 8, 3]);
-    assert_eq!(ends(&ring, "retreat 12 7 / 8 3 7"), told("destroyed", &[NONE, 7, 8, 3]));
+    dooms(&ring, "retreat 12 7 / 8 3 7", "retreat 12");
 }
 
 #[test]
@@ -257,7 +257,7 @@ fn the_hex_left_is_vacant_if_nobody_stays_behind() {
 fn who_stays_behind_holds_the_hex() {
     let mut position = land(2, &[7, 8, 3], &[8, 3]);
     stand(&mut position, ESC, INFANTRY, 12, 1);
-    assert_eq!(ends(&position, "retreat 12 7 3 / 8 12"), told("destroyed", &[NONE, 8, 3, 12]));
+    dooms(&position, "retreat 12 7 3 / 8 12", "retreat 12 7");
 }
 
 #[test]
@@ -271,7 +271,7 @@ fn who_stays_behind_is_pushed_by_a_later_step() {
     assert_eq!(ends(&position, "retreat 12 7 3 / 8 12").0, "no 17 0");
     // A supply unit that stays behind is not pushed.
     position.units[4] = Unit::new(ESC, SUPPLY_UNIT, 12, 1, 0);
-    assert_eq!(ends(&position, "retreat 12 7 3 / 8 12 17"), told("destroyed", &[NONE, 8, 3, 12, 12]));
+    dooms(&position, "retreat 12 7 3 / 8 12 17", "retreat 12 7");
 }
 
 #[test]
@@ -346,5 +346,5 @@ fn us_and_canada_are_one_force() {
     position.units[2].kind = SUPPLY_UNIT;
     position.units[2].allowance = 0;
     position.units[2].marks = TRIED;
-    assert_eq!(answer(&position, "retreat 0 1 / 2 3"), "destroyed");
+    dooms(&position, "retreat 0 1 / 2 3", "retreat 0");
 }

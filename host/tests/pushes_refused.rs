@@ -64,15 +64,15 @@ fn pushes_beside_a_vacant_route_are_14() {
 }
 
 #[test]
-fn where_only_supply_units_owe_they_are_destroyed_whatever_was_sent() {
+fn where_only_supply_units_owe_no_order_saves_them() {
     let mut position = row(3, 1, &[1]);
     position.units[0] = Unit { role: OWES, ..Unit::new(ESC, SUPPLY_UNIT, 0, 3, 0) };
     for line in ["retreat 0 1 / 2", "retreat 0 1", "retreat 0 / 0 0 0 0"] {
-        assert_eq!(ends(&position, line), told("destroyed", &[NONE, 1]), "{line}");
+        dooms(&position, line, "retreat 0");
     }
     let mut quiet = land(1, &[7, 8], &[]);
     quiet.units[0] = Unit { role: OWES, ..Unit::new(ESC, SUPPLY_UNIT, 12, 3, 0) };
-    assert_eq!(answer(&quiet, "retreat 12 7 / 8"), "destroyed");
+    dooms(&quiet, "retreat 12 7 / 8", "retreat 12");
 }
 
 #[test]

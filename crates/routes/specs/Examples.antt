@@ -11,12 +11,13 @@ use Rattle.field.specs.Zone.{holds, supplyUnitOn}
 use Rattle.routes.specs.declared.Found.the-variants.{Route, Nothing}
 use Rattle.routes.specs.Bears.{bears, refuge}
 use Rattle.routes.specs.Search.{entered, stepOf, firstOf, goOn, firstRoute}
+use Rattle.routes.specs.Part.{noLonger, partRoute}
 use Rattle.routes.specs.Outlook.{friends}
 use Rattle.routes.specs.Rulings.{routesOpen, plain}
 
 -- 'unfolding searching' opens all that the search computes by
 unfoldable pub searching : ℕ
-unfolding routesOpen force castsZone forceIn entered stepOf firstOf goOn firstRoute holds supplyUnitOn friends
+unfolding routesOpen force castsZone forceIn entered stepOf firstOf goOn firstRoute noLonger partRoute holds supplyUnitOn friends
 searching = 0
 
 abbrev pub standing : ℕ → ℕ
@@ -72,3 +73,14 @@ past-zones = refl
 pub cornered : firstRoute watched 0 0 1 ≡ Nothing
 unfolding searching
 cornered = refl
+
+-- out of that corner the part route is empty
+pub cornered-there : map (partRoute watched 0 0) ([] ∷ (1 ∷ []) ∷ []) ≡ true ∷ false ∷ []
+unfolding searching
+cornered-there = refl
+
+-- from hex 7 the longest runs have two steps, and there are several: one step is too short, and hex 2, again beside hex 7, curls
+pub as-far-as-it-can :
+    map (partRoute watched 0 7) ((3 ∷ 9 ∷ []) ∷ (8 ∷ 14 ∷ []) ∷ (3 ∷ []) ∷ (3 ∷ 2 ∷ []) ∷ []) ≡ true ∷ true ∷ false ∷ false ∷ []
+unfolding searching
+as-far-as-it-can = refl

@@ -2,7 +2,8 @@
 -- Assumes nothing.
 use mathlib.Core.Path.{refl}
 use Rattle.shoves.proofs.Played.{legal-played-right}
-use Rattle.retreat.proofs.Words.{group-right, destroyed-right, retreated-right, pushed-right}
+use Rattle.retreat.proofs.Road.{road-right}
+use Rattle.retreat.proofs.Words.{group-right, destroyed-right, trapped-right, retreated-right, pushed-right}
 use Rattle.rules.specs.Order.{step}
 use Rattle.rules.specs.Referee.{Meets}
 use Rattle.rules.specs.Certain.{DemandOne, DemandTwo, Certain}
@@ -26,6 +27,8 @@ demand-two =
       supply = supply-right;
       group = group-right;
       destroyed = destroyed-right;
+      trapped = trapped-right;
+      road = road-right;
       retreated = retreated-right;
       pushed = pushed-right;
       played = legal-played-right;

@@ -1,7 +1,7 @@
--- A retreat goes on: the first group that owes is sent a legal route or series of pushes, or nothing where it is destroyed, and fewer
--- units owe afterwards.
+-- A retreat goes on: the first group that owes is sent a legal route or series of pushes, or its part route where it is destroyed, and
+-- fewer units owe afterwards.
 -- Assumes nothing.
-use Prim.Native.Nat.{ℕ, _≤_, _<_}
+use Prim.Native.Nat.{ℕ, zero, suc, _≤_, _<_}
 use mathlib.Core.Path.{_≡_, refl, sym, ap, subst, _∙_}
 use mathlib.Core.Bool.{true, false}
 use mathlib.Core.List.{List, [], _∷_}
@@ -22,12 +22,14 @@ use Rattle.acceptance.proofs.Owings.{owes}
 use Rattle.ruling.proofs.Meets.{pass, ruled}
 use Rattle.field.specs.Listed.{Charted}
 use Rattle.field.proofs.Lists.{sieve-at, sieve-long}
-use Rattle.routes.specs.Run.{LegalRoute}
+use Rattle.routes.specs.Run.{LegalRoute, Run, stay}
+use Rattle.routes.specs.Part.{PartRoute}
 use Rattle.routes.specs.Search.{Searched, firstRoute, found, routeOf}
 use Rattle.routes.specs.declared.Found.{Found}
 use Rattle.routes.specs.declared.Found.the-variants.{Nothing, Route}
 use Rattle.routes.proofs.First.{first-right}
 use Rattle.routes.proofs.Legal.{legal-right}
+use Rattle.routes.proofs.Part.{none-shorter, part-right}
 use Rattle.chains.specs.Series.{LegalSeries}
 use Rattle.chains.specs.Serves.{pushesServe}
 use Rattle.chains.proofs.Find.{find-right, series-charted, series-few}
@@ -35,15 +37,16 @@ use Rattle.chains.proofs.Follows.{legal-pushes-right}
 use Rattle.shoves.specs.Group.{groupForce}
 use Rattle.aftermath.specs.Losses as Losses
 use Rattle.aftermath.specs.Stage.{thenOn}
-use Rattle.retreat.specs.Retreat.{doomed, hasRoute, hasSeries, leaveChanges, notPushed, notVacant, retreatRule, walksFrom}
+use Rattle.retreat.specs.Retreat.{doomed, hasRoute, hasSeries, isPart, leaveChanges, notPart, notPushed, notVacant, retreatRule, walksFrom}
 use Rattle.retreat.specs.Words.{Due}
+use Rattle.retreat.proofs.Fates.{part-supply, part-walks}
 use Rattle.retreat.proofs.KeepGroup.{Owes, start-stands}
 use Rattle.retreat.proofs.KeepRetreat.{retreat-lightens}
 use Rattle.retreat.proofs.KeepRoute.{run-charted}
 use Rattle.retreat.proofs.Words.{passes-due}
 use Rattle.rules.specs.Order.{ruleOf}
 use Rattle.rules.specs.Order.Order.{retreat}
-use Rattle.rules.specs.Onward.{allOwing, firstOwing, left, pushedFor, pushesFor, retreatOnward, routeFor, sentRoute}
+use Rattle.rules.specs.Onward.{allOwing, firstOwing, lastRoad, left, partRouteFor, pushedFor, pushesFor, retreatOnward, routeFor, sentRoute}
 use Rattle.rules.proofs.OnwardCall.{Goes, goes-met}
 use Rattle.rules.proofs.OnwardStage.{falls-then-on, left-retreats}
 
@@ -57,10 +60,20 @@ module _ (b : Board) (h : ℕ) where
   unfolding hasSeries
   has-served e = e
 
-  -- where neither exists the group is doomed
-  neither-doomed : hasRoute b h ≡ false → hasSeries b h ≡ false → doomed b h ≡ true
+  -- who is spared without a vacant route has a series
+  spared-served : doomed b h ≡ false → hasRoute b h ≡ false → hasSeries b h ≡ true
   unfolding doomed
-  neither-doomed e f = simp (e, f) (either (any (walksFrom b h) (b .units .count)) (λ w. simp w) (λ w. simp w))
+  spared-served e r =
+      let w = any (walksFrom b h) (b .units .count) in
+      either (hasSeries b h) (λ s. s)
+      (λ s. either w (λ y. not-both false (sym (simp (y, r, s) at e)) refl) (λ y. not-both false (sym (simp y at e)) refl))
+
+  -- and who is destroyed though others than supply units owe has no vacant route
+  lost-none : doomed b h ≡ true → any (walksFrom b h) (b .units .count) ≡ true → found (firstRoute b (groupForce b h) h (b .desk .owed)) ≡ false
+  unfolding doomed hasRoute
+  lost-none e w =
+      let t = found (firstRoute b (groupForce b h) h (b .desk .owed)) in
+      either t (λ y. not-both false (simp (w, y) at e) refl) (λ y. y)
 
 -- the first unit that owes, where a hex owes
 module _ (b : Board) (some : 1 ≤ owingHexes b) where
@@ -98,37 +111,61 @@ sent-legally b f h n l (Route x y z) t s =
     subst (λ (r : List ℕ). LegalRoute b f h n r) e k
 sent-legally b f h n l Nothing t s = not-both false t refl
 
--- what a group is sent: a legal route, a legal series of pushes, or nothing where neither exists
+-- a longest run, where none has n steps
+part-legally :
+    (b : Board) (f h n : ℕ) → n ≤ 3 → found (firstRoute b f h n) ≡ false → PartRoute b f h (partRouteFor b f h n)
+unfolding partRouteFor
+part-legally b f h zero l e = absurd (omega (arith, none-shorter b f h 0 0 e ([], record { long = refl; last = h; run = stay })))
+part-legally b f h (suc k) l e =
+    either (found (firstRoute b f h k))
+    (λ y.
+    let r = sent-legally b f h k (omega arith) (firstRoute b f h k) y (first-right b f h k) in
+    simp y
+    (record {
+      steps = k;
+      longest = record { some = (sentRoute k (firstRoute b f h k), r); most = λ j x. let m = none-shorter b f h j (suc k) e x in omega arith };
+      run = r;
+    }))
+    (λ y. simp y (part-legally b f h k (omega arith) y))
+
+-- what a group is sent: its part route, a legal route or a legal series of pushes
 data Given (b : Board) (h : ℕ) (route pushes : List ℕ) : Type 0 where
-  vacantly : hasRoute b h ≡ true → LegalRoute b (groupForce b h) h (b .desk .owed) route → pushes ≡ [] → Given b h route pushes
-  pushing : hasRoute b h ≡ false → LegalSeries b (groupForce b h) h (b .desk .owed) route pushes → Given b h route pushes
-  bare : hasRoute b h ≡ false → hasSeries b h ≡ false → route ≡ [] → pushes ≡ [] → Given b h route pushes
+  lastly : doomed b h ≡ true → isPart b h route ≡ true → {last : ℕ} → Run b (groupForce b h) h 0 h route last → length route ≤ 3 → pushes ≡ []
+      → Given b h route pushes
+  vacantly : doomed b h ≡ false → hasRoute b h ≡ true → LegalRoute b (groupForce b h) h (b .desk .owed) route → pushes ≡ []
+      → Given b h route pushes
+  pushing : doomed b h ≡ false → hasRoute b h ≡ false → LegalSeries b (groupForce b h) h (b .desk .owed) route pushes
+      → Given b h route pushes
 
 module _ {b : Board} (h : ℕ) (l : b .desk .owed ≤ 3) {route pushes : List ℕ} where
   given-short : Given b h route pushes → (length route ≤ 3) × (length pushes ≤ 9)
-  given-short (vacantly e k q) = (omega (arith, k .long), rw q (omega arith))
-  given-short (pushing e k) = (omega (arith, k .long), series-few l k)
-  given-short (bare e f q r) = (rw q (omega arith), rw r (omega arith))
+  given-short (lastly d e k s q) = (s, rw q (omega arith))
+  given-short (vacantly d e k q) = (omega (arith, k .long), rw q (omega arith))
+  given-short (pushing d e k) = (omega (arith, k .long), series-few l k)
 
   given-charted : Given b h route pushes → Charted b route × Charted b pushes
-  given-charted (vacantly e k q) = (run-charted (k .run), rw q (λ j i. absurd (omega arith)))
-  given-charted (pushing e k) = series-charted k
-  given-charted (bare e f q r) = (rw q (λ j i. absurd (omega arith)), rw r (λ j i. absurd (omega arith)))
+  given-charted (lastly d e k s q) = (run-charted k, rw q (λ j i. absurd (omega arith)))
+  given-charted (vacantly d e k q) = (run-charted (k .run), rw q (λ j i. absurd (omega arith)))
+  given-charted (pushing d e k) = series-charted k
 
   -- it is refused neither by 14 nor by 17
+  given-part : Given b h route pushes → notPart b h route pushes ≡ false
+  unfolding notPart
+  given-part (lastly d e k s q) = simp (d, e, q)
+  given-part (vacantly d e k q) = simp d
+  given-part (pushing d e k) = simp d
+
   given-vacant : Given b h route pushes → notVacant b h route pushes ≡ false
   unfolding notVacant
-  given-vacant (vacantly e k q) =
-      simp (e, q, legal-right b (groupForce b h) h (b .desk .owed) route .1 k) (either (doomed b h) (λ d. simp d) (λ d. simp d))
-  given-vacant (pushing e k) = simp e (either (doomed b h) (λ d. simp d) (λ d. simp d))
-  given-vacant (bare e f q r) = simp e (either (doomed b h) (λ d. simp d) (λ d. simp d))
+  given-vacant (lastly d e k s q) = simp d
+  given-vacant (vacantly d e k q) = simp (d, e, q, legal-right b (groupForce b h) h (b .desk .owed) route .1 k)
+  given-vacant (pushing d e k) = simp (d, e)
 
   given-pushed : Given b h route pushes → notPushed b h route pushes ≡ false
   unfolding notPushed
-  given-pushed (vacantly e k q) = simp e (either (doomed b h) (λ d. simp d) (λ d. simp d))
-  given-pushed (pushing e k) =
-      simp (e, legal-pushes-right b (groupForce b h) h (b .desk .owed) route pushes .1 k) (either (doomed b h) (λ d. simp d) (λ d. simp d))
-  given-pushed (bare e f q r) = simp (neither-doomed b h e f)
+  given-pushed (lastly d e k s q) = simp d
+  given-pushed (vacantly d e k q) = simp (d, e)
+  given-pushed (pushing d e k) = simp (d, e, legal-pushes-right b (groupForce b h) h (b .desk .owed) route pushes .1 k)
 
 module _ {b : Board} (l : Lawful b) (most : b .map .hexes ≤ nowhere) (e : b .desk .stage ≡ 1) (h u : ℕ) (m : Owes b h u) where
   abbrev sent : List ℕ
@@ -140,23 +177,41 @@ module _ {b : Board} (l : Lawful b) (most : b .map .hexes ≤ nowhere) (e : b .d
   owed : In 1 (b .desk .owed) 3
   owed = l .stage .during .retreats e .owed
 
+  is-last : doomed b h ≡ true → Given b h (lastRoad b h) []
+  unfolding lastRoad
+  is-last d =
+      let f = groupForce b h in
+      let n = b .desk .owed in
+      either (any (walksFrom b h) (b .units .count))
+      (λ w.
+      let z = lost-none b h d w in
+      let r = part-legally b f h n (owed .high) z in
+      let s = none-shorter b f h (r .steps) n z (r .longest .some) in
+      simp w
+      (lastly d (part-walks b h (partRouteFor b f h n) w ∙ part-right b f h (partRouteFor b f h n) .1 r) (r .run .run)
+      (omega (arith, owed .high, r .run .long))
+      refl))
+      (λ w. simp w (lastly d (part-supply b h [] w) stay (omega arith) refl))
+
   is-given : Given b h sent shoved
   unfolding routeFor pushesFor pushedFor
   is-given =
       let f = groupForce b h in
       let n = b .desk .owed in
+      either (doomed b h)
+      (λ d. simp d (is-last d))
+      (λ d.
       either (hasRoute b h)
-      (λ t. simp t (vacantly t (sent-legally b f h n (owed .high) (firstRoute b f h n) (has-found b h t) (first-right b f h n)) refl))
       (λ t.
-      either (hasSeries b h)
-      (λ s. simp (t, s) (pushing t (find-right b f h n (has-served b h s))))
-      (λ s. simp (t, s) (bare t s refl refl)))
+      simp (d, t)
+      (vacantly d t (sent-legally b f h n (owed .high) (firstRoute b f h n) (has-found b h t) (first-right b f h n)) refl))
+      (λ t. simp (d, t) (pushing d t (find-right b f h n (has-served b h (spared-served b h d t))))))
 
   retreat-falls : left (changes b (thenOn b (leaveChanges b h sent shoved))) < left b
   retreat-falls =
       let xs = leaveChanges b h sent shoved in
       let g = is-given in
-      let o = retreat-lightens l most e h u m sent shoved (given-vacant h (owed .high) g) (given-pushed h (owed .high) g) in
+      let o = retreat-lightens l most e h u m sent shoved (given-part h (owed .high) g) (given-vacant h (owed .high) g) (given-pushed h (owed .high) g) in
       let k = left-retreats b e in
       falls-then-on xs (o .since) (omega arith) (λ _. omega arith)
       (λ _. omega (arith, left-retreats (changes b xs) (o .stage), o .fewer))
@@ -202,5 +257,5 @@ module _ {p : List ℕ} (a : Accepted p) (e : board p .desk .stage ≡ 1) where
       (thenOn b (leaveChanges b start route pushes))
       (pass (broken-false a)
       (passes-due due [] _ _ _ _
-      (pass (given-vacant start l g) (pass (given-pushed start l g) (ruled refl)))))
+      (pass (given-part start l g) (pass (given-vacant start l g) (pass (given-pushed start l g) (ruled refl))))))
       (retreat-falls (a .lawful) most e start (leader b some) m)

@@ -2,7 +2,7 @@
 -- order; these are the facts about all that so promise. Proved in proofs/Certain.antt.
 -- Assumes nothing.
 use Rattle.shoves.specs.Played.{LegalPlayedRight}
-use Rattle.retreat.specs.Words.{GroupRight, DestroyedRight, RetreatedRight, PushedRight}
+use Rattle.retreat.specs.Words.{GroupRight, DestroyedRight, TrappedRight, RoadRight, RetreatedRight, PushedRight}
 use Rattle.rules.specs.Order.{step}
 use Rattle.rules.specs.Demands.{Total, OneResult, RefusalsLeaveAll, SupplyRight, StaysAccepted, Secrecy}
 use Rattle.rules.specs.Referee.{Meets, Agree}
@@ -17,15 +17,18 @@ pub record DemandOne : Type 0 where
   pub leaves : RefusalsLeaveAll
 
 -- 2. The rulings of the rules keep every promise, and a referee that keeps every promise gives no others. A unit is in supply exactly if an
--- unblocked line of hexes to a source exists; a beaten group is eliminated exactly if neither a vacant route of the owed length nor a series
--- of pushes exists, or only supply units owe; else what was sent is accepted exactly if it is legal, a vacant route first; and
--- legal are the pushes that can be played on the board, each step done before the next. Accepted positions stay accepted.
+-- unblocked line of hexes to a source exists; a beaten group is trapped exactly if neither a vacant route of the owed length nor a series
+-- of pushes exists, or only supply units owe, and then it is eliminated exactly if it was sent as long a road as it has, which is written;
+-- else what was sent is accepted exactly if it is legal, a vacant route first; and legal are the pushes that can be played on the board,
+-- each step done before the next. Accepted positions stay accepted.
 pub record DemandTwo : Type 0 where
   pub right : Meets step
   pub agree : Agree
   pub supply : SupplyRight
   pub group : GroupRight
   pub destroyed : DestroyedRight
+  pub trapped : TrappedRight
+  pub road : RoadRight
   pub retreated : RetreatedRight
   pub pushed : PushedRight
   pub played : LegalPlayedRight

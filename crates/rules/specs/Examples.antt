@@ -14,15 +14,17 @@ use Rattle.clock.specs.Clock.{isLast}
 use Rattle.aftermath.specs.Losses.{owes}
 use Rattle.chains.specs.Examples.{pushing}
 use Rattle.shoves.specs.Group.{group, groupForce}
-use Rattle.retreat.specs.Retreat.{hasRoute, hasSeries}
+use Rattle.retreat.specs.Retreat.{doomed, hasRoute, hasSeries, walksFrom}
 use Rattle.rules.specs.Order.Order.{close, endPhase, losses, retreat}
 use Rattle.rules.specs.Onward.{
   allOwing,
   battleLeft,
   firstOwing,
+  lastRoad,
   left,
   onward,
   over,
+  partRouteFor,
   phasesLeft,
   pushesFor,
   retreatOnward,
@@ -37,6 +39,10 @@ during p stage owed need role = set (set (set (set (set (set p 103 1) 104 stage)
 abbrev retreating : List ℕ
 retreating = during rosterLess 1 1 0 1
 
+-- the same with three hexes owed, of which the map has two
+abbrev trapped : List ℕ
+trapped = during rosterLess 1 3 0 1
+
 abbrev losing : List ℕ
 losing = during roster 2 0 3 1
 
@@ -47,15 +53,15 @@ advancing = during roster 3 0 0 2
 abbrev lastPhase : List ℕ
 lastPhase = set (set (set roster 101 1) 102 3) 103 2
 
-pub whole : map broken (retreating ∷ losing ∷ advancing ∷ lastPhase ∷ []) ≡ replicate 4 false
+pub whole : map broken (retreating ∷ trapped ∷ losing ∷ advancing ∷ lastPhase ∷ []) ≡ replicate 5 false
 unfolding computing
 whole = refl
 
--- unit 0 retreats from hex 2 to hex 1, which unit 1 has left
+-- unit 0 retreats from hex 2 to hex 1, which unit 1 has left, and is lost on hex 0 where it owes three hexes
 pub orders :
-    map (λ p. onward (board p)) (roster ∷ retreating ∷ losing ∷ advancing ∷ [])
-    ≡ endPhase ∷ retreat 2 (1 ∷ []) [] ∷ losses (0 ∷ []) ∷ close ∷ []
-unfolding computing searching pushing sieve owes group groupForce hasRoute hasSeries allOwing firstOwing sentRoute routeFor pushesFor retreatOnward onward
+    map (λ p. onward (board p)) (roster ∷ retreating ∷ trapped ∷ losing ∷ advancing ∷ [])
+    ≡ endPhase ∷ retreat 2 (1 ∷ []) [] ∷ retreat 2 (1 ∷ 0 ∷ []) [] ∷ losses (0 ∷ []) ∷ close ∷ []
+unfolding computing searching pushing sieve owes group groupForce walksFrom hasRoute hasSeries doomed allOwing firstOwing sentRoute partRouteFor lastRoad routeFor pushesFor retreatOnward onward
 orders = refl
 
 pub ends : map (λ p. over (board p)) (roster ∷ retreating ∷ lastPhase ∷ []) ≡ false ∷ false ∷ true ∷ []

@@ -1,7 +1,7 @@
 -- Never stuck: in every accepted position that is not the end of the game a call is accepted, and calls so chosen come to the end.
 -- Proved in proofs/Onward.antt.
 -- Assumes nothing.
-use Prim.Native.Nat.{ℕ, _+_, _*_, _-_, _≤_, _<_}
+use Prim.Native.Nat.{ℕ, zero, suc, _+_, _*_, _-_, _≤_, _<_}
 use mathlib.Core.Path.{_≡_}
 use mathlib.Core.Bool.{Bool, true, false, cond, _&&_}
 use mathlib.Core.List.{List, [], _∷_}
@@ -9,6 +9,7 @@ use lib.ListN.{getD, length, replicate, take}
 use lib.Dec.{eqb}
 use Rattle.position.specs.Board.{Board, board}
 use Rattle.position.specs.Crowd.{holders}
+use Rattle.position.specs.Tally.{any}
 use Rattle.acceptance.specs.Accepted.{Accepted}
 use Rattle.ruling.specs.Verdict.{Ruling}
 use Rattle.ruling.specs.Verdict.Ruling.{refused, accepted}
@@ -16,13 +17,13 @@ use Rattle.ruling.specs.Secret.{Sent}
 use Rattle.field.specs.Listed.{sieve}
 use Rattle.routes.specs.declared.Found.{Found}
 use Rattle.routes.specs.declared.Found.the-variants.{Route, Nothing}
-use Rattle.routes.specs.Search.{firstRoute}
+use Rattle.routes.specs.Search.{firstRoute, found}
 use Rattle.clock.specs.Clock.{isLast}
 use Rattle.march.specs.EndPhase.{clock}
 use Rattle.aftermath.specs.Losses.{owes}
 use Rattle.chains.specs.Find.{Sought, seriesFor}
 use Rattle.shoves.specs.Group.{groupForce}
-use Rattle.retreat.specs.Retreat.{hasRoute, hasSeries}
+use Rattle.retreat.specs.Retreat.{doomed, hasRoute, walksFrom}
 use Rattle.rules.specs.Order.{Order, step}
 use Rattle.rules.specs.Order.Order.{endPhase, retreat, losses, close}
 
@@ -47,16 +48,24 @@ sentRoute n Nothing = []
 unfoldable pub pushedFor : Board → ℕ → Sought
 pushedFor b h = seriesFor b (groupForce b h) h (b .desk .owed)
 
--- "If neither exists .. the group is destroyed whatever was sent": the group of hex h is sent the first vacant route, else a series of
--- pushes, else nothing
+-- "a part route: .. as long as the longest such run", where none has n steps: the first run of n - 1 steps, or else of fewer
+unfoldable pub partRouteFor : Board → ℕ → ℕ → ℕ → List ℕ
+partRouteFor b f h zero = []
+partRouteFor b f h (suc k) = cond (found (firstRoute b f h k)) (sentRoute k (firstRoute b f h k)) (partRouteFor b f h k)
+
+-- "empty where only supply units owe"
+unfoldable pub lastRoad : Board → ℕ → List ℕ
+lastRoad b h =
+    cond (any (walksFrom b h) (b .units .count)) (partRouteFor b (groupForce b h) h (b .desk .owed)) []
+
+-- the group of hex h is sent its part route where it is destroyed; else the first vacant route, or a series of pushes
 unfoldable pub routeFor : Board → ℕ → List ℕ
 routeFor b h =
-    cond (hasRoute b h)
-    (sentRoute (b .desk .owed) (firstRoute b (groupForce b h) h (b .desk .owed)))
-    (cond (hasSeries b h) (pushedFor b h .route) [])
+    cond (doomed b h) (lastRoad b h)
+    (cond (hasRoute b h) (sentRoute (b .desk .owed) (firstRoute b (groupForce b h) h (b .desk .owed))) (pushedFor b h .route))
 
 unfoldable pub pushesFor : Board → ℕ → List ℕ
-pushesFor b h = cond (hasRoute b h) [] (cond (hasSeries b h) (pushedFor b h .pushes) [])
+pushesFor b h = cond (doomed b h) [] (cond (hasRoute b h) [] (pushedFor b h .pushes))
 
 -- the order that a retreat is sent: the first group goes
 unfoldable pub retreatOnward : Board → Order

@@ -23,6 +23,7 @@ use Rattle.retreat.specs.Retreat.{
   hasRoute,
   hasSeries,
   doomed,
+  notPart,
   notVacant,
   notPushed,
   endOf,
@@ -40,7 +41,7 @@ use Rattle.rules.specs.Order.Order.{supply, endPhase, retreat}
 
 -- 'unfolding playing' opens what these calls compute by
 unfoldable pub playing : ℕ
-unfolding computing searching pushing with without faced setUnit setDesk setHex setMarks setRole setClock setStage setRouteHex setRoute clearRoutes make makes upd reroute unfilled change changes judged outcome along offMap onMapAll onMapFrom sieve supplyRule nextClock isLast judgesSupply rested restAll supplyChanges endChanges endRule passesOn thenOn group groupForce walksFrom hasRoute hasSeries doomed notVacant notPushed endOf leaves goesOff noteOf retreatChanges doomChanges leaveChanges retreatValues retreatRule ruleOf
+unfolding computing searching pushing with without faced setUnit setDesk setHex setMarks setRole setClock setStage setRouteHex setRoute clearRoutes make makes upd reroute unfilled change changes judged outcome along offMap onMapAll onMapFrom sieve supplyRule nextClock isLast judgesSupply rested restAll supplyChanges endChanges endRule passesOn thenOn group groupForce walksFrom hasRoute hasSeries doomed notPart notVacant notPushed endOf leaves goesOff noteOf retreatChanges doomChanges leaveChanges retreatValues retreatRule ruleOf
 playing = 0
 
 -- on the roster's position: the end of the phase, with a scratch of three bytes; and the supply of a nationality that there is not

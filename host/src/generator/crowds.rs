@@ -153,13 +153,13 @@ fn attempt(chance: &mut Chance, owed: u8, wanted: Wanted) -> (Position, usize) {
 }
 
 /// The hex bears units.
-fn open(chance: &mut Chance, position: &mut Position, hex: usize) {
+pub fn open(chance: &mut Chance, position: &mut Position, hex: usize) {
     position.map.hexes[hex].surface = chance.pick(&[LAND, LAND, COASTAL]);
     position.map.hexes[hex].terrain = 0;
 }
 
 /// The hex bears no units: sea, lake, or prohibited terrain where the chart has some.
-fn close(chance: &mut Chance, position: &mut Position, hex: usize) {
+pub fn close(chance: &mut Chance, position: &mut Position, hex: usize) {
     let prohibited: Vec<u8> =
         (0..16).filter(|&terrain| position.chart.terrains[usize::from(terrain)].cost == 0).collect();
     match chance.pick_any(&prohibited) {
@@ -258,7 +258,7 @@ fn throng(chance: &mut Chance, position: &mut Position, start: usize) -> Vec<usi
 }
 
 /// One to three units of the force, now and then with a supply unit among them.
-fn stack(chance: &mut Chance, position: &mut Position, hex: usize, force: u8, supply_units: usize) {
+pub fn stack(chance: &mut Chance, position: &mut Position, hex: usize, force: u8, supply_units: usize) {
     for _ in 0..chance.pick(&[1, 1, 1, 2, 3]) {
         let supply_unit = chance.percent(supply_units);
         add(chance, position, hex, force, supply_unit);
@@ -266,7 +266,7 @@ fn stack(chance: &mut Chance, position: &mut Position, hex: usize, force: u8, su
 }
 
 /// Add a unit, if the hex takes it: a supply unit, if one is wanted and the force has any, or one of another type.
-fn add(chance: &mut Chance, position: &mut Position, hex: usize, force: u8, supply_unit: bool) -> Option<usize> {
+pub fn add(chance: &mut Chance, position: &mut Position, hex: usize, force: u8, supply_unit: bool) -> Option<usize> {
     if !takes(position, hex, force) {
         return None;
     }
@@ -281,7 +281,7 @@ fn add(chance: &mut Chance, position: &mut Position, hex: usize, force: u8, supp
 }
 
 /// One to three units in the hex; all owe, or some stay behind. A supply unit may be among them.
-fn group(chance: &mut Chance, position: &mut Position, force: u8, start: usize, all_owe: bool) {
+pub fn group(chance: &mut Chance, position: &mut Position, force: u8, start: usize, all_owe: bool) {
     let count = if all_owe { chance.from_to(1, 3) } else { chance.from_to(2, 3) };
     let first = add(chance, position, start, force, false);
     first.into_iter().for_each(|unit| give_role(position, unit, OWES));
@@ -311,7 +311,7 @@ fn enemies(chance: &mut Chance, position: &mut Position, force: u8, start: usize
 }
 
 /// Now and then other stacks of the force owe too; some routes are there already.
-fn others_that_owe(chance: &mut Chance, position: &mut Position, force: u8, start: usize) {
+pub fn others_that_owe(chance: &mut Chance, position: &mut Position, force: u8, start: usize) {
     let own = |unit: &&usize| position.units[**unit].force() == force && !position.units[**unit].stands_on(start);
     let units: Vec<usize> = (0..position.units.len()).collect();
     let others: Vec<usize> = units.iter().filter(own).copied().collect();

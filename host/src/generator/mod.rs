@@ -3,7 +3,9 @@
 pub mod breaks;
 pub mod chance;
 pub mod crowds;
+pub mod dead_ends;
 pub mod orders;
+pub mod part_route_orders;
 pub mod retreat_orders;
 pub mod scene;
 pub mod staged;
@@ -26,7 +28,7 @@ pub fn record(seed: u64, count: u64, calls: &[Call]) -> Vec<u8> {
 
 /// One story, chosen by weight; `turn` numbers the broken positions.
 fn story(writer: &mut Writer, turn: &mut usize) {
-    match writer.chance.weighted(&[140, 260, 240, 130, 12, 15, 520, 180, 12, 6, 6, 1, 50, 320]) {
+    match writer.chance.weighted(&[140, 260, 240, 130, 12, 15, 520, 180, 12, 6, 6, 1, 50, 375, 150]) {
         0 => stories::soup(writer),
         1 => stories::movement(writer),
         2 => stories::battle(writer),
@@ -43,6 +45,7 @@ fn story(writer: &mut Writer, turn: &mut usize) {
         10 => stories::large(writer),
         11 => stories::endless(writer),
         12 => stories::special_losses(writer),
-        _ => stories::crowded(writer),
+        13 => stories::crowded(writer),
+        _ => stories::trapped(writer),
     }
 }

@@ -1,7 +1,7 @@
 //! Orders: plausible ones by looking at the position, and ways to spoil them.
 
 use super::chance::Chance;
-use super::retreat_orders::plausible_retreat;
+use super::retreat_orders::{nearly_legal_retreat, plausible_retreat};
 use crate::movement::{allowance, is_way, step_cost};
 use crate::order::{Call, Order};
 use crate::position::*;
@@ -20,6 +20,11 @@ pub fn plausible(chance: &mut Chance, position: &Position, call: Call) -> Order 
         Call::Advance => plausible_advance(chance, position),
         Call::Close => Order::Close,
     }
+}
+
+/// A retreat that goes wrong in one thing.
+pub fn nearly_legal(chance: &mut Chance, position: &Position) -> Order {
+    nearly_legal_retreat(chance, position).unwrap_or_else(|| random(chance, position, Call::Retreat))
 }
 
 /// An order of any numbers, most of them in range.

@@ -1,33 +1,43 @@
-//! Orders for a retreat: vacant routes, series of pushes, and some that are nearly legal.
+//! Orders for a retreat: vacant routes, series of pushes, part routes, and some that are nearly legal.
 
 use super::chance::Chance;
+use super::part_route_orders::{right_part_route, something_sent, wrong_part_route};
 use crate::order::Order;
 use crate::position::*;
 use crate::pushes::{Step, Way};
-use crate::retreat::{legal_routes, owing_group};
+use crate::retreat::{legal_routes, only_supply_units, owing_group};
 
 /// Route and pushes.
-type Lists = (Vec<usize>, Vec<usize>);
+pub type Lists = (Vec<usize>, Vec<usize>);
 
-/// An owing hex and what most often serves the group there; none if nobody owes.
+/// An owing hex and what most often is right for the group there; none if nobody owes.
 pub fn plausible_retreat(chance: &mut Chance, position: &Position) -> Option<Order> {
     let (start, way) = any_group(chance, position)?;
-    let legal = legal_routes(position, start, &owing_group(position, start));
-    let lists = match any_series(chance, &way) {
-        _ if chance.percent(15) => loose_series(chance, &way, start),
-        _ if !legal.is_empty() => (legal[chance.below(legal.len())].clone(), Vec::new()),
-        Some(series) => lists_of(&series),
-        None => loose_series(chance, &way, start),
-    };
+    let lists =
+        if chance.percent(15) { loose_series(chance, &way, start) } else { right_lists(chance, position, start, &way) };
     Some(order(start, lists))
 }
 
-/// An owing hex and an order that goes wrong in one thing, if anything serves the group there; none if nobody owes.
+/// A vacant route, else a series of pushes, else a part route.
+fn right_lists(chance: &mut Chance, position: &Position, start: usize, way: &Way) -> Lists {
+    let group = owing_group(position, start);
+    let legal = legal_routes(position, start, &group);
+    match any_series(chance, way) {
+        Some(_) if only_supply_units(position, &group) => right_part_route(chance, position, start),
+        Some(_) if !legal.is_empty() => (legal[chance.below(legal.len())].clone(), Vec::new()),
+        Some(series) => lists_of(&series),
+        None => right_part_route(chance, position, start),
+    }
+}
+
+/// An owing hex and an order that goes wrong in one thing; none if nobody owes a step.
 pub fn nearly_legal_retreat(chance: &mut Chance, position: &Position) -> Option<Order> {
-    let (start, way) = any_group(chance, position)?;
+    let (start, way) = any_group(chance, position).filter(|(_, way)| !way.is_done())?;
     let loose = loose_series(chance, &way, start);
     let lists = match any_series(chance, &way) {
+        _ if only_supply_units(position, &owing_group(position, start)) => something_sent(chance, position, start),
         Some(series) if chance.percent(70) => wrong_in_one_thing(chance, position, &series, &loose),
+        None if chance.percent(90) => wrong_part_route(chance, position, start),
         _ => loose,
     };
     Some(order(start, lists))

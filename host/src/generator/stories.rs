@@ -3,8 +3,8 @@
 use super::breaks::{break_names, broken_bytes, changed_byte};
 use super::chance::Chance;
 use super::crowds::crowded_road;
-use super::orders::targets;
-use super::retreat_orders::nearly_legal_retreat;
+use super::dead_ends::dead_end;
+use super::orders::{self, targets};
 use super::scene::{add_unit, empty_scene, few_units, large_size, scene, small_size};
 use super::staged::{add_battle, add_rivers, enter_special_losses, enter_stage};
 use super::writer::{Aim, Writer};
@@ -124,10 +124,29 @@ pub fn staged(writer: &mut Writer) {
     some_calls(writer, count);
 }
 
-/// A group owes in a crowded road: orders that are nearly legal first, then one that serves, as long as somebody owes.
+/// A group owes in a crowded road.
 pub fn crowded(writer: &mut Writer) {
     let position = crowded_road(&mut writer.chance);
     writer.set_position(&written(&position));
+    retreat_all(writer);
+    let count = writer.chance.below(2);
+    some_calls(writer, count);
+}
+
+/// A group owes in a dead end; the victors advance along its part route.
+pub fn trapped(writer: &mut Writer) {
+    let position = dead_end(&mut writer.chance);
+    writer.set_position(&written(&position));
+    retreat_all(writer);
+    for _ in 0..2 {
+        if writer.exists(Call::Advance) && is_in_stage(writer, ADVANCES) {
+            writer.order(Call::Advance, Aim::Accepted);
+        }
+    }
+}
+
+/// Orders that are nearly legal first, then a right one, as long as somebody owes.
+fn retreat_all(writer: &mut Writer) {
     if !writer.exists(Call::Retreat) {
         return some_calls(writer, 2);
     }
@@ -138,23 +157,21 @@ pub fn crowded(writer: &mut Writer) {
         let aim = [Aim::Accepted, Aim::Rare][writer.chance.weighted(&[85, 15])];
         writer.order(Call::Retreat, aim);
         noise(writer);
-        if !is_owing(writer) {
+        if !is_in_stage(writer, RETREATS) {
             break;
         }
     }
-    let count = writer.chance.below(2);
-    some_calls(writer, count);
 }
 
 fn nearly_legal(writer: &mut Writer) {
-    let Some(position) = writer.position().filter(|_| is_owing(writer)) else { return };
-    if let Some(order) = nearly_legal_retreat(&mut writer.chance, &position) {
+    if let Some(position) = writer.position().filter(|_| is_in_stage(writer, RETREATS)) {
+        let order = orders::nearly_legal(&mut writer.chance, &position);
         writer.call(&order);
     }
 }
 
-fn is_owing(writer: &Writer) -> bool {
-    writer.position().is_some_and(|position| position.desk.stage == RETREATS)
+fn is_in_stage(writer: &Writer, stage: u8) -> bool {
+    writer.position().is_some_and(|position| position.desk.stage == stage)
 }
 
 /// P.A.L. losses with special infantry, phasing or not.

@@ -6,6 +6,7 @@ use crate::acceptance::accepted;
 use crate::order::{Answer, Call, Order};
 use crate::position::*;
 use crate::record::{hex_digits, order_text};
+use crate::retreat_cases::cases_of;
 use crate::table::{Reply, Table};
 use crate::tally::Tally;
 
@@ -19,7 +20,7 @@ pub struct Writer {
 /// How an order is chosen among several.
 #[derive(Clone, Copy, PartialEq, Eq)]
 pub enum Aim {
-    /// The answer that has come up least so far.
+    /// The answer that has come up least so far, of a refused retreat the case.
     Rare,
     /// An order that is accepted.
     Accepted,
@@ -86,6 +87,7 @@ impl Writer {
         let text = self.spelled(&text);
         let before = self.table.position.clone();
         let Reply::Answered(_, answer) = self.line(text.as_bytes()) else { return Answer::Accepted };
+        self.count_retreat(&before, order, &answer);
         let large = before.len() > 4000;
         let changed = self.table.position != before;
         if changed && self.chance.percent(if large { 30 } else { 90 }) || self.chance.percent(3) && !large {
@@ -95,6 +97,13 @@ impl Writer {
             self.line(b"lent");
         }
         answer
+    }
+
+    fn count_retreat(&mut self, before: &[u8], order: &Order, answer: &Answer) {
+        let Ok(before) = accepted(before) else { return };
+        for case in cases_of(&before, order, answer) {
+            self.tally.count_retreat(case, before.desk.owed_retreat);
+        }
     }
 
     /// Now and then a buffer of another length, or of the right one.
@@ -168,6 +177,7 @@ impl Writer {
         match chance.below(10) {
             0 => orders::random(chance, position, call),
             1..=4 => orders::plausible(chance, position, call),
+            5 if call == Call::Retreat => orders::nearly_legal(chance, position),
             5..=7 => {
                 let order = orders::plausible(chance, position, call);
                 orders::spoiled(chance, position, &order)
@@ -180,13 +190,23 @@ impl Writer {
         }
     }
 
-    /// The smaller the better: how often this answer has come, or whether it is a refusal.
+    /// The smaller the better: how often this answer or case has come, or whether it is a refusal.
     fn worth(&self, order: &Order, aim: Aim) -> u64 {
         let answer = self.table.clone().call(order);
         match aim {
-            Aim::Rare => rarity(self.tally.count_of(order.call(), &answer), &answer),
+            Aim::Rare => rarity(self.count_of(order, &answer), &answer),
             Aim::Accepted => u64::from(matches!(answer, Answer::Refused(_))),
             Aim::Any => 0,
+        }
+    }
+
+    /// How often the answer has come up, of a refused retreat the case.
+    fn count_of(&self, order: &Order, answer: &Answer) -> u64 {
+        let refused = self.position().filter(|_| matches!(answer, Answer::Refused(_)));
+        let case = refused.and_then(|position| cases_of(&position, order, answer).pop());
+        match case {
+            Some(case) => self.tally.retreats(case).iter().sum(),
+            None => self.tally.count_of(order.call(), answer),
         }
     }
 

@@ -45,3 +45,11 @@ pub fn ends(position: &Position, line: &str) -> (String, Vec<u16>) {
 pub fn told(answer: &str, hexes: &[u16]) -> (String, Vec<u16>) {
     (answer.to_string(), hexes.to_vec())
 }
+
+/// Nothing serves the group of unit 0: the order is 14; by the part route it is destroyed, and nobody else goes anywhere.
+pub fn dooms(position: &Position, order: &str, part_route: &str) {
+    assert_eq!(answer(position, order), "no 14 0", "{order}");
+    let mut hexes: Vec<u16> = position.units.iter().map(|unit| unit.hex).collect();
+    hexes[0] = NONE;
+    assert_eq!(ends(position, part_route), told("destroyed", &hexes), "{part_route}");
+}

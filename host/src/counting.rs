@@ -1,0 +1,78 @@
+//! A record played line by line, and what it brings about counted.
+
+use crate::acceptance::accepted;
+use crate::advance::leads_to;
+use crate::order::{Answer, Order};
+use crate::position::*;
+use crate::record::{read, Line};
+use crate::retreat_cases::cases_of;
+use crate::table::{Reply, Table};
+use crate::tally::Tally;
+
+pub struct Counting {
+    pub tally: Tally,
+    /// Lines that cannot be read.
+    pub unreadable: u64,
+    table: Table,
+    /// The part routes along which somebody may still advance.
+    part_routes: Vec<Vec<usize>>,
+}
+
+impl Counting {
+    /// Play and count a whole record.
+    pub fn of(text: &[u8]) -> Counting {
+        let mut counting = Counting {
+            tally: Tally::default(),
+            unreadable: 0,
+            table: Table::with_all_calls(),
+            part_routes: Vec::new(),
+        };
+        text.split(|&byte| byte == b'\n').for_each(|line| counting.line(line));
+        counting
+    }
+
+    /// Play one line and count what it brought about.
+    fn line(&mut self, line: &[u8]) {
+        let before = accepted(&self.table.position).ok();
+        match (self.table.play(line), read(line)) {
+            (Reply::Answered(call, answer), Line::Call(order)) => {
+                self.tally.count(call, &answer);
+                if let Some(before) = before {
+                    self.call(&before, &order, &answer);
+                }
+            }
+            (Reply::What(_), _) => self.unreadable += 1,
+            (_, Line::Position(_)) => {
+                self.part_routes.clear();
+                self.tally.count_position(accepted(&self.table.position).err());
+            }
+            _ => (),
+        }
+    }
+
+    /// Count which retreat it was and, of an accepted call, the change of stage and the advance along a part route.
+    fn call(&mut self, before: &Position, order: &Order, answer: &Answer) {
+        for case in cases_of(before, order, answer) {
+            self.tally.count_retreat(case, before.desk.owed_retreat);
+        }
+        let after = accepted(&self.table.position).ok().filter(|_| !matches!(answer, Answer::Refused(_)));
+        let Some(after) = after else { return };
+        self.tally.count_stage(before.desk.stage, after.desk.stage);
+        if self.follows_a_part_route(before, order) {
+            self.tally.count_followed();
+        }
+        if *answer == Answer::Destroyed {
+            self.part_routes.extend(after.desk.filled_routes().pop());
+        }
+        if after.desk.stage == QUIET {
+            self.part_routes.clear();
+        }
+    }
+
+    /// Does a unit advance along a part route, to a hex behind the first?
+    fn follows_a_part_route(&self, before: &Position, order: &Order) -> bool {
+        let Order::Advance { unit, hex } = order else { return false };
+        let (unit, hex) = (&before.units[usize::from(*unit)], usize::from(*hex));
+        self.part_routes.iter().any(|route| route[0] != hex && leads_to(before, unit, route, hex))
+    }
+}
