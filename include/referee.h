@@ -52,10 +52,13 @@ uint64_t ia_attack(uint8_t *pos, size_t pos_len, uint32_t target, const uint16_t
  * is 0. If there is no such route, the group may go through hexes of its own force and push the stacks there out of its road. The
  * pushes are the hexes that these go to, step by step: for a step into a held hex where the stack there goes; if that hex is held too,
  * where that stack goes, and so on until one is vacant; for a step into a vacant hex none. docs/CALLS.md says which pushes are legal.
- * If neither exists, or only supply units owe there, the group is destroyed whatever was sent.
+ * If neither exists, the group goes as far as it can and is destroyed there. The route is then a part route: a run of steps like those
+ * of a vacant route, after i steps at distance i from the start, and as long as any such run; pushes_len is 0. If only supply units
+ * owe there, they are destroyed, and both lengths are 0. In each case start and route are written.
  * Refusals in order: 1; 3 a route of more than 3; 3 pushes of more than 9; 3 no such hex; 3 at the first number that is no hex, with
- * its place, which counts on through route and pushes; 2 wrong stage; 4 nobody owes there; 14 a vacant route exists, and the route is
- * none or pushes were sent; 17 only pushes serve, and route and pushes are not legal together. */
+ * its place, which counts on through route and pushes; 2 wrong stage; 4 nobody owes there; then by what there is: 14 only supply units
+ * owe, and a route or pushes were sent; 14 a vacant route exists, and the route is none or pushes were sent; 17 only pushes serve, and
+ * route and pushes are not legal together; 14 nothing serves, and the route is no longest part route or pushes were sent. */
 uint64_t ia_retreat(uint8_t *pos, size_t pos_len, uint32_t hex, const uint16_t *route, size_t route_len, const uint16_t *pushes,
                     size_t pushes_len);
 

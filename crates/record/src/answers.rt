@@ -85,18 +85,11 @@ fn lost(g: Game, route: &[u16], out: &mut Output) -> Game {
     end(g, f, out)
 }
 
-// Hex and route of the order are written with its pushes, or the hex alone.
-pub fn retreated(
-    g: Game,
-    a: Retreated,
-    route: &[u16],
-    pushes: &[u16],
-    alone: &[u16],
-    out: &mut Output,
-) -> Game {
+// Hex and route of the order are written, whether the group gets to their end or is lost there.
+pub fn retreated(g: Game, a: Retreated, route: &[u16], pushes: &[u16], out: &mut Output) -> Game {
     match a {
         Retreated::To(hex) => off(g, hex, route, pushes, out),
-        Retreated::Destroyed => lost(g, alone, out),
+        Retreated::Destroyed => lost(g, route, out),
         Retreated::Refused(n, place) => refused(g, Call::Retreat, n, place, out),
     }
 }

@@ -138,14 +138,7 @@ pub fn retreat_call(g: Game, l: Line, pos: &mut [u8], nums: &Numbers, out: &mut 
     let list: &[u16] = nums;
     let hex = number::wide(nums[0]);
     let a = rules::retreat(&mut pos[..size], hex, &list[1..cut], &list[cut..words]);
-    answers::retreated(
-        game::called(g, 0),
-        a,
-        &list[0..cut],
-        &list[cut..words],
-        &list[0..1],
-        out,
-    )
+    answers::retreated(game::called(g, 0), a, &list[0..cut], &list[cut..words], out)
 }
 
 pub fn losses_call(g: Game, l: Line, pos: &mut [u8], nums: &Numbers, out: &mut Output) -> Game {

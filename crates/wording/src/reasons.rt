@@ -150,7 +150,7 @@ fn plain(out: &mut Output, full: usize, n: usize) -> usize {
         14 => page::text(
             out,
             full,
-            b"there is a vacant route: this is none, or pushes were sent",
+            b"a vacant route, or a longest part route, is due: this is none, or pushes were sent",
         ),
         15 => page::text(
             out,
