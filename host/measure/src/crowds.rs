@@ -3,6 +3,7 @@
 
 use crate::cases::{Case, SIZES};
 use crate::scenes::{infantry, Ground, Scene, PAL};
+use crate::stagings::part_route;
 use host::contents::written;
 use host::order::Order;
 use host::position::{Desk, Position, Unit, ALL_SEA, COMBAT, OWES, RETREATS, TRIED};
@@ -47,9 +48,7 @@ fn three_each(way: &Way) -> Option<Vec<Step>> {
     steps.into_iter().find_map(|step| Some([vec![step.clone()], three_each(&way.after(&step))?].concat()))
 }
 
-fn case(call: &'static str, position: &Position, steps: &[Step]) -> Case {
-    let route = steps.iter().map(|step| step.to as u16).collect();
-    let pushes = steps.iter().flat_map(|step| &step.pushes).map(|&hex| hex as u16).collect();
+fn case(call: &'static str, position: &Position, route: Vec<u16>, pushes: Vec<u16>) -> Case {
     let hex = position.units[0].hex;
     Case {
         call,
@@ -68,7 +67,12 @@ pub fn crowds() -> Vec<Case> {
     let none = packed(&scene, count, NONE_SERVES);
     let some = packed(&scene, count, THREE_EACH);
     let steps = three_each(&Way::from(&some, scene.middle(), &[0, 1, 2])).expect("three stacks can be pushed a step");
-    vec![case("retreat, no pushes serve", &none, &[]), case("retreat, nine pushes", &some, &steps)]
+    let route = steps.iter().map(|step| step.to as u16).collect();
+    let pushes = steps.iter().flat_map(|step| &step.pushes).map(|&hex| hex as u16).collect();
+    vec![
+        case("retreat, no pushes serve", &none, part_route(&none, scene.middle()), Vec::new()),
+        case("retreat, nine pushes", &some, route, pushes),
+    ]
 }
 
 #[cfg(test)]

@@ -2,9 +2,11 @@
 
 use crate::scenes::{infantry, Scene, CANADA, PAL, US};
 use host::order::Order;
+use host::part_routes::part_routes;
 use host::position::{
     Desk, Position, Route, Unit, ADVANCES, COMBAT, LOSSES, MAY_ADVANCE, OWES, RETREATS, SUPPLIED, TRIED,
 };
+use host::retreat::owing_group;
 use host::unit_type::SUPPLY_UNIT;
 
 const ARMOUR: u8 = 0;
@@ -55,15 +57,21 @@ pub fn attack(scene: &Scene) -> Staged {
     (position, order)
 }
 
+/// The first part route of a group that is to be destroyed, as it is sent.
+pub fn part_route(position: &Position, start: usize) -> Vec<u16> {
+    part_routes(position, start, &owing_group(position, start))[0].iter().map(|&hex| hex as u16).collect()
+}
+
 /// The units in the middle owe three hexes, and supply units of theirs, which cannot be pushed, hold all at that
-/// distance: no route of the whole search serves, and no push.
+/// distance: no route of the whole search serves, and no push. They are lost at the end of a part route.
 pub fn retreat(scene: &Scene) -> Staged {
     let group = vec![in_role(infantry(PAL, scene.middle()), OWES); 3];
     let supply_unit = |hex: usize| Unit::new(PAL, SUPPLY_UNIT, hex as u16, 5, 0);
     let friends = scene.hexes(|far| far == 3).into_iter().map(supply_unit).collect();
     let mut position = scene.staged([group, friends].concat());
     position.desk = Desk { phase: COMBAT, stage: RETREATS, owed_retreat: 3, ..position.desk };
-    (position, Order::Retreat { hex: scene.middle() as u16, route: Vec::new(), pushes: Vec::new() })
+    let route = part_route(&position, scene.middle());
+    (position, Order::Retreat { hex: scene.middle() as u16, route, pushes: Vec::new() })
 }
 
 /// Eighteen units owe the losses of an exchange and are all named.
