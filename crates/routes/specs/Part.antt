@@ -1,8 +1,8 @@
 -- Part routes: how far a group can go that has no legal route.
 -- Assumes nothing.
-use Prim.Native.Nat.{ℕ, _+_, _≤_}
+use Prim.Native.Nat.{ℕ, zero, suc, _+_, _≤_, _<_}
 use mathlib.Core.Path.{_≡_}
-use mathlib.Core.Bool.{Bool, true, not, _&&_}
+use mathlib.Core.Bool.{Bool, true, false, cond, not, _&&_}
 use mathlib.Core.List.{List}
 use mathlib.Core.Logic.{_↔_}
 use lib.ListN.{length}
@@ -31,6 +31,17 @@ noLonger b f start k = not (found (firstRoute b f start (k + 1)))
 unfoldable pub partRoute : Board → ℕ → ℕ → List ℕ → Bool
 partRoute b f start route = legal b f start (length route) route && noLonger b f start (length route)
 
+-- how many steps a group makes that owes n: n if a legal route exists, else those of the longest run
+unfoldable pub reach : Board → ℕ → ℕ → ℕ → ℕ
+reach b f start zero = 0
+reach b f start (suc n) = cond (found (firstRoute b f start (suc n))) (suc n) (reach b f start n)
+
 -- The test is true exactly of the part routes. Proved in proofs/Part.antt.
 abbrev pub PartRight : Type 0
 PartRight = (b : Board) (f start : ℕ) (route : List ℕ) → (partRoute b f start route ≡ true) ↔ PartRoute b f start route
+
+-- Where no run of n steps is found the longest has as many as the group makes. Proved there too.
+abbrev pub ReachRight : Type 0
+ReachRight =
+    (b : Board) (f start n : ℕ) → found (firstRoute b f start n) ≡ false
+    → Longest b f start (reach b f start n) × (reach b f start n < n)

@@ -33,8 +33,8 @@ pub enum Outlook {
     Alone(bool),
 }
 
-// What a window that was painted round the start tells: whether a legal route exists, whether the route sent is one, and if none exists,
-// whether it is a part route and whether there are friends.
+// What a window that was painted round the start tells: how far the group can go, whether the route sent is a run as far as that, and
+// whether there are friends if it is not as far as is owed.
 fn tell(
     p: &[u8],
     v: View,
@@ -48,15 +48,16 @@ fn tell(
     requires { ⌜ Laid (now p) v × Window (now p) v f start at (now shown) × (length (now shown) ≡ 49) × (start < v .hexes) × (1 ≤ n) × (n ≤ 3) ⌝ }
     ensures { λ r. ⌜ OutlookOf (board (now (p .entry))) f start n (now (route .entry)) r ⌝ }
 {
-    if let Found::Nothing = window::search(p, v, at, shown, f, start, n) {
-        let part = sent::is_part(p, v, at, shown, f, start, n, route);
+    let k = window::reach(p, v, at, shown, f, start, n);
+    let fits = sent::is_legal(p, v, at, shown, f, start, k, route);
+    if k < n {
         let here = near::spot(v.width, v.height, start);
         if friends::near(shown, frame::place(v, at, here)) {
-            return Outlook::Friends(part);
+            return Outlook::Friends(fits);
         }
-        return Outlook::Alone(part);
+        return Outlook::Alone(fits);
     }
-    if sent::is_legal(p, v, at, shown, f, start, n, route) {
+    if fits {
         return Outlook::Legal;
     }
     Outlook::Illegal

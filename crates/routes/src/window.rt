@@ -12,6 +12,7 @@ ghost use Rattle.paint.specs.Frame.{Inside};
 ghost use Rattle.routes.specs.Bears.{refuge};
 ghost use Rattle.routes.specs.Legal.{enters};
 ghost use Rattle.routes.specs.Search.{stepOf, firstRoute};
+ghost use Rattle.routes.specs.Part.{reach};
 ghost use Rattle.routes.specs.Window.{free, Edge, Around, Window};
 use crate::Found;
 use grid::Beside;
@@ -154,7 +155,7 @@ fn step(
 }
 
 // The first legal route of n hexes, directions tried clockwise: three nested loops left by a label.
-pub fn search(p: &[u8], v: View, at: Frame, shown: &[u8], f: usize, start: usize, n: usize) -> Found
+fn search(p: &[u8], v: View, at: Frame, shown: &[u8], f: usize, start: usize, n: usize) -> Found
     requires { ⌜ Laid (now p) v × (start < v .hexes) × (1 ≤ n) × (n ≤ 3) × Window (now p) v f start at (now shown) ⌝ }
     ensures { λ r. ⌜ r ≡ firstRoute (board (now (p .entry))) f start n ⌝ }
 {
@@ -184,4 +185,19 @@ pub fn search(p: &[u8], v: View, at: Frame, shown: &[u8], f: usize, start: usize
         }
     }
     found
+}
+
+// How many steps a group makes that owes `n`: the search is for fewer and fewer until it finds a run.
+pub fn reach(p: &[u8], v: View, at: Frame, shown: &[u8], f: usize, start: usize, n: usize) -> usize
+    requires { ⌜ Laid (now p) v × (start < v .hexes) × (n ≤ 3) × Window (now p) v f start at (now shown) ⌝ }
+    ensures { λ r. ⌜ r ≡ reach (board (now (p .entry))) f start n ⌝ }
+{
+    let mut k = n;
+    while 0 < k {
+        let Found::Nothing = search(p, v, at, shown, f, start, k) else {
+            return k;
+        };
+        k -= 1;
+    }
+    k
 }

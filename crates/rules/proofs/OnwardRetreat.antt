@@ -1,7 +1,7 @@
 -- A retreat goes on: the first group that owes is sent a legal route or series of pushes, or its part route where it is destroyed, and
 -- fewer units owe afterwards.
 -- Assumes nothing.
-use Prim.Native.Nat.{ℕ, zero, suc, _≤_, _<_}
+use Prim.Native.Nat.{ℕ, _≤_, _<_}
 use mathlib.Core.Path.{_≡_, refl, sym, ap, subst, _∙_}
 use mathlib.Core.Bool.{true, false}
 use mathlib.Core.List.{List, [], _∷_}
@@ -23,13 +23,13 @@ use Rattle.ruling.proofs.Meets.{pass, ruled}
 use Rattle.field.specs.Listed.{Charted}
 use Rattle.field.proofs.Lists.{sieve-at, sieve-long}
 use Rattle.routes.specs.Run.{LegalRoute, Run, stay}
-use Rattle.routes.specs.Part.{PartRoute}
+use Rattle.routes.specs.Part.{PartRoute, reach}
 use Rattle.routes.specs.Search.{Searched, firstRoute, found, routeOf}
 use Rattle.routes.specs.declared.Found.{Found}
 use Rattle.routes.specs.declared.Found.the-variants.{Nothing, Route}
-use Rattle.routes.proofs.First.{first-right}
+use Rattle.routes.proofs.First.{first-right, found-right}
 use Rattle.routes.proofs.Legal.{legal-right}
-use Rattle.routes.proofs.Part.{none-shorter, part-right}
+use Rattle.routes.proofs.Part.{none-shorter, part-right, reach-here, reach-right}
 use Rattle.chains.specs.Series.{LegalSeries}
 use Rattle.chains.specs.Serves.{pushesServe}
 use Rattle.chains.proofs.Find.{find-right, series-charted, series-few}
@@ -46,7 +46,7 @@ use Rattle.retreat.proofs.KeepRoute.{run-charted}
 use Rattle.retreat.proofs.Words.{passes-due}
 use Rattle.rules.specs.Order.{ruleOf}
 use Rattle.rules.specs.Order.Order.{retreat}
-use Rattle.rules.specs.Onward.{allOwing, firstOwing, lastRoad, left, partRouteFor, pushedFor, pushesFor, retreatOnward, routeFor, sentRoute}
+use Rattle.rules.specs.Onward.{allOwing, firstOwing, lastRoad, left, pushedFor, pushesFor, retreatOnward, routeFor, runFor, sentRoute}
 use Rattle.rules.proofs.OnwardCall.{Goes, goes-met}
 use Rattle.rules.proofs.OnwardStage.{falls-then-on, left-retreats}
 
@@ -111,22 +111,27 @@ sent-legally b f h n l (Route x y z) t s =
     subst (λ (r : List ℕ). LegalRoute b f h n r) e k
 sent-legally b f h n l Nothing t s = not-both false t refl
 
--- a longest run, where none has n steps
-part-legally :
-    (b : Board) (f h n : ℕ) → n ≤ 3 → found (firstRoute b f h n) ≡ false → PartRoute b f h (partRouteFor b f h n)
-unfolding partRouteFor
-part-legally b f h zero l e = absurd (omega (arith, none-shorter b f h 0 0 e ([], record { long = refl; last = h; run = stay })))
-part-legally b f h (suc k) l e =
-    either (found (firstRoute b f h k))
-    (λ y.
-    let r = sent-legally b f h k (omega arith) (firstRoute b f h k) y (first-right b f h k) in
-    simp y
-    (record {
-      steps = k;
-      longest = record { some = (sentRoute k (firstRoute b f h k), r); most = λ j x. let m = none-shorter b f h j (suc k) e x in omega arith };
-      run = r;
-    }))
-    (λ y. simp y (part-legally b f h k (omega arith) y))
+-- the run of as many steps as the group makes is legal where a legal route exists, and else a part route
+module _ (b : Board) (h : ℕ) (l : b .desk .owed ≤ 3) where
+  run-legally : found (firstRoute b (groupForce b h) h (b .desk .owed)) ≡ true → LegalRoute b (groupForce b h) h (b .desk .owed) (runFor b h)
+  unfolding runFor
+  run-legally e =
+      let f = groupForce b h in
+      let n = b .desk .owed in
+      rw (reach-here b f h n e) (sent-legally b f h n l (firstRoute b f h n) e (first-right b f h n))
+
+  part-legally : found (firstRoute b (groupForce b h) h (b .desk .owed)) ≡ false → PartRoute b (groupForce b h) h (runFor b h)
+  unfolding runFor
+  part-legally e =
+      let f = groupForce b h in
+      let n = b .desk .owed in
+      let k = reach b f h n in
+      let r = reach-right b f h n e in
+      record {
+        steps = k;
+        longest = r .0;
+        run = sent-legally b f h k (omega (arith, r .1)) (firstRoute b f h k) (found-right b f h k .1 (r .0 .some)) (first-right b f h k);
+      }
 
 -- what a group is sent: its part route, a legal route or a legal series of pushes
 data Given (b : Board) (h : ℕ) (route pushes : List ℕ) : Type 0 where
@@ -180,15 +185,13 @@ module _ {b : Board} (l : Lawful b) (most : b .map .hexes ≤ nowhere) (e : b .d
   is-last : doomed b h ≡ true → Given b h (lastRoad b h) []
   unfolding lastRoad
   is-last d =
-      let f = groupForce b h in
-      let n = b .desk .owed in
       either (any (walksFrom b h) (b .units .count))
       (λ w.
       let z = lost-none b h d w in
-      let r = part-legally b f h n (owed .high) z in
-      let s = none-shorter b f h (r .steps) n z (r .longest .some) in
+      let r = part-legally b h (owed .high) z in
+      let s = none-shorter b (groupForce b h) h (r .steps) (b .desk .owed) z (r .longest .some) in
       simp w
-      (lastly d (part-walks b h (partRouteFor b f h n) w ∙ part-right b f h (partRouteFor b f h n) .1 r) (r .run .run)
+      (lastly d (part-walks b h (runFor b h) w ∙ part-right b (groupForce b h) h (runFor b h) .1 r) (r .run .run)
       (omega (arith, owed .high, r .run .long))
       refl))
       (λ w. simp w (lastly d (part-supply b h [] w) stay (omega arith) refl))
@@ -203,8 +206,7 @@ module _ {b : Board} (l : Lawful b) (most : b .map .hexes ≤ nowhere) (e : b .d
       (λ d.
       either (hasRoute b h)
       (λ t.
-      simp (d, t)
-      (vacantly d t (sent-legally b f h n (owed .high) (firstRoute b f h n) (has-found b h t) (first-right b f h n)) refl))
+      simp (d, t) (vacantly d t (run-legally b h (owed .high) (has-found b h t)) refl))
       (λ t. simp (d, t) (pushing d t (find-right b f h n (has-served b h (spared-served b h d t))))))
 
   retreat-falls : left (changes b (thenOn b (leaveChanges b h sent shoved))) < left b

@@ -1,7 +1,7 @@
 -- Never stuck: in every accepted position that is not the end of the game a call is accepted, and calls so chosen come to the end.
 -- Proved in proofs/Onward.antt.
 -- Assumes nothing.
-use Prim.Native.Nat.{ℕ, zero, suc, _+_, _*_, _-_, _≤_, _<_}
+use Prim.Native.Nat.{ℕ, _+_, _*_, _-_, _≤_, _<_}
 use mathlib.Core.Path.{_≡_}
 use mathlib.Core.Bool.{Bool, true, false, cond, _&&_}
 use mathlib.Core.List.{List, [], _∷_}
@@ -17,7 +17,8 @@ use Rattle.ruling.specs.Secret.{Sent}
 use Rattle.field.specs.Listed.{sieve}
 use Rattle.routes.specs.declared.Found.{Found}
 use Rattle.routes.specs.declared.Found.the-variants.{Route, Nothing}
-use Rattle.routes.specs.Search.{firstRoute, found}
+use Rattle.routes.specs.Search.{firstRoute}
+use Rattle.routes.specs.Part.{reach}
 use Rattle.clock.specs.Clock.{isLast}
 use Rattle.march.specs.EndPhase.{clock}
 use Rattle.aftermath.specs.Losses.{owes}
@@ -48,21 +49,20 @@ sentRoute n Nothing = []
 unfoldable pub pushedFor : Board → ℕ → Sought
 pushedFor b h = seriesFor b (groupForce b h) h (b .desk .owed)
 
--- "a part route: .. as long as the longest such run", where none has n steps: the first run of n - 1 steps, or else of fewer
-unfoldable pub partRouteFor : Board → ℕ → ℕ → ℕ → List ℕ
-partRouteFor b f h zero = []
-partRouteFor b f h (suc k) = cond (found (firstRoute b f h k)) (sentRoute k (firstRoute b f h k)) (partRouteFor b f h k)
+-- the first run of as many steps as the group of hex h makes: a vacant route, or else "as long as the longest such run"
+unfoldable pub runFor : Board → ℕ → List ℕ
+runFor b h =
+    let k = reach b (groupForce b h) h (b .desk .owed) in sentRoute k (firstRoute b (groupForce b h) h k)
 
 -- "empty where only supply units owe"
 unfoldable pub lastRoad : Board → ℕ → List ℕ
-lastRoad b h =
-    cond (any (walksFrom b h) (b .units .count)) (partRouteFor b (groupForce b h) h (b .desk .owed)) []
+lastRoad b h = cond (any (walksFrom b h) (b .units .count)) (runFor b h) []
 
--- the group of hex h is sent its part route where it is destroyed; else the first vacant route, or a series of pushes
+-- the group is sent its part route where it is destroyed; else a vacant route, or a series of pushes
 unfoldable pub routeFor : Board → ℕ → List ℕ
 routeFor b h =
     cond (doomed b h) (lastRoad b h)
-    (cond (hasRoute b h) (sentRoute (b .desk .owed) (firstRoute b (groupForce b h) h (b .desk .owed))) (pushedFor b h .route))
+    (cond (hasRoute b h) (runFor b h) (pushedFor b h .route))
 
 unfoldable pub pushesFor : Board → ℕ → List ℕ
 pushesFor b h = cond (doomed b h) [] (cond (hasRoute b h) [] (pushedFor b h .pushes))
