@@ -121,24 +121,25 @@ module _ (b : Board) (h : ℕ) (route pushes : List ℕ) where
   module _ (w : any (walksFrom b h) (b .units .count) ≡ true) where
     -- where no vacant route exists, and no series either
     pub fate-trapped :
-        {t : Bool} → hasRoute b h ≡ false → hasSeries b h ≡ false → t ≡ partRoute b (groupForce b h) h route
-        → lostFate t pushes ≡ fateOf b h route pushes
-    fate-trapped r s e =
-        ap (λ (t : Bool). lostFate t pushes) (e ∙ sym (part-walks b h route w))
-        ∙ sym (fate-doomed (doomed-neither b h r s))
+        hasRoute b h ≡ false → hasSeries b h ≡ false
+        → lostFate (partRoute b (groupForce b h) h route) pushes ≡ fateOf b h route pushes
+    fate-trapped r s =
+        ap (λ (t : Bool). lostFate t pushes) (sym (part-walks b h route w)) ∙ sym (fate-doomed (doomed-neither b h r s))
 
     -- where no vacant route exists
     pub fate-served :
-        {t : Bool} → hasRoute b h ≡ false → t ≡ partRoute b (groupForce b h) h route
-        → servedFate (lostFate t pushes) (served b (groupForce b h) h (b .desk .owed) route pushes) ≡ fateOf b h route pushes
+        hasRoute b h ≡ false
+        → servedFate (lostFate (partRoute b (groupForce b h) h route) pushes)
+        (served b (groupForce b h) h (b .desk .owed) route pushes)
+        ≡ fateOf b h route pushes
     unfolding served hasSeries
-    fate-served r e =
+    fate-served r =
         either (pushesServe b (groupForce b h) h (b .desk .owed))
         (λ s.
         either serves
         (λ f. simp (s, f) (sym (fate-pushing (spared-series b h w s) r f)))
         (λ f. simp (s, f) (sym (fate-no-pushes (spared-series b h w s) r f))))
-        (λ s. simp s (fate-trapped r s e))
+        (λ s. simp s (fate-trapped r s))
 
     -- where one does
     module _ (r : hasRoute b h ≡ true) where

@@ -24,7 +24,8 @@ use Rattle.field.proofs.Lists.{sieve-long}
 use Rattle.field.specs.Listed.{onMapAll, onMapFrom, sieve}
 use Rattle.routes.specs.Legal.{legal}
 use Rattle.routes.specs.Outlook.{Nobody, OutlookOf}
-use Rattle.routes.specs.Part.{partRoute}
+use Rattle.routes.specs.Part.{isRun}
+use Rattle.routes.specs.Search.{firstRoute, found}
 use Rattle.routes.specs.declared.Outlook.{Outlook}
 use Rattle.routes.specs.declared.Outlook.the-variants.{Alone, Friends, Illegal, Legal}
 use Rattle.pushes.specs.Pushes.{served}
@@ -75,31 +76,51 @@ module _ (b : Board) (h : ℕ) where
 
 -- what the outlook is, of the numbers as they were read
 pub outlook-as :
-    (b : Board) (h : ℕ) (route : List ℕ) (r : Outlook) {f n : ℕ} → f ≡ groupForce b h → n ≡ b .desk .owed → OutlookOf b f h n route r
-    → OutlookOf b (groupForce b h) h (b .desk .owed) route r
+    (b : Board) (h : ℕ) (route : List ℕ) (r : Outlook) {f g n m : ℕ} → f ≡ g → n ≡ m → OutlookOf b f h n route r
+    → OutlookOf b g h m route r
 outlook-as b h route r ef en o = rw ef at (rw en at o)
 
--- and what each says of the group
-module _ (b : Board) (h : ℕ) (route : List ℕ) (r : Outlook) (o : OutlookOf b (groupForce b h) h (b .desk .owed) route r) where
-  told : {t : Outlook} → r ≡ t → OutlookOf b (groupForce b h) h (b .desk .owed) route t
-  told e = subst (OutlookOf b (groupForce b h) h (b .desk .owed) route) e o
+-- it tells whether a run of so many hexes exists
+abbrev pub opens : Outlook → Bool
+opens Legal = true
+opens Illegal = true
+opens (Friends run) = false
+opens (Alone run) = false
 
-  pub told-legal : r ≡ Legal → (hasRoute b h ≡ true) × (legal b (groupForce b h) h (b .desk .owed) route ≡ true)
-  unfolding hasRoute
-  told-legal e = told e
+pub outlook-opens :
+    (b : Board) (f h n : ℕ) (route : List ℕ) (r : Outlook) → OutlookOf b f h n route r → found (firstRoute b f h n) ≡ opens r
+outlook-opens b f h n route Legal o = o .0
+outlook-opens b f h n route Illegal o = o .0
+outlook-opens b f h n route (Friends run) o = o .0
+outlook-opens b f h n route (Alone run) o = o .0
 
-  pub told-illegal : r ≡ Illegal → (hasRoute b h ≡ true) × (legal b (groupForce b h) h (b .desk .owed) route ≡ false)
-  unfolding hasRoute
-  told-illegal e = told e
+-- what is asked of a vacant route
+pub none-found :
+    (b : Board) (h : ℕ) → hasRoute b h ≡ false → found (firstRoute b (groupForce b h) h (b .desk .owed)) ≡ false
+unfolding hasRoute
+none-found b h e = e
 
-  pub told-friends : {t : Bool} → r ≡ Friends t → (hasRoute b h ≡ false) × (t ≡ partRoute b (groupForce b h) h route)
+-- and what each outlook says of the group
+module _ (b : Board) (h : ℕ) (route : List ℕ) where
+  abbrev Says : Outlook → Type 0
+  Says r = OutlookOf b (groupForce b h) h (b .desk .owed) route r
+
+  pub told-legal : Says Legal → (hasRoute b h ≡ true) × (legal b (groupForce b h) h (b .desk .owed) route ≡ true)
   unfolding hasRoute
-  told-friends e = told e
+  told-legal o = o
+
+  pub told-illegal : Says Illegal → (hasRoute b h ≡ true) × (legal b (groupForce b h) h (b .desk .owed) route ≡ false)
+  unfolding hasRoute
+  told-illegal o = o
+
+  pub told-friends : {t : Bool} → Says (Friends t) → (hasRoute b h ≡ false) × (t ≡ isRun b (groupForce b h) h route)
+  unfolding hasRoute
+  told-friends o = o
 
   pub told-alone :
-      {t : Bool} → r ≡ Alone t → (hasRoute b h ≡ false) × (t ≡ partRoute b (groupForce b h) h route) × Nobody b (groupForce b h) h
+      {t : Bool} → Says (Alone t) → (hasRoute b h ≡ false) × (t ≡ isRun b (groupForce b h) h route) × Nobody b (groupForce b h) h
   unfolding hasRoute
-  told-alone e = told e
+  told-alone o = o
 
 -- and what comes of pushes, of them
 pub served-as :

@@ -1,16 +1,18 @@
 // What comes of a group that owes: it is lost, goes along a vacant route, pushes friends, or what was sent is refused.
 ghost use mathlib.Core.Path.{_≡_};
-ghost use mathlib.Core.Bool.{cond};
+ghost use mathlib.Core.Bool.{cond, false, not};
 ghost use Prim.Native.Nat.{_<_, _≤_};
 ghost use lib.ListN.{getD};
 ghost use Rattle.position.specs.Tally.{any};
 ghost use Rattle.position.specs.Board.{board};
 ghost use Rattle.position.specs.Laid.{Laid};
 ghost use Rattle.routes.specs.Outlook.{OutlookOf};
+ghost use Rattle.routes.specs.Part.{isRun, partRoute};
+ghost use Rattle.routes.specs.Search.{firstRoute, found};
 ghost use Rattle.chains.specs.Follows.{none};
 ghost use Rattle.pushes.specs.Pushes.{served};
 ghost use Rattle.shoves.specs.Group.{group, groupForce};
-ghost use Rattle.retreat.specs.Retreat.{walksFrom};
+ghost use Rattle.retreat.specs.Retreat.{hasRoute, walksFrom};
 ghost use Rattle.retreat.specs.declared.fate.Fate.the-variants.{NoRoute, Vacant};
 ghost use Rattle.retreat.specs.Fate.{fateOf, lostFate, servedFate};
 use position::View;
@@ -82,12 +84,41 @@ fn group_force(p: &[u8], v: View, h: usize) -> usize
     forces::force_of(p, v, leader(p, v, h))
 }
 
-// What the outlook of the group in hex `h` is, which was sent this route.
-fn judge(p: &[u8], v: View, h: usize, route: &[u16]) -> Outlook
-    requires { ⌜ Laid (now p) v × (h < v .hexes) × (1 ≤ board (now p) .desk .owed) × (board (now p) .desk .owed ≤ 3) ⌝ }
-    ensures { λ r. ⌜ OutlookOf (board (now (p .entry))) (groupForce (board (now (p .entry))) h) h (board (now (p .entry)) .desk .owed) (now (route .entry)) r ⌝ }
+// What the outlook of the group in hex `h` is, if it goes `n` hexes and was sent this route.
+fn judge(p: &[u8], v: View, h: usize, n: usize, route: &[u16]) -> Outlook
+    requires { ⌜ Laid (now p) v × (h < v .hexes) × (1 ≤ n) × (n ≤ 3) ⌝ }
+    ensures { λ r. ⌜ OutlookOf (board (now (p .entry))) (groupForce (board (now (p .entry))) h) h n (now (route .entry)) r ⌝ }
 {
-    routes::judge(p, v, group_force(p, v, h), h, read::owed(p, v), route)
+    routes::judge(p, v, group_force(p, v, h), h, n, route)
+}
+
+// Whether the group has no run of `n` hexes.
+fn no_run(p: &[u8], v: View, h: usize, n: usize, route: &[u16]) -> bool
+    requires { ⌜ Laid (now p) v × (h < v .hexes) × (1 ≤ n) × (n ≤ 3) ⌝ }
+    ensures { λ r. ⌜ r ≡ not (found (firstRoute (board (now (p .entry))) (groupForce (board (now (p .entry))) h) h n)) ⌝ }
+{
+    match judge(p, v, h, n, route) {
+        Outlook::Legal => false,
+        Outlook::Illegal => false,
+        Outlook::Friends(_) => true,
+        Outlook::Alone(_) => true,
+    }
+}
+
+// Whether the route is a part route, where no vacant route exists; `run` tells whether it is a run. A longer run is looked for only if it
+// would be shorter than the route that is owed.
+fn is_part(p: &[u8], v: View, h: usize, run: bool, route: &[u16]) -> bool
+    requires { ⌜ Laid (now p) v × (h < v .hexes) × (board (now p) .desk .owed ≤ 3) × (hasRoute (board (now p)) h ≡ false) × (run ≡ isRun (board (now p)) (groupForce (board (now p)) h) h (now route)) ⌝ }
+    ensures { λ r. ⌜ r ≡ partRoute (board (now (p .entry))) (groupForce (board (now (p .entry))) h) h (now (route .entry)) ⌝ }
+{
+    if !run {
+        return false;
+    }
+    let longer = route.len() + 1;
+    if read::owed(p, v) <= longer {
+        return true;
+    }
+    no_run(p, v, h, longer, route)
 }
 
 // What comes of it where the route is legal: no pushes may be sent with it.
@@ -113,10 +144,10 @@ fn by_part(part: bool, pushes: &[u16]) -> Fate
     Fate::Lost
 }
 
-// What comes of it where no vacant route exists; `part` tells whether the route is a part route.
-fn by_pushes(p: &[u8], v: View, h: usize, part: bool, route: &[u16], pushes: &[u16]) -> Fate
-    requires { ⌜ Laid (now p) v × (h < v .hexes) × (board (now p) .desk .owed ≤ 3) ⌝ }
-    ensures { λ r. ⌜ r ≡ servedFate (lostFate part (now (pushes .entry))) (served (board (now (p .entry))) (groupForce (board (now (p .entry))) h) h (board (now (p .entry)) .desk .owed) (now (route .entry)) (now (pushes .entry))) ⌝ }
+// What comes of it where no vacant route exists; `run` tells whether the route is a run.
+fn by_pushes(p: &[u8], v: View, h: usize, run: bool, route: &[u16], pushes: &[u16]) -> Fate
+    requires { ⌜ Laid (now p) v × (h < v .hexes) × (board (now p) .desk .owed ≤ 3) × (hasRoute (board (now p)) h ≡ false) × (run ≡ isRun (board (now p)) (groupForce (board (now p)) h) h (now route)) ⌝ }
+    ensures { λ r. ⌜ r ≡ servedFate (lostFate (partRoute (board (now (p .entry))) (groupForce (board (now (p .entry))) h) h (now (route .entry))) (now (pushes .entry))) (served (board (now (p .entry))) (groupForce (board (now (p .entry))) h) h (board (now (p .entry)) .desk .owed) (now (route .entry)) (now (pushes .entry))) ⌝ }
 {
     match pushes::judge(
         p,
@@ -127,7 +158,7 @@ fn by_pushes(p: &[u8], v: View, h: usize, part: bool, route: &[u16], pushes: &[u
         route,
         pushes,
     ) {
-        Served::None => by_part(part, pushes),
+        Served::None => by_part(is_part(p, v, h, run, route), pushes),
         Served::Wrong => Fate::NoPushes,
         Served::Right => Fate::Pushing,
     }
@@ -142,10 +173,10 @@ pub fn decide(p: &[u8], v: View, h: usize, route: &[u16], pushes: &[u16]) -> Fat
     if !any_walks(p, v, h) {
         return by_part(route.len() == 0, pushes);
     }
-    match judge(p, v, h, route) {
+    match judge(p, v, h, read::owed(p, v), route) {
         Outlook::Legal => by_route(pushes),
         Outlook::Illegal => Fate::NoRoute,
-        Outlook::Friends(part) => by_pushes(p, v, h, part, route, pushes),
-        Outlook::Alone(part) => by_part(part, pushes),
+        Outlook::Friends(run) => by_pushes(p, v, h, run, route, pushes),
+        Outlook::Alone(run) => by_part(is_part(p, v, h, run, route), pushes),
     }
 }

@@ -3,10 +3,10 @@
 use Prim.Native.Nat.{ℕ, zero, suc, _+_, _≤_, _<_}
 use mathlib.Core.Path.{_≡_, refl, sym, ap, subst, _∙_}
 use mathlib.Core.List.{List, [], _∷_}
+use mathlib.Core.Logic.{_↔_}
 use mathlib.Core.Bool.{Bool, true, false, not}
 use native.Mathlib.Omega.{arith}
-use native.Mathlib.Numerals.{add-one}
-use native.Mathlib.Decide.{decLe}
+use native.Mathlib.Decide.{decLe, decLt}
 use lib.ListN.{length}
 use borrow.Author.Tests.{not-true}
 use Rattle.position.specs.Board.{Board}
@@ -14,9 +14,10 @@ use Rattle.position.proofs.Tallies.{both-yes, either, not-both}
 use Rattle.routes.specs.Run.{Run, stay, go, LegalRoute, RouteExists}
 use Rattle.routes.specs.Legal.{legal}
 use Rattle.routes.specs.Search.{firstRoute, found}
-use Rattle.routes.specs.Part.{Longest, PartRoute, noLonger, partRoute, reach, PartRight, ReachRight}
+use Rattle.routes.specs.Part.{Longest, PartRoute, isRun, noLonger, partRoute, reach, PartRight, ReachRight}
+use Rattle.routes.specs.Outlook.{Tested}
 use Rattle.routes.proofs.First.{found-right}
-use Rattle.routes.proofs.Legal.{legal-right}
+use Rattle.routes.proofs.Legal.{legal-right, right-length}
 
 module _ (b : Board) (f start : ℕ) where
   -- the first k hexes of a run
@@ -46,57 +47,108 @@ module _ (b : Board) (f start : ℕ) where
       at (yes l) = not-both (found (firstRoute b f start k)) (found-right b f start k .1 (cut-route j k l r)) e
       at (no n) = omega arith
 
+-- the test of a run is true exactly of the runs
+pub run-right : (b : Board) (f start : ℕ) (route : List ℕ) → (isRun b f start route ≡ true) ↔ LegalRoute b f start (length route) route
+unfolding isRun
+run-right b f start route =
+    let r = legal-right b f start (length route) route in
+    let e = right-length b f start (length route) route refl in
+    (λ t. r .0 (e ∙ t), λ l. sym e ∙ r .1 l)
+
+-- of a part route, by its parts
+module _ (b : Board) (f start : ℕ) (route : List ℕ) where
+  pub part-no-run : isRun b f start route ≡ false → partRoute b f start route ≡ false
+  unfolding partRoute
+  part-no-run t = simp t
+
+  pub part-run : isRun b f start route ≡ true → partRoute b f start route ≡ noLonger b f start (length route)
+  unfolding partRoute
+  part-run t = simp t
+
 pub part-right : PartRight
 unfolding partRoute noLonger
-part-right b f start route = (
-  λ e.
-      let k = length route in
-      let s = both-yes (legal b f start k route) (not (found (firstRoute b f start (k + 1)))) e in
-      let r = legal-right b f start k route .0 (s .0) in
-      record {
-        steps = k;
-        longest =
-            record {
-              some = (route, r);
-              most = λ j x. let l = none-shorter b f start j (k + 1) (not-true _ (s .1)) x in omega arith;
-            };
-        run = r;
-      },
-  λ q. simp (legal-of q, none-of q),
-)
-  where
-    legal-of : PartRoute b f start route → legal b f start (length route) route ≡ true
-    legal-of q = legal-right b f start (length route) route .1 (record { long = refl; last = q .run .last; run = q .run .run })
+part-right b f start route =
+    let k = length route in
+    let t = found (firstRoute b f start (k + 1)) in
+    let r = run-right b f start route in (
+      λ e.
+          let s = both-yes (isRun b f start route) (not t) e in
+          record {
+            steps = k;
+            longest =
+                record {
+                  some = (route, r .0 (s .0));
+                  most = λ j x. let l = none-shorter b f start j (k + 1) (not-true t (s .1)) x in omega arith;
+                };
+            run = r .0 (s .0);
+          },
+      λ q.
+          let none =
+          either t
+          (λ y. absurd (omega (arith, q .run .long, q .longest .most (k + 1) (found-right b f start (k + 1) .0 y))))
+          (λ y. y) in
+          simp (r .1 (record { long = refl; last = q .run .last; run = q .run .run }), none),
+    )
 
-    none-of : PartRoute b f start route → found (firstRoute b f start (length route + 1)) ≡ false
-    none-of q =
-        either (found (firstRoute b f start (length route + 1)))
-        (λ t. absurd (omega (arith, q .run .long, q .longest .most _ (found-right b f start (length route + 1) .0 t))))
-        (λ t. t)
+-- whether a run has more than k steps, where it is known, and by what is found of one step more
+module _ (b : Board) (f start k : ℕ) where
+  pub longer-known : (n : ℕ) → n ≤ k + 1 → found (firstRoute b f start n) ≡ false → noLonger b f start k ≡ true
+  unfolding noLonger
+  longer-known n l e =
+      either (found (firstRoute b f start (k + 1)))
+      (λ y. absurd (omega (arith, none-shorter b f start (k + 1) n e (found-right b f start (k + 1) .0 y))))
+      (λ y. ap not y)
+
+  pub longer-found : {t : Bool} → found (firstRoute b f start (k + 1)) ≡ t → noLonger b f start k ≡ not t
+  unfolding noLonger
+  longer-found e = ap not e
+
+-- where no legal route exists, the test of the steps that a route is tested for is that of a run
+module _ (b : Board) (f start n : ℕ) (route : List ℕ) (e : found (firstRoute b f start n) ≡ false) where
+  no-legal : legal b f start n route ≡ false
+  no-legal =
+      either (legal b f start n route)
+      (λ y. absurd (omega (arith, none-shorter b f start n n e (route, legal-right b f start n route .0 y))))
+      (λ y. y)
+
+  no-run : n ≤ length route → isRun b f start route ≡ false
+  no-run l =
+      either (isRun b f start route)
+      (λ y. absurd (omega (arith, none-shorter b f start (length route) n e (route, run-right b f start route .0 y))))
+      (λ y. y)
+
+  pub tested-run : {t : Bool} {k : ℕ} → Tested t n (length route) k → t ≡ false → legal b f start k route ≡ isRun b f start route
+  unfolding isRun
+  tested-run {t} {k} s out = at (decLt (length route) n)
+    where
+      at : Dec (length route < n) → legal b f start k route ≡ isRun b f start route
+      at (yes l) = right-length b f start k route (sym (s .own out l))
+      at (no l) =
+          ap (λ (j : ℕ). legal b f start j route) (s .most out (omega arith)) ∙ no-legal ∙ sym (no-run (omega arith))
+
+pub tested-most : {t : Bool} {n k r : ℕ} → Tested t n k r → r ≤ n
+tested-most {t} {n} {k} {r} s = either t (λ e. omega (arith, s .owed e)) (λ e. at e (decLt k n))
+  where
+    at : t ≡ false → Dec (k < n) → r ≤ n
+    at e (yes l) = omega (arith, s .own e l)
+    at e (no l) = omega (arith, s .most e (omega arith))
 
 -- how far a group gets, by what is found
 module _ (b : Board) (f start : ℕ) where
-  pub reach-end : (n : ℕ) → n ≤ 0 → reach b f start n ≡ n
-  unfolding reach
-  reach-end zero l = refl
-  reach-end (suc n) l = absurd (omega arith)
-
   pub reach-here : (n : ℕ) → found (firstRoute b f start n) ≡ true → reach b f start n ≡ n
   unfolding reach
   reach-here zero e = refl
   reach-here (suc n) e = simp e
 
-  pub reach-less : (n m : ℕ) → n ≡ m + 1 → found (firstRoute b f start n) ≡ false → reach b f start n ≡ reach b f start m
+  reach-less : (n : ℕ) → found (firstRoute b f start (suc n)) ≡ false → reach b f start (suc n) ≡ reach b f start n
   unfolding reach
-  reach-less n m e =
-      subst (λ (k : ℕ). found (firstRoute b f start k) ≡ false → reach b f start k ≡ reach b f start m) (sym (e ∙ add-one m))
-      (λ z. simp z)
+  reach-less n e = simp e
 
 pub reach-right : ReachRight
 reach-right b f start zero e =
     absurd (omega (arith, none-shorter b f start 0 0 e ([], record { long = refl; last = start; run = stay })))
 reach-right b f start (suc n) e =
-    let q = reach-less b f start (suc n) n (omega arith) e in
+    let q = reach-less b f start n e in
     either (found (firstRoute b f start n))
     (λ t.
     subst (λ (k : ℕ). Longest b f start k × (k < suc n)) (sym (q ∙ reach-here b f start n t)) (
@@ -107,49 +159,3 @@ reach-right b f start (suc n) e =
       omega arith,
     ))
     (λ t. let r = reach-right b f start n t in (rw q (r .0), omega (arith, r .1)))
-
--- so a route is a part route if it is a run of as many steps
-pub part-reach :
-    (b : Board) (f start n : ℕ) (route : List ℕ) → found (firstRoute b f start n) ≡ false
-    → legal b f start (reach b f start n) route ≡ partRoute b f start route
-part-reach b f start n route e =
-    let r = reach-right b f start n e .0 in
-    let k = reach b f start n in
-    either (legal b f start k route)
-    (λ t. t ∙ sym (part-right b f start route .1 (record { steps = k; longest = r; run = legal-right b f start k route .0 t })))
-    (λ t.
-    either (partRoute b f start route)
-    (λ y.
-    let q = part-right b f start route .0 y in
-    let same : q .steps ≡ k = omega (arith, q .longest .most k (r .some), r .most (q .steps) (q .longest .some)) in
-    let l = legal-right b f start k route .1 (subst (λ (j : ℕ). LegalRoute b f start j route) same (q .run)) in
-    not-both (legal b f start k route) l t)
-    (λ y. t ∙ sym y))
-
-pub reach-most : (b : Board) (f start n : ℕ) → reach b f start n ≤ n
-reach-most b f start n =
-    either (found (firstRoute b f start n))
-    (λ y. omega (arith, reach-here b f start n y))
-    (λ y. omega (arith, reach-right b f start n y .1))
-
--- what a route is that was tested as a run of as many steps as the group makes
-module _ (b : Board) (f start n : ℕ) (route : List ℕ) {k : ℕ} {fits : Bool} (e : k ≡ reach b f start n) (t : fits ≡ legal b f start k route) where
-  -- it makes fewer than it owes
-  module _ (l : k < n) where
-    pub stops-short : found (firstRoute b f start n) ≡ false
-    stops-short =
-        either (found (firstRoute b f start n)) (λ y. absurd (omega (arith, reach-here b f start n y))) (λ y. y)
-
-    pub fits-part : fits ≡ partRoute b f start route
-    fits-part =
-        t ∙ ap (λ (j : ℕ). legal b f start j route) e ∙ part-reach b f start n route stops-short
-
-  -- it makes as many
-  module _ (l : n ≤ k) where
-    pub goes-all : found (firstRoute b f start n) ≡ true
-    goes-all =
-        either (found (firstRoute b f start n)) (λ y. y) (λ y. absurd (omega (arith, reach-right b f start n y .1)))
-
-    pub fits-legal : fits ≡ legal b f start n route
-    fits-legal =
-        t ∙ ap (λ (j : ℕ). legal b f start j route) (e ∙ reach-here b f start n goes-all)

@@ -11,13 +11,13 @@ use Rattle.field.specs.Zone.{holds, supplyUnitOn}
 use Rattle.routes.specs.declared.Found.the-variants.{Route, Nothing}
 use Rattle.routes.specs.Bears.{bears, refuge}
 use Rattle.routes.specs.Search.{entered, stepOf, firstOf, goOn, firstRoute}
-use Rattle.routes.specs.Part.{noLonger, partRoute}
+use Rattle.routes.specs.Part.{isRun, noLonger, partRoute}
 use Rattle.routes.specs.Outlook.{friends}
 use Rattle.routes.specs.Rulings.{routesOpen, plain}
 
 -- 'unfolding searching' opens all that the search computes by
 unfoldable pub searching : ℕ
-unfolding routesOpen force castsZone forceIn entered stepOf firstOf goOn firstRoute noLonger partRoute holds supplyUnitOn friends
+unfolding routesOpen force castsZone forceIn entered stepOf firstOf goOn firstRoute isRun noLonger partRoute holds supplyUnitOn friends
 searching = 0
 
 abbrev pub standing : ℕ → ℕ

@@ -1,6 +1,6 @@
--- What the outlook of a retreating group is: a legal route, friends near who might be pushed, or neither, and a part route then.
+-- What the outlook of a retreating group is: a legal route, friends near who might be pushed, or neither.
 -- Assumes nothing.
-use Prim.Native.Nat.{ℕ, _≤_}
+use Prim.Native.Nat.{ℕ, _≤_, _<_}
 use mathlib.Core.Path.{_≡_}
 use mathlib.Core.Bool.{Bool, true, false, not, _&&_}
 use mathlib.Core.List.{List}
@@ -17,7 +17,7 @@ use Rattle.routes.specs.declared.Outlook.{Outlook}
 use Rattle.routes.specs.declared.Outlook.the-variants.{Legal, Illegal, Friends, Alone}
 use Rattle.routes.specs.Legal.{legal}
 use Rattle.routes.specs.Search.{firstRoute, found}
-use Rattle.routes.specs.Part.{partRoute}
+use Rattle.routes.specs.Part.{isRun}
 
 -- "A stack with a supply unit .. can't be pushed", and a step goes "into a hex that bears": so the hex x of a stack that force f can push
 -- holds units of f, no supply unit of f among them, and lies outside Enemy zones
@@ -39,10 +39,16 @@ pub record Nobody (b : Board) (f start : ℕ) : Type 0 where
       (x : ℕ) → On (b .map .width) (b .map .height) x → distanceOf (b .map .width) start x ≤ 3 → (x ≡ start → ⊥)
       → friends b f x ≡ false
 
+-- a route of k hexes is tested for r steps: the n that are owed, or its own where no legal route is found and it has fewer
+pub record Tested (found : Bool) (n k r : ℕ) : Type 0 where
+  pub owed : found ≡ true → r ≡ n
+  pub own : found ≡ false → k < n → r ≡ k
+  pub most : found ≡ false → n ≤ k → r ≡ n
+
 -- what each outlook says of a group that was sent this route. `Friends` says of pushes only that they have to be looked for
 abbrev pub OutlookOf : Board → ℕ → ℕ → ℕ → List ℕ → Outlook → Type 0
 OutlookOf b f start n route Legal = (found (firstRoute b f start n) ≡ true) × (legal b f start n route ≡ true)
 OutlookOf b f start n route Illegal = (found (firstRoute b f start n) ≡ true) × (legal b f start n route ≡ false)
-OutlookOf b f start n route (Friends part) = (found (firstRoute b f start n) ≡ false) × (part ≡ partRoute b f start route)
-OutlookOf b f start n route (Alone part) =
-    (found (firstRoute b f start n) ≡ false) × (part ≡ partRoute b f start route) × Nobody b f start
+OutlookOf b f start n route (Friends run) = (found (firstRoute b f start n) ≡ false) × (run ≡ isRun b f start route)
+OutlookOf b f start n route (Alone run) =
+    (found (firstRoute b f start n) ≡ false) × (run ≡ isRun b f start route) × Nobody b f start

@@ -8,7 +8,7 @@ use mathlib.Core.Logic.{_↔_}
 use lib.ListN.{length}
 use Rattle.position.specs.Board.{Board}
 use Rattle.routes.specs.Run.{LegalRoute, RouteExists}
-use Rattle.routes.specs.Legal.{legal}
+use Rattle.routes.specs.Legal.{along}
 use Rattle.routes.specs.Search.{firstRoute, found}
 
 -- "the longest run of steps that each keep a legal route's rules, distance at each step equal to the steps made": a run of k steps exists
@@ -23,15 +23,19 @@ pub record PartRoute (b : Board) (f start : ℕ) (route : List ℕ) : Type 0 whe
   pub longest : Longest b f start steps
   pub run : LegalRoute b f start steps route
 
+-- a route of any length is a run
+unfoldable pub isRun : Board → ℕ → ℕ → List ℕ → Bool
+isRun b f start route = along b f start 0 start route
+
 -- no run has more than k steps, for the search finds none of one step more
 unfoldable pub noLonger : Board → ℕ → ℕ → ℕ → Bool
 noLonger b f start k = not (found (firstRoute b f start (k + 1)))
 
 -- a route is a part route: this is asked where "a part route that is too short or not legal" is refused
 unfoldable pub partRoute : Board → ℕ → ℕ → List ℕ → Bool
-partRoute b f start route = legal b f start (length route) route && noLonger b f start (length route)
+partRoute b f start route = isRun b f start route && noLonger b f start (length route)
 
--- how many steps a group makes that owes n: n if a legal route exists, else those of the longest run
+-- how far a group gets that owes n hexes: n steps if a legal route exists, else those of the longest run
 unfoldable pub reach : Board → ℕ → ℕ → ℕ → ℕ
 reach b f start zero = 0
 reach b f start (suc n) = cond (found (firstRoute b f start (suc n))) (suc n) (reach b f start n)
@@ -40,7 +44,7 @@ reach b f start (suc n) = cond (found (firstRoute b f start (suc n))) (suc n) (r
 abbrev pub PartRight : Type 0
 PartRight = (b : Board) (f start : ℕ) (route : List ℕ) → (partRoute b f start route ≡ true) ↔ PartRoute b f start route
 
--- Where no run of n steps is found the longest has as many as the group makes. Proved there too.
+-- Where no run of n steps is found, that is the length of the longest. Proved there too.
 abbrev pub ReachRight : Type 0
 ReachRight =
     (b : Board) (f start n : ℕ) → found (firstRoute b f start n) ≡ false

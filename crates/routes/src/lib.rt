@@ -8,7 +8,7 @@ ghost use Prim.Native.Nat.{_<_, _≤_};
 ghost use lib.ListN.{length};
 ghost use Rattle.position.specs.Board.{board};
 ghost use Rattle.position.specs.Laid.{Laid};
-ghost use Rattle.routes.specs.Outlook.{OutlookOf};
+ghost use Rattle.routes.specs.Outlook.{OutlookOf, Tested};
 ghost use Rattle.routes.specs.Window.{Window};
 use grid::near;
 use paint::frame;
@@ -25,7 +25,7 @@ pub enum Found {
 }
 
 // Legal: the route that was sent is legal. Illegal: it is not, and another is. Friends: none is, and friends near the start might be
-// pushed. Alone: none is, and nobody near might be pushed. Where none is, it says too whether the route that was sent is a part route.
+// pushed. Alone: none is, and nobody near might be pushed. Where none is, it says too whether the route that was sent is a run.
 pub enum Outlook {
     Legal,
     Illegal,
@@ -33,8 +33,21 @@ pub enum Outlook {
     Alone(bool),
 }
 
-// What a window that was painted round the start tells: how far the group can go, whether the route sent is a run as far as that, and
-// whether there are friends if it is not as far as is owed.
+// How many steps the route is tested for: those that are owed, or its own where it has fewer and no legal route exists.
+fn tested(found: bool, n: usize, k: usize) -> usize
+    ensures { λ r. ⌜ Tested found n k r ⌝ }
+{
+    if found {
+        return n;
+    }
+    if k < n {
+        return k;
+    }
+    n
+}
+
+// What a window that was painted round the start tells: whether a legal route exists, whether the route sent is one, or a run, and
+// whether there are friends if none exists.
 fn tell(
     p: &[u8],
     v: View,
@@ -48,9 +61,10 @@ fn tell(
     requires { ⌜ Laid (now p) v × Window (now p) v f start at (now shown) × (length (now shown) ≡ 49) × (start < v .hexes) × (1 ≤ n) × (n ≤ 3) ⌝ }
     ensures { λ r. ⌜ OutlookOf (board (now (p .entry))) f start n (now (route .entry)) r ⌝ }
 {
-    let k = window::reach(p, v, at, shown, f, start, n);
+    let found = window::finds(p, v, at, shown, f, start, n);
+    let k = tested(found, n, route.len());
     let fits = sent::is_legal(p, v, at, shown, f, start, k, route);
-    if k < n {
+    if !found {
         let here = near::spot(v.width, v.height, start);
         if friends::near(shown, frame::place(v, at, here)) {
             return Outlook::Friends(fits);

@@ -1,4 +1,4 @@
-// Whether the route that was sent is a run of so many steps, over a window of the hexes round its start that was painted before.
+// Whether the route that was sent is legal, over a window of the hexes round its start that was painted before.
 ghost use mathlib.Core.Path.{_≡_};
 ghost use Prim.Native.Nat.{_<_, _≤_};
 ghost use Rattle.position.specs.Board.{board};
@@ -45,12 +45,11 @@ pub fn is_legal(
     requires { ⌜ Laid (now p) v × Window (now p) v f start at (now shown) × (start < v .hexes) × (n ≤ 3) ⌝ }
     ensures { λ r. ⌜ r ≡ legal (board (now (p .entry))) f start n (now (route .entry)) ⌝ }
 {
-    let k = route.len();
-    if k != n {
+    if route.len() != n {
         return false;
     }
     let mut a = start;
-    for i in 0..k {
+    for i in 0..n {
         let x = route[i] as usize;
         if !steps_to(p, v, at, shown, f, start, i, a, x) {
             return false;

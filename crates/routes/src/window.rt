@@ -11,8 +11,7 @@ ghost use Rattle.position.specs.Laid.{Laid};
 ghost use Rattle.paint.specs.Frame.{Inside};
 ghost use Rattle.routes.specs.Bears.{refuge};
 ghost use Rattle.routes.specs.Legal.{enters};
-ghost use Rattle.routes.specs.Search.{stepOf, firstRoute};
-ghost use Rattle.routes.specs.Part.{reach};
+ghost use Rattle.routes.specs.Search.{stepOf, firstRoute, found};
 ghost use Rattle.routes.specs.Window.{free, Edge, Around, Window};
 use crate::Found;
 use grid::Beside;
@@ -187,17 +186,13 @@ fn search(p: &[u8], v: View, at: Frame, shown: &[u8], f: usize, start: usize, n:
     found
 }
 
-// How many steps a group makes that owes `n`: the search is for fewer and fewer until it finds a run.
-pub fn reach(p: &[u8], v: View, at: Frame, shown: &[u8], f: usize, start: usize, n: usize) -> usize
-    requires { ⌜ Laid (now p) v × (start < v .hexes) × (n ≤ 3) × Window (now p) v f start at (now shown) ⌝ }
-    ensures { λ r. ⌜ r ≡ reach (board (now (p .entry))) f start n ⌝ }
+// Whether it finds one.
+pub fn finds(p: &[u8], v: View, at: Frame, shown: &[u8], f: usize, start: usize, n: usize) -> bool
+    requires { ⌜ Laid (now p) v × (start < v .hexes) × (1 ≤ n) × (n ≤ 3) × Window (now p) v f start at (now shown) ⌝ }
+    ensures { λ r. ⌜ r ≡ found (firstRoute (board (now (p .entry))) f start n) ⌝ }
 {
-    let mut k = n;
-    while 0 < k {
-        let Found::Nothing = search(p, v, at, shown, f, start, k) else {
-            return k;
-        };
-        k -= 1;
+    if let Found::Nothing = search(p, v, at, shown, f, start, n) {
+        return false;
     }
-    k
+    true
 }

@@ -1,8 +1,10 @@
 -- `fate::by_pushes` meets its contract: each answer about pushes comes to its fate.
 -- Assumes nothing.
+use mathlib.Core.Bool.{Bool}
 use mathlib.Core.Path.{_≡_, ap, sym, _∙_}
 use borrow.Author.Needs.{needs}
 use Rattle.position.specs.Board.{board}
+use Rattle.routes.specs.Part.{partRoute}
 use Rattle.pushes.specs.Pushes.{served}
 use Rattle.shoves.specs.Group.{groupForce}
 use Rattle.retreat.specs.Fate.{lostFate, servedFate}
@@ -34,6 +36,9 @@ judge-requires c κs = search needs
 enum-told : tie.Need-enum-told
 enum-told c = search needs
 
+is-part-requires : tie.Need-is-part-requires
+is-part-requires c κs = search needs
+
 by-part-requires : tie.Need-by-part-requires
 by-part-requires c κs = search needs
 
@@ -45,23 +50,29 @@ enum-told-3 c = search needs
 
 returns : tie.Need-returns
 returns c =
-    let j = c .before .before .before in
+    let i = c .before in
+    let j = i .before .before .before in
     let s = j .before .before .before .before .before .before .args in
-    let lost = lostFate (s .part) (s .pushes .now) in
-    c .by-part .ensures ∙ ap (servedFate lost) (sym (c .before .enum-told .given .1) ∙ known j)
+    let b = board (s .p .now) in
+    let lost = lostFate (partRoute b (groupForce b (s .h)) (s .h) (s .route .now)) (s .pushes .now) in
+    c .by-part .ensures
+    ∙ ap (λ (t : Bool). lostFate t (s .pushes .now)) (i .is-part .ensures)
+    ∙ ap (servedFate lost) (sym (i .before .enum-told .given .1) ∙ known j)
 
 returns-2 : tie.Need-returns-2
 returns-2 c =
     let j = c .before .before in
     let s = j .before .before .before .before .before .before .args in
-    let lost = lostFate (s .part) (s .pushes .now) in
+    let b = board (s .p .now) in
+    let lost = lostFate (partRoute b (groupForce b (s .h)) (s .h) (s .route .now)) (s .pushes .now) in
     ap (servedFate lost) (sym (c .enum-told2 .given .1) ∙ known j)
 
 returns-3 : tie.Need-returns-3
 returns-3 c =
     let j = c .before .before in
     let s = j .before .before .before .before .before .before .args in
-    let lost = lostFate (s .part) (s .pushes .now) in
+    let b = board (s .p .now) in
+    let lost = lostFate (partRoute b (groupForce b (s .h)) (s .h) (s .route .now)) (s .pushes .now) in
     ap (servedFate lost) (sym (c .enum-told3 .given .1) ∙ known j)
 
 pub by-pushes-spec : {M : Type 1} → statement M
@@ -72,6 +83,7 @@ by-pushes-spec =
     owed-requires
     judge-requires
     enum-told
+    is-part-requires
     by-part-requires
     enum-told-2
     enum-told-3

@@ -1,5 +1,6 @@
--- `fate::judge` meets its contract: it is asked for the group's force and for what is owed.
+-- `fate::judge` meets its contract: it is asked for the group's force.
 -- Assumes nothing.
+use mathlib.Core.Path.{refl}
 use borrow.Author.Needs.{needs}
 use Rattle.position.specs.Board.{board}
 use Rattle.retreat.proofs.Groups.{outlook-as}
@@ -9,17 +10,14 @@ use Rattle.retreat.proofs.fate.judge.Tie as tie
 group-force-requires : tie.Need-group-force-requires
 group-force-requires c κs = search needs
 
-owed-requires : tie.Need-owed-requires
-owed-requires c κs = search needs
-
 judge-requires : tie.Need-judge-requires
 judge-requires c κs = search needs
 
 returns : tie.Need-returns
 returns c =
-    let s = c .before .before .before .before .before .args in
-    outlook-as (board (s .p .now)) (s .h) (s .route .now) (c .judge .result) (c .before .before .group-force .ensures)
-    (c .before .owed .ensures .is) (c .judge .ensures)
+    let s = c .before .before .before .before .args in
+    outlook-as (board (s .p .now)) (s .h) (s .route .now) (c .judge .result) (c .before .group-force .ensures) refl
+    (c .judge .ensures)
 
 pub judge-spec : {M : Type 1} → statement M
-judge-spec = tie.close (tie.spec group-force-requires owed-requires judge-requires returns)
+judge-spec = tie.close (tie.spec group-force-requires judge-requires returns)
