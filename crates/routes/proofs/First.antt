@@ -38,7 +38,7 @@ use Rattle.routes.proofs.Steps.{step-is, is-step}
 
 module _ (b : Board) (f start : ℕ) where
   -- a run of `left` hexes that goes on from hex a after i steps
-  record Way (i left a : ℕ) : Type 0 where
+  pub record Way (i left a : ℕ) : Type 0 where
     pub route : List ℕ
     pub long : length route ≡ left
     pub last : ℕ

@@ -14,27 +14,21 @@ use Rattle.position.proofs.Tallies.{both-yes, either, not-both}
 use Rattle.routes.specs.Run.{Run, stay, go, LegalRoute, RouteExists}
 use Rattle.routes.specs.Legal.{legal}
 use Rattle.routes.specs.Search.{firstRoute, found}
-use Rattle.routes.specs.Part.{Longest, PartRoute, isRun, noLonger, partRoute, reach, PartRight, ReachRight}
+use Rattle.routes.specs.Part.{Longest, isRun, noLonger, partRoute, reach, PartRight, ReachRight}
 use Rattle.routes.specs.Outlook.{Tested}
-use Rattle.routes.proofs.First.{found-right}
+use Rattle.routes.proofs.First.{Way, found-right}
 use Rattle.routes.proofs.Legal.{legal-right, right-length}
 
 module _ (b : Board) (f start : ℕ) where
   -- the first k hexes of a run
-  record Cut (i a k : ℕ) : Type 0 where
-    pub route : List ℕ
-    pub long : length route ≡ k
-    pub last : ℕ
-    pub run : Run b f start i a route last
-
-  cut : {i a last : ℕ} {route : List ℕ} (k : ℕ) → Run b f start i a route last → k ≤ length route → Cut i a k
+  cut : {i a last : ℕ} {route : List ℕ} (k : ℕ) → Run b f start i a route last → k ≤ length route → Way b f start i k a
   cut {a = a} zero r l = record { route = []; long = refl; last = a; run = stay }
   cut (suc k) stay l = absurd (omega arith)
   cut (suc k) (go {x = x} d s r) l =
       let c = cut k r (omega arith) in
       record { route = x ∷ c .route; long = ap suc (c .long); last = c .last; run = go d s (c .run) }
 
-  pub cut-route : (j k : ℕ) → k ≤ j → RouteExists b f start j → RouteExists b f start k
+  cut-route : (j k : ℕ) → k ≤ j → RouteExists b f start j → RouteExists b f start k
   cut-route j k l r =
       let c = cut k (r .1 .run) (omega (arith, r .1 .long)) in
       (c .route, record { long = c .long; last = c .last; run = c .run })
