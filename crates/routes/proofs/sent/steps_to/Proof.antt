@@ -1,6 +1,7 @@
 -- `sent::steps_to` meets its contract, test by test.
 -- Assumes nothing.
 use mathlib.Core.Path.{sym, _∙_}
+use native.Mathlib.Omega.{arith}
 use borrow.Author.Needs.{needs}
 use borrow.Author.Tests.{not-true, not-false}
 use Rattle.routes.specs.Legal.{stepsTo}
@@ -18,7 +19,7 @@ returns c = simp (sym (c .before .joined .ensures) ∙ not-true _ (c .if1 .taken
 enters-requires : tie.Need-enters-requires
 enters-requires c κs =
     let s = c .before .before .before .before .pre in
-    (s .0, s .1, s .2, joined-in (s .0) _ _ (sym (c .before .joined .ensures) ∙ not-false _ (c .if1 .left)), s .3)
+    (s .0, s .1, s .2, joined-in (s .0) _ _ (sym (c .before .joined .ensures) ∙ not-false _ (c .if1 .left)), omega (arith, s .3))
 
 returns-2 : tie.Need-returns-2
 unfolding stepsTo
