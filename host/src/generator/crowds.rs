@@ -2,7 +2,7 @@
 
 use super::chance::Chance;
 use super::retreat_orders::{any_series, beside};
-use super::scene::{empty_scene, set_side, takes, unit_of};
+use super::scene::{retreat_scene, set_side, takes, unit_of};
 use super::staged::{give_role, write_routes};
 use crate::position::*;
 use crate::pushes::{Step, Way};
@@ -123,15 +123,7 @@ fn zone_decides(mut way: Way, series: &[Step]) -> bool {
 
 /// A position and the hex where the group owes.
 fn attempt(chance: &mut Chance, owed: u8, wanted: Wanted) -> (Position, usize) {
-    let size = match chance.below(12) {
-        0 => (chance.byte(3, 10), 1),
-        1 => (1, chance.byte(3, 10)),
-        _ => (chance.byte(3, 7), chance.byte(3, 7)),
-    };
-    let mut position = empty_scene(chance, size);
-    position.desk.phase = COMBAT;
-    position.desk.stage = RETREATS;
-    position.desk.owed_retreat = owed;
+    let mut position = retreat_scene(chance, (3, 10), owed);
     let (force, start) = (chance.byte(0, 3), chance.below(position.map.hexes.len()));
     open(chance, &mut position, start);
     let weights = if wanted == Wanted::Behind { [1, 2, 6, 1] } else { [3, 2, 1, 3] };

@@ -3,7 +3,7 @@
 use super::chance::Chance;
 use super::crowds::{add, close, group, open, others_that_owe, stack};
 use super::part_route_orders::curls;
-use super::scene::{empty_scene, set_side};
+use super::scene::{retreat_scene, set_side};
 use super::staged::give_role;
 use crate::part_routes::part_routes;
 use crate::position::*;
@@ -67,15 +67,7 @@ fn only_supply_units_owe(position: &mut Position, start: usize) {
 
 /// A position and the hex where the group owes: a pocket around it, whose rim is barred in several ways.
 fn attempt(chance: &mut Chance, wanted: Wanted) -> (Position, usize) {
-    let size = match chance.below(12) {
-        0 => (chance.byte(2, 6), 1),
-        1 => (1, chance.byte(2, 6)),
-        _ => (chance.byte(3, 7), chance.byte(3, 7)),
-    };
-    let mut position = empty_scene(chance, size);
-    position.desk.phase = COMBAT;
-    position.desk.stage = RETREATS;
-    position.desk.owed_retreat = wanted.owed as u8;
+    let mut position = retreat_scene(chance, (2, 6), wanted.owed as u8);
     let (force, start) = (chance.byte(0, 3), chance.below(position.map.hexes.len()));
     let enemy = (force + chance.byte(1, 3)) % 4;
     open(chance, &mut position, start);

@@ -63,6 +63,20 @@ pub fn empty_scene(chance: &mut Chance, size: (u8, u8)) -> Position {
     position
 }
 
+/// A small map with nobody on it, now and then a lane between these lengths, where retreats of so many hexes are owed.
+pub fn retreat_scene(chance: &mut Chance, (shortest, longest): (u8, u8), owed: u8) -> Position {
+    let size = match chance.below(12) {
+        0 => (chance.byte(shortest, longest), 1),
+        1 => (1, chance.byte(shortest, longest)),
+        _ => (chance.byte(3, 7), chance.byte(3, 7)),
+    };
+    let mut position = empty_scene(chance, size);
+    position.desk.phase = COMBAT;
+    position.desk.stage = RETREATS;
+    position.desk.owed_retreat = owed;
+    position
+}
+
 fn chart(chance: &mut Chance, ground: Ground) -> Chart {
     let mut terrain = |_| Effect { cost: terrain_cost(chance, ground), multiple: chance.byte(1, 4) };
     let mut terrains: [Effect; 16] = std::array::from_fn(&mut terrain);
