@@ -26,7 +26,7 @@ routeFate b h route pushes =
 unfoldable pub pushFate : Board → ℕ → List ℕ → List ℕ → Fate
 pushFate b h route pushes = cond (legalPushes b (groupForce b h) h (b .desk .owed) route pushes) Pushing NoPushes
 
--- the fate that an answer about pushes comes to, for one who would be destroyed with this fate
+-- the fate that an answer about pushes comes to; `lost` is that of a group whom none serve
 abbrev pub servedFate : Fate → Served → Fate
 servedFate lost None = lost
 servedFate lost Wrong = NoPushes

@@ -62,7 +62,8 @@ answerTo p h route pushes = outcome p [] (retreatVerdict p h route pushes) .answ
 abbrev pub boardAfter : List ℕ → ℕ → List ℕ → List ℕ → Board
 boardAfter p h route pushes = board (outcome p [] (retreatVerdict p h route pushes) .position)
 
--- "Its role 1 units go together": all that owe in a hex are of the group's force. Proved, like the rest, in proofs/Words.antt.
+-- "Its role 1 units go together": all that owe in a hex are of the group's force. Proved, like the rest but for RoadRight,
+-- in proofs/Words.antt.
 abbrev pub GroupRight : Type 0
 GroupRight =
     (p : List ℕ) (h u : ℕ) → Accepted p → u < board p .units .count → owesAt (board p) h u ≡ true
@@ -90,7 +91,7 @@ TrappedRight =
     → (answerTo p h route pushes ≡ refused 14 0) ↔ (PartFor (board p) h route × (pushes ≡ []) → ⊥)
 
 -- "The route written is start and part route": when a group is destroyed its road, the next on the desk, is the start and a part route,
--- 65535 behind it. It is there as long as the battle goes on; where it is over all routes are cleared
+-- 65535 behind it. It is there as long as the battle goes on; where it is over all routes are cleared. Proved in proofs/Road.antt.
 pub record Road (p : List ℕ) (h : ℕ) (route : List ℕ) (after : Board) : Type 0 where
   pub longest : PartFor (board p) h route
   pub written : (j : ℕ) → j ≤ 3 → after .desk .route (routes (board p)) j ≡ getD (h ∷ route) j nowhere

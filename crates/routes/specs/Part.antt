@@ -23,7 +23,7 @@ pub record PartRoute (b : Board) (f start : ℕ) (route : List ℕ) : Type 0 whe
   pub longest : Longest b f start steps
   pub run : LegalRoute b f start steps route
 
--- a route of any length is a run
+-- whether a route, however long it is, is a run
 unfoldable pub isRun : Board → ℕ → ℕ → List ℕ → Bool
 isRun b f start route = along b f start 0 start route
 
