@@ -1,20 +1,26 @@
--- Laws of how a hex is cleared: no push is left or it is vacant, and nothing is done; or the first push is carried out after the others.
+-- Laws of how a hex is cleared: no push is left or it is vacant, and nothing is done; or the first push is carried out after the others. So
+-- a chain is carried out from its last push to its first.
 -- Assumes nothing.
-use Prim.Native.Nat.{ℕ, _+_, _≤_, _<_}
-use mathlib.Core.Path.{_≡_, refl, sym, ap, ap₂, _∙_}
+use Prim.Native.Nat.{ℕ, _+_, _-_, _≤_, _<_}
+use mathlib.Core.Path.{_≡_, refl, sym, ap, ap₂, subst, _∙_}
 use mathlib.Core.Bool.{true, false}
 use mathlib.Core.List.{List, [], _∷_, _++_}
+use native.Mathlib.Decide.{decLt}
 use native.Mathlib.Numerals.{add-one}
+use native.Mathlib.Omega.{arith}
+use borrow.Author.Tests.{le-leb, lt-leb}
 use lib.ListN.{length, getD, drop, drop-of-length-le}
 use lib.Seq.{drop-cons}
 use Rattle.position.specs.Board.{Board, board}
 use Rattle.position.specs.Change.{makes}
 use Rattle.position.specs.Effect.{changes}
+use Rattle.position.specs.Laid.{Laid}
 use Rattle.position.specs.Shape.{Shaped}
-use Rattle.position.proofs.Changes.{board-makes, makes-then}
+use Rattle.position.specs.declared.View.{View}
+use Rattle.position.proofs.Changes.{board-makes, laid-makes, makes-then}
 use Rattle.field.specs.Scene.{scene}
 use Rattle.field.specs.Zone.{vacant}
-use Rattle.shoves.specs.Shoves.{Cleared, clears, stackTo}
+use Rattle.shoves.specs.Shoves.{Chained, ChainEnds, Cleared, clears, outOf, stackTo}
 
 -- the numbers from k on, of which there is one
 pub drop-next : (xs : List ℕ) (k : ℕ) → k < length xs → drop k xs ≡ getD xs k 0 ∷ drop (k + 1) xs
@@ -84,3 +90,62 @@ module _ (p : List ℕ) (h : ℕ) (pushes : List ℕ) (k : ℕ) where
             ∙ sym (makes-then xs (stackTo (changes b xs) h z) p)
             ∙ ap (λ (x : Cleared). makes p (x .done)) (sym y),
       )
+
+module _ (h : ℕ) (ps : List ℕ) (k : ℕ) where
+  -- the first push takes the stack of the hex that is cleared
+  pub out-first : (j : ℕ) → j ≤ k → outOf h ps k j ≡ h
+  unfolding outOf
+  out-first j l = simp (le-leb j k l)
+
+  -- each other takes that of the hex before it
+  pub out-later : (j : ℕ) → k < j → outOf h ps k j ≡ getD ps (j - 1) 0
+  unfolding outOf
+  out-later j l = simp (lt-leb j k l)
+
+module _ {b : Board} {h : ℕ} {ps : List ℕ} {k : ℕ} where
+  pub chain-none : k ≤ length ps → Chained b h ps k k
+  chain-none l = record { first = omega arith; few = l; held = λ j i m. absurd (omega (arith, i, m)) }
+
+  pub chain-more : {e : ℕ} → Chained b h ps k e → e < length ps → vacant (scene b) (outOf h ps k e) ≡ false → Chained b h ps k (e + 1)
+  chain-more {e} c l x =
+      record { first = omega (arith, c .first); few = omega (arith, l); held = λ j i m. at j i (decLt j e) m }
+    where
+      at : (j : ℕ) → k ≤ j → Dec (j < e) → j < e + 1 → vacant (scene b) (outOf h ps k j) ≡ false
+      at j i (yes y) m = c .held j i y
+      at j i (no y) m = subst (λ (n : ℕ). vacant (scene b) (outOf h ps k n) ≡ false) (omega (arith, y, m)) x
+
+-- the pushes of the chain from number j on are carried out; number e is the first behind it
+pub record DoneFrom (p₀ : List ℕ) (v : View) (h : ℕ) (ps : List ℕ) (k e : ℕ) (p : List ℕ) (j : ℕ) : Type 0 where
+  pub first : k ≤ j
+  pub most : j ≤ e
+  pub laid : Laid p v
+  pub cleared : Clear p₀ (outOf h ps k j) ps j e p
+
+module _ {p₀ : List ℕ} {v : View} {h : ℕ} {ps : List ℕ} {k e : ℕ} where
+  pub done-none : Laid p₀ v → ChainEnds (board p₀) h ps k e → DoneFrom p₀ v h ps k e p₀ e
+  done-none l c = record { first = c .chained .first; most = omega arith; laid = l; cleared = still-at (decLt e (length ps)) }
+    where
+      still-at : Dec (e < length ps) → Clear p₀ (outOf h ps k e) ps e e p₀
+      still-at (yes x) = clear-vacant p₀ (outOf h ps k e) ps e (c .chained .few) (c .ends x)
+      still-at (no x) = clear-none p₀ (outOf h ps k e) ps e (c .chained .few) (omega (arith, x))
+
+  pub done-more :
+      {p q : List ℕ} {j : ℕ} → Laid p₀ v → ChainEnds (board p₀) h ps k e → DoneFrom p₀ v h ps k e p j → k < j
+      → q ≡ makes p (stackTo (board p) (outOf h ps k (j - 1)) (getD ps (j - 1) 0)) → DoneFrom p₀ v h ps k e q (j - 1)
+  done-more {p} {q} {j} l c u i f =
+      let x : j ≡ j - 1 + 1 = omega arith in
+      record {
+        first = omega arith;
+        most = omega (arith, u .most);
+        laid = laid-makes _ (u .laid) f;
+        cleared =
+            clear-held p₀ (outOf h ps k (j - 1)) ps (j - 1) (l .shaped) (omega (arith, u .most, c .chained .few))
+            (c .chained .held (j - 1) (omega arith) (omega (arith, u .most)))
+            (subst (λ (m : ℕ). Clear p₀ (getD ps (j - 1) 0) ps m e p) x (subst (λ (m : ℕ). Clear p₀ m ps j e p) (out-later h ps k j i) (u .cleared)))
+            f;
+      }
+
+  pub done-all : {p : List ℕ} {j : ℕ} → DoneFrom p₀ v h ps k e p j → j ≤ k → Clear p₀ h ps k e p
+  done-all {p} {j} u l =
+      subst (λ (m : ℕ). Clear p₀ m ps k e p) (out-first h ps k k (omega arith))
+      (subst (λ (m : ℕ). Clear p₀ (outOf h ps k m) ps m e p) (omega (arith, u .first)) (u .cleared))

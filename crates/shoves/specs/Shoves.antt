@@ -1,9 +1,11 @@
 -- How route and pushes are carried out, step by step.
 -- Assumes nothing.
-use Prim.Native.Nat.{ℕ}
-use mathlib.Core.Bool.{cond}
+use Prim.Native.Nat.{ℕ, _-_, _≤_, _<_}
+use mathlib.Core.Path.{_≡_}
+use mathlib.Core.Bool.{cond, true, false}
 use mathlib.Core.List.{List, [], _∷_, _++_}
-use lib.Dec.{eqb}
+use lib.Dec.{leb, eqb}
+use lib.ListN.{length, getD}
 use Rattle.position.specs.Kind.{supplyKind}
 use Rattle.position.specs.Board.{Board}
 use Rattle.position.specs.Change.{Change}
@@ -33,6 +35,22 @@ clears b h [] = record { done = []; left = [] }
 clears b h (z ∷ ps) =
     cond (vacant (scene b) h) (record { done = []; left = z ∷ ps })
     (let r = clears b z ps in record { done = r .done ++ stackTo (changes b (r .done)) h z; left = r .left })
+
+-- out of which hex push j takes a stack, where hex h is cleared by the pushes from number k on: the first out of h, each other out of the hex
+-- that the push before it names
+unfoldable pub outOf : ℕ → List ℕ → ℕ → ℕ → ℕ
+outOf h ps k j = cond (leb j k) h (getD ps (j - 1) 0)
+
+-- the chain that clears hex h has the pushes from number k up to number e: each hex on the way is held
+pub record Chained (b : Board) (h : ℕ) (ps : List ℕ) (k e : ℕ) : Type 0 where
+  pub first : k ≤ e
+  pub few : e ≤ length ps
+  pub held : (j : ℕ) → k ≤ j → j < e → vacant (scene b) (outOf h ps k j) ≡ false
+
+-- and it ends there, before push e: "until a hex is vacant"
+pub record ChainEnds (b : Board) (h : ℕ) (ps : List ℕ) (k e : ℕ) : Type 0 where
+  pub chained : Chained b h ps k e
+  pub ends : e < length ps → vacant (scene b) (outOf h ps k e) ≡ true
 
 -- "supply units among them are destroyed", as the group leaves; the others go to hex x
 unfoldable pub goesTo : Board → ℕ → ℕ → List Change

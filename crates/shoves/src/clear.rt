@@ -9,7 +9,7 @@ ghost use Rattle.position.specs.Change.{makes};
 ghost use Rattle.position.specs.Laid.{Laid};
 ghost use Rattle.field.specs.Scene.{scene};
 ghost use Rattle.field.specs.Zone.{standsOn, vacant};
-ghost use Rattle.shoves.specs.Shoves.{shifts, stackTo, clears};
+ghost use Rattle.shoves.specs.Shoves.{shifts, stackTo, clears, outOf, ChainEnds};
 use position::View;
 use position::read;
 use position::write;
@@ -52,19 +52,42 @@ fn move_stack(p: &mut [u8], v: View, h: usize, z: usize)
     }
 }
 
+// Out of which hex push `j` takes a stack, where hex `h` is cleared by the pushes from number `k` on.
+fn out_of(h: usize, pushes: &[u16], k: usize, j: usize) -> usize
+    requires { ⌜ j ≤ length (now pushes) ⌝ }
+    ensures { λ r. ⌜ r ≡ outOf h (now (pushes .entry)) k j ⌝ }
+{
+    if j <= k {
+        return h;
+    }
+    pushes[j - 1] as usize
+}
+
+// The number of the first push behind the chain that clears hex `h` by the pushes from number `k` on.
+fn chain_end(p: &[u8], v: View, h: usize, pushes: &[u16], k: usize) -> usize
+    requires { ⌜ Laid (now p) v × (k ≤ length (now pushes)) ⌝ }
+    ensures { λ r. ⌜ ChainEnds (board (now (p .entry))) h (now (pushes .entry)) k r ⌝ }
+{
+    let mut e = k;
+    while e < pushes.len() {
+        if is_vacant(p, v, out_of(h, pushes, k, e)) {
+            return e;
+        }
+        e += 1;
+    }
+    e
+}
+
 // Hex `h` is cleared by the pushes from number `k` on; the answer is the number of the first that is left over.
 pub fn clear(p: &mut [u8], v: View, h: usize, pushes: &[u16], k: usize) -> usize
     requires { ⌜ Laid (now p) v × (k ≤ length (now pushes)) ⌝ }
     ensures { λ r. ⌜ (r ≤ length (now (pushes .entry))) × (drop r (now (pushes .entry)) ≡ clears (board (now (p .entry))) h (drop k (now (pushes .entry))) .left) × (now (p .exit) ≡ makes (now (p .entry)) (clears (board (now (p .entry))) h (drop k (now (pushes .entry))) .done)) ⌝ }
 {
-    if pushes.len() <= k {
-        return k;
+    let end = chain_end(p, v, h, pushes, k);
+    let mut j = end;
+    while k < j {
+        j -= 1;
+        move_stack(p, v, out_of(h, pushes, k, j), pushes[j] as usize);
     }
-    if is_vacant(p, v, h) {
-        return k;
-    }
-    let z = pushes[k] as usize;
-    let rest = clear(p, v, z, pushes, k + 1);
-    move_stack(p, v, h, z);
-    rest
+    end
 }
