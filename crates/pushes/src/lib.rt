@@ -36,7 +36,7 @@ fn judge_by(
 {
     draw::draw(p, v, f, start, room);
     let home = spot::home_for(v.width, start);
-    if !search::serves(room, home, n, 0, home) {
+    if !search::begins(room, home, n) {
         return Served::None;
     }
     if route.len() != n {

@@ -21,6 +21,10 @@ use Rattle.chains.specs.Chain.{Stands, rests, yields}
 use Rattle.sheet.specs.Sheet.{places}
 use Rattle.sheet.specs.Trail.{before, trailOf, TrailOk}
 
+-- where two stacks may still be pushed, one may
+pub one-left : {left : ℕ} → 2 ≤ left → 1 ≤ left
+one-left l = omega (arith, l)
+
 -- a place before others is named with them
 module _ (i : ℕ) (used : List ℕ) where
   before-none : i ≡ places → before i used ≡ used

@@ -111,17 +111,14 @@ fn mark_rests(sheet: &[u8], ends: &mut [u8], x: usize, t: usize, h: usize)
     }
 }
 
-// Whether a chain from the stack in place `h` on may end anywhere, where `left` stacks may still be pushed. The last stack is only asked
-// for a vacant place.
+// Whether a chain from the stack in place `h` on may end anywhere, where `left` stacks may still be pushed, two or three. The last stack is
+// only asked for a vacant place, so the recursion has two turns at most.
 pub fn can_end(sheet: &[u8], t: usize, left: usize, h: usize) -> bool
-    requires { ⌜ (length (now sheet) ≡ 182) × (1 ≤ left) × TrailOk t left × (h < 182) ⌝ }
+    requires { ⌜ (length (now sheet) ≡ 182) × (2 ≤ left) × TrailOk t left × (h < 182) ⌝ }
     ensures { λ r. ⌜ r ≡ any (endsIn (nextIn (now (sheet .entry))) (standIn (now (sheet .entry))) (trailOf t) left h) 182 ⌝ }
 {
     if has_rest(sheet, t, h) {
         return true;
-    }
-    if left < 2 {
-        return false;
     }
     let used = longer(t, h, left);
     for d in 0..6 {
@@ -154,17 +151,14 @@ fn mark_last(sheet: &[u8], ends: &mut [u8], x: usize, t: usize, h: usize)
     }
 }
 
-// Marks the places in which a chain from the stack in place `h` on may end, where `left` stacks may still be pushed. Each turn uses a place
-// more, and so those not used become fewer.
+// Marks the places in which a chain from the stack in place `h` on may end, where `left` stacks may still be pushed, two or three. Each turn
+// uses a place more, and so those not used become fewer: there are two turns at most.
 pub fn gather(sheet: &[u8], ends: &mut [u8], x: usize, t: usize, left: usize, h: usize)
-    requires { ⌜ (length (now sheet) ≡ 182) × (length (now ends) ≡ 91) × (x < 182) × (1 ≤ left) × TrailOk t left × Close x h (3 - left) ⌝ }
+    requires { ⌜ (length (now sheet) ≡ 182) × (length (now ends) ≡ 91) × (x < 182) × (2 ≤ left) × TrailOk t left × Close x h (3 - left) ⌝ }
     ensures { λ _. ⌜ Marks x (endsIn (nextIn (now (sheet .entry))) (standIn (now (sheet .entry))) (trailOf t) left h) (now (ends .entry)) (now (ends .exit)) ⌝ }
 {
     if has_rest(sheet, t, h) {
         mark_rests(sheet, ends, x, t, h);
-        return;
-    }
-    if left < 2 {
         return;
     }
     let used = longer(t, h, left);

@@ -40,7 +40,7 @@ fn last(sheet: &[u8], home: usize, i: usize, a: usize) -> bool
     false
 }
 
-// Whether `k` more steps go on from place `a` after `i` steps; the search itself is for more than one.
+// Whether `k` more steps go on from place `a` after `i` steps; the recursion is for more than one.
 fn go_on(sheet: &mut [u8], home: usize, k: usize, i: usize, a: usize) -> bool
     requires { ⌜ (length (now sheet) ≡ 182) × (home < 182) × (a < 182) × (k + i ≤ 3) ⌝ }
     ensures { λ r. ⌜ (r ≡ servesIn home (now (sheet .entry)) k i a) × (now (sheet .exit) ≡ now (sheet .entry)) ⌝ }
@@ -118,14 +118,12 @@ fn over(sheet: &mut [u8], home: usize, k: usize, i: usize, a: usize, x: usize) -
     }
 }
 
-// Whether a series of `k` more steps goes on from place `a` after `i` steps of a retreat that started from the place `home`.
-pub fn serves(sheet: &mut [u8], home: usize, k: usize, i: usize, a: usize) -> bool
-    requires { ⌜ (length (now sheet) ≡ 182) × (home < 182) × (a < 182) × (k + i ≤ 3) ⌝ }
+// Whether a series of `k` more steps goes on from place `a` after `i` steps of a retreat that started from the place `home`. There are two
+// or three, and one fewer in each turn of the recursion, so it has two turns at most.
+fn serves(sheet: &mut [u8], home: usize, k: usize, i: usize, a: usize) -> bool
+    requires { ⌜ (length (now sheet) ≡ 182) × (home < 182) × (a < 182) × (k + i ≤ 3) × (2 ≤ k) ⌝ }
     ensures { λ r. ⌜ (r ≡ servesIn home (now (sheet .entry)) k i a) × (now (sheet .exit) ≡ now (sheet .entry)) ⌝ }
 {
-    if k == 0 {
-        return true;
-    }
     for d in 0..6 {
         let Beside::At(x) = crate::next_in(sheet, a, d) else {
             continue;
@@ -135,4 +133,18 @@ pub fn serves(sheet: &mut [u8], home: usize, k: usize, i: usize, a: usize) -> bo
         }
     }
     false
+}
+
+// Whether a series of `k` steps goes on from the place `home`, from which the group starts.
+pub fn begins(sheet: &mut [u8], home: usize, k: usize) -> bool
+    requires { ⌜ (length (now sheet) ≡ 182) × (home < 182) × (k ≤ 3) ⌝ }
+    ensures { λ r. ⌜ (r ≡ servesIn home (now (sheet .entry)) k 0 home) × (now (sheet .exit) ≡ now (sheet .entry)) ⌝ }
+{
+    if k == 0 {
+        return true;
+    }
+    if k == 1 {
+        return last(sheet, home, 0, home);
+    }
+    serves(sheet, home, k, 0, home)
 }

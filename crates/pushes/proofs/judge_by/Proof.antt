@@ -17,14 +17,14 @@ use Rattle.pushes.proofs.judge_by.Tie as tie
 -- what the search said
 found : (c : tie.After-slice-known3) →
     let a = c .before .before .before .before .before .before .before .before .before .before .before .before .before .args in
-    c .before .before .serves .result ≡ pushesServe (board (a .p .now)) (a .f) (a .start) (a .n)
+    c .before .before .begins .result ≡ pushesServe (board (a .p .now)) (a .f) (a .start) (a .n)
 found c =
     let k = c .before .before in
     let home = k .before .before in
     let m = home .before .before .before in
     let s = m .before .before .before .before .before .before in
     searched (s .pre .0) (s .args .f) (s .args .start) (s .args .n) (s .pre .1) (s .pre .2) (m .draw .ensures) (home .home-for .ensures .0)
-    (k .serves .ensures .0)
+    (k .begins .ensures .0)
 
 -- and what the test said of the order
 followed : (c : tie.After-slice-known4) →
@@ -36,7 +36,7 @@ followed c =
     let t = k .before .before .before .before in
     let m = t .before .before .before .before .before in
     let s = m .before .before .before .before .before .before in
-    let d = subst (Drawn (board (s .args .p .now)) (s .args .f) (s .args .start)) (sym (t .serves .ensures .1)) (m .draw .ensures) in
+    let d = subst (Drawn (board (s .args .p .now)) (s .args .f) (s .args .start)) (sym (t .begins .ensures .1)) (m .draw .ensures) in
     tested (s .pre .0) (s .args .f) (s .args .start) (s .args .n) (s .pre .1) (s .pre .2) d (s .args .route .now) (s .args .pushes .now)
     (k .if2 .left) (c .before .before .follows .ensures)
 
@@ -46,12 +46,11 @@ draw-requires c κs = search needs
 home-for-requires : tie.Need-home-for-requires
 home-for-requires c κs = search needs
 
-serves-requires : tie.Need-serves-requires
-serves-requires c κs =
+begins-requires : tie.Need-begins-requires
+begins-requires c κs =
     let k = c .before .before .before .before in
     let s = k .before .before .before .before .before .before in
-    let home = c .before .home-for .ensures .1 in
-    (k .draw .ensures .long, home, home, omega (arith, s .pre .2))
+    (k .draw .ensures .long, c .before .home-for .ensures .1, s .pre .2)
 
 same-length : tie.Need-same-length
 same-length c = search needs
@@ -73,7 +72,7 @@ follows-requires c κs =
     let m = k .before .before .before .before .before in
     let s = m .before .before .before .before .before .before in
     let o = on-view (s .pre .0) (s .args .start) (s .pre .1) in
-    (ap length (k .serves .ensures .1) ∙ m .draw .ensures .long, o .wide, omega (arith, s .pre .1, s .pre .0 .fits .hexes))
+    (ap length (k .begins .ensures .1) ∙ m .draw .ensures .long, o .wide, omega (arith, s .pre .1, s .pre .0 .fits .hexes))
 
 same-length-3 : tie.Need-same-length-3
 same-length-3 c = search needs
@@ -97,7 +96,7 @@ judge-by-spec =
     (tie.spec
     draw-requires
     home-for-requires
-    serves-requires
+    begins-requires
     same-length
     returns
     same-length-2

@@ -172,17 +172,14 @@ serves-μ-loop sheet₀ home k i a d₀ sheet d = 6 - d
 abbrev serves-claims : ℕ → serves-lts.Claims
 serves-claims t = (next-in-reads.Asked, next-in-reads.Learnt, over-below t, over.Post)
 
-serves-returns : (t : ℕ) → serves-lts.Need-returns (serves-claims t) (serves-at t) serves.Post serves-Inv-loop serves-μ-loop
-serves-returns t c = (sym (serves-done _ _ _ _ _ (c .if1 .taken)), refl)
-
 serves-loop-holds : (t : ℕ) → serves-lts.Need-loop-holds (serves-claims t) (serves-at t) serves.Post serves-Inv-loop serves-μ-loop
 serves-loop-holds t c = record { same = refl; most = omega arith; none = any-zero _ }
 
 serves-next-in-requires : (t : ℕ) → serves-lts.Need-next-in-requires (serves-claims t)
     (serves-at t) serves.Post serves-Inv-loop serves-μ-loop
 serves-next-in-requires t c κs = (
-  ap length (c .before .before .loop .inv .same) ∙ c .before .before .before .before .before .pre .1 .0,
-  c .before .before .before .before .before .pre .1 .2,
+  ap length (c .before .before .loop .inv .same) ∙ c .before .before .before .before .pre .1 .0,
+  c .before .before .before .before .pre .1 .2,
   omega arith,
 )
 
@@ -191,10 +188,10 @@ serves-loop-again t c = unserved-off (c .before .before .before .before .before 
     (sym (c .before .before .next-in .ensures) ∙ c .enum-told .given .1)
 
 serves-sub-over : (t : ℕ) → serves-lts.Need-sub-over (serves-claims t) (serves-at t) serves.Post serves-Inv-loop serves-μ-loop
-serves-sub-over t c = omega (arith, c .before .before .before .before .before .before .before .before .if1 .left)
+serves-sub-over t c = omega (arith, c .before .before .before .before .before .before .before .before .before .pre .1 .4)
 
 serves-over-requires : (t : ℕ) → serves-lts.Need-over-requires (serves-claims t) (serves-at t) serves.Post serves-Inv-loop serves-μ-loop
-serves-over-requires t c κs = let p = c .before .before .before .before .before .before .before .before .before .before .pre .1 in (
+serves-over-requires t c κs = let p = c .before .before .before .before .before .before .before .before .before .pre .1 in (
   omega arith,
   (
     ap length (c .before .before .before .before .before .before .before .loop .inv .same) ∙ p .0,
@@ -209,13 +206,13 @@ serves-same-length : (t : ℕ) → serves-lts.Need-same-length (serves-claims t)
 serves-same-length t c = ap length (c .before .before .before .over .ensures .1
     ∙ c .before .before .before .before .before .before .before .before .before .before .before .loop .inv .same)
 
-serves-returns-2 : (t : ℕ) → serves-lts.Need-returns-2 (serves-claims t) (serves-at t) serves.Post serves-Inv-loop serves-μ-loop
-serves-returns-2 t c = (
+serves-returns : (t : ℕ) → serves-lts.Need-returns (serves-claims t) (serves-at t) serves.Post serves-Inv-loop serves-μ-loop
+serves-returns t c = (
   sym (served (c .before .before .before .before .before .before .before .before .before .before .before .loop .inv)
-      (c .before .before .before .before .before .before .before .before .before .before .before .before .if1 .left) (omega arith)
+      (λ e. omega (arith, e, c .before .before .before .before .before .before .before .before .before .before .before .before .before .pre .1 .4)) (omega arith)
       (sym (c .before .before .before .before .before .before .before .before .next-in .ensures)
       ∙ c .before .before .before .before .before .before .x .given .1) (sym (c .before .before .before .over .ensures .0)
-      ∙ c .if2 .taken)),
+      ∙ c .if1 .taken)),
   c .before .before .before .over .ensures .1
       ∙ c .before .before .before .before .before .before .before .before .before .before .before .loop .inv .same,
 )
@@ -224,10 +221,10 @@ serves-loop-again-2 : (t : ℕ) → serves-lts.Need-loop-again-2 (serves-claims 
 serves-loop-again-2 t c = unserved-over (c .before .before .before .before .before .before .before .before .before .before .before .loop
     .inv) (omega arith) (sym (c .before .before .before .before .before .before .before .before .next-in .ensures)
     ∙ c .before .before .before .before .before .before .x .given .1) (sym (c .before .before .before .over .ensures .0)
-    ∙ c .if2 .left) (c .before .before .before .over .ensures .1)
+    ∙ c .if1 .left) (c .before .before .before .over .ensures .1)
 
-serves-returns-3 : (t : ℕ) → serves-lts.Need-returns-3 (serves-claims t) (serves-at t) serves.Post serves-Inv-loop serves-μ-loop
-serves-returns-3 t c = (sym (unserved (c .before .loop .inv) (c .before .before .if1 .left) (omega arith)), c .before .loop .inv .same)
+serves-returns-2 : (t : ℕ) → serves-lts.Need-returns-2 (serves-claims t) (serves-at t) serves.Post serves-Inv-loop serves-μ-loop
+serves-returns-2 t c = (sym (unserved (c .before .loop .inv) (λ e. omega (arith, e, c .before .before .before .pre .1 .4)) (omega arith)), c .before .loop .inv .same)
 
 abbrev shoves-claims : ℕ → shoves-lts.Claims
 shoves-claims t = (with-ends-below t, with-ends.Post)
@@ -368,19 +365,15 @@ pub +go-on+over+serves+shoves+with-end+with-ends-spec : {M : Type 1} → stateme
 +go-on+over+serves+shoves+with-end+with-ends-spec =
     close μ-go-on μ-over μ-serves μ-shoves μ-with-end μ-with-ends
     (λ t. go-on-lts.spec (go-on-claims t) (go-on-at t) go-on.Post (go-on-returns t) (λ c κs. let p = c .before .before .before .before
-    .pre .1 in (p .0, p .1, p .2, omega arith)) (λ c. search needs) (go-on-returns-2 t) (λ c κs. (
-      omega arith,
-      c .before .before .before
-          .before .pre .1,
-    )) (λ c. search needs) (λ c. c .before .before .serves .ensures))
+    .pre .1 in (p .0, p .1, p .2, omega arith)) (λ c. search needs) (go-on-returns-2 t) (λ c κs. let p = c .before .before .before .before .pre .1 in
+    (omega arith, (p .0, p .1, p .2, p .3, omega arith))) (λ c. search needs) (λ c. c .before .before .serves .ensures))
     (λ t. over-lts.spec (over-claims t) (over-at t) over.Post (over-distance-requires t) (λ c. omega arith) (over-returns t)
     (over-stand-in-requires t) (λ c. search needs) (λ c. search needs) (λ c. omega arith) (over-go-on-requires t) (λ c. search needs)
     (over-shoves-requires t) (λ c. search needs) (over-returns-2 t) (λ c. search needs) (over-returns-3 t) (λ c. search needs)
     (over-returns-4 t))
-    (λ t. serves-lts.spec (serves-claims t) (serves-at t) serves.Post serves-Inv-loop serves-μ-loop (serves-returns t)
-    (serves-loop-holds t) (serves-next-in-requires t) (λ c. search needs) (λ c. search needs) (λ c. omega arith) (λ c. omega arith)
-    (serves-loop-again t) (serves-sub-over t) (serves-over-requires t) (serves-same-length t) (serves-returns-2 t) (λ c. omega arith) (λ
-    c. omega arith) (serves-loop-again-2 t) (λ c. search needs) (serves-returns-3 t))
+    (λ t. serves-lts.spec (serves-claims t) (serves-at t) serves.Post serves-Inv-loop serves-μ-loop (serves-loop-holds t) (serves-next-in-requires t) (λ c. search needs) (λ c. search needs) (λ c. omega arith) (λ c. omega arith)
+    (serves-loop-again t) (serves-sub-over t) (serves-over-requires t) (serves-same-length t) (serves-returns t) (λ c. omega arith) (λ
+    c. omega arith) (serves-loop-again-2 t) (λ c. search needs) (serves-returns-2 t))
     (λ t. shoves-lts.spec (shoves-claims t) (shoves-at t) shoves.Post (λ c. search needs) (shoves-with-ends-requires t) (λ c. search
     needs) (λ c. c .before .before .before .with-ends .ensures))
     (λ t. with-end-lts.spec (with-end-claims t) (with-end-at t) with-end.Post (λ c. omega arith) (λ c. omega arith)
