@@ -1,73 +1,73 @@
-//! The most stack that each call uses: the call is made on a painted stack of its own, which is read back.
-//! Ends with status 1 if a call uses more than 2,048 bytes.
+//! The stack that each call uses, in two ways: the most that `painted.c` found, which it prints on standard input here,
+//! and the most that is possible by the frames of the compiled library, whose disassembly is the file named.
+//! Ends with status 1 if a call may use more than 2,048 bytes, or uses more than the frames allow.
 
-use host::order::CALLS;
-use measure::cases::{cases, tiny, Case, SIZES};
-use measure::crowds::crowds;
-use measure::library::call;
-use std::arch::asm;
+use host::order::{Call, CALLS};
+use host::refusal::BROKEN_POSITION;
+use measure::bound::{bytes, chain, Link};
+use measure::disassembly::functions;
+use measure::frames::{frame, Frame};
+use std::collections::{BTreeMap, HashMap};
+use std::error::Error;
 
 const LIMIT: usize = 2048;
-const PAINT: u8 = 0xc5;
-const STACK: usize = 64 * 1024;
 
-struct Task<'a> {
-    case: &'a Case,
-    position: Vec<u8>,
-    lent: Vec<u8>,
-    answer: u64,
-}
-
-extern "C" fn make(task: *mut Task) {
-    // The pointer is that of `used`'s own task, which nobody else holds.
-    let task = unsafe { &mut *task };
-    task.answer = call(&mut task.position, &task.case.order, &mut task.lent);
-}
-
-extern "C" fn nothing(_: *mut Task) {}
-
-/// Bytes of a painted stack that a function leaves changed.
-fn used(function: extern "C" fn(*mut Task), task: &mut Task) -> usize {
-    let mut stack = vec![PAINT; STACK];
-    let top = (stack.as_mut_ptr() as usize + STACK) & !15;
-    // The function runs on the painted stack and comes back to this one.
-    unsafe {
-        asm!(
-            "mov r12, rsp",
-            "mov rsp, {top}",
-            "call {function}",
-            "mov rsp, r12",
-            top = in(reg) top,
-            function = in(reg) function,
-            in("rdi") task as *mut Task,
-            out("r12") _,
-            clobber_abi("C"),
-        );
+/// The name of a call in C, and the bytes of its arguments that have no register: six have one, and the stack is kept even.
+fn exported(call: Call) -> (&'static str, usize) {
+    match call {
+        Call::Supply => ("ia_supply", 0),
+        Call::Move => ("ia_move", 0),
+        Call::End => ("ia_end_phase", 0),
+        Call::Attack => ("ia_attack", 16),
+        Call::Retreat => ("ia_retreat", 16),
+        Call::Losses => ("ia_losses", 0),
+        Call::Advance => ("ia_advance", 0),
+        Call::Close => ("ia_close", 0),
     }
-    let untouched = stack.iter().take_while(|&&byte| byte == PAINT).count();
-    top - stack.as_ptr() as usize - untouched
 }
 
-fn measured(case: &Case) -> usize {
-    let mut task = Task { case, position: case.position.clone(), lent: case.lent(), answer: 1 };
-    let empty = used(nothing, &mut task);
-    let bytes = used(make, &mut task) - empty;
-    assert_eq!(task.answer & 255, 0, "{}, {} is refused", case.call, case.ground);
-    bytes
+/// `CALL BYTES ANSWER`. A position that is broken would show nothing but its check.
+fn painted(line: &str) -> Option<(Call, usize)> {
+    let [name, used, answer] = line.split(' ').collect::<Vec<_>>().try_into().ok()?;
+    let answer: u64 = answer.parse().ok()?;
+    (answer & 255 != u64::from(BROKEN_POSITION)).then_some((Call::named(name.as_bytes())?, used.parse().ok()?))
 }
 
-fn main() {
-    let mut all = [tiny(), crowds()].into_iter().flatten().collect::<Vec<_>>();
-    for (side, units) in SIZES {
-        all.extend(cases(side, units));
+/// The most that was found for each call.
+fn most_painted(text: &str) -> Result<BTreeMap<Call, usize>, Box<dyn Error>> {
+    let mut most = BTreeMap::new();
+    for line in text.lines() {
+        let (call, used) = painted(line).ok_or(format!("painted: {line}"))?;
+        let found: &mut usize = most.entry(call).or_default();
+        *found = used.max(*found);
     }
-    let mut over = false;
-    println!("| call | bytes of stack at most |");
-    println!("|---|---|");
-    for wanted in CALLS {
-        let most = all.iter().filter(|case| case.order.call() == wanted).map(measured).max().unwrap_or(0);
-        println!("| {} | {most} |", wanted.name());
-        over |= most > LIMIT;
+    Ok(most)
+}
+
+/// The deepest chain of calls from an exported one on.
+fn bound(frames: &HashMap<String, Frame>, call: Call) -> Result<Vec<Link>, String> {
+    let (name, arguments) = exported(call);
+    let arguments = (arguments > 0).then(|| ("arguments".to_string(), arguments));
+    Ok(arguments.into_iter().chain(chain(frames, name)?).collect())
+}
+
+fn main() -> Result<(), Box<dyn Error>> {
+    let disassembly = std::fs::read_to_string(std::env::args().nth(1).ok_or("no disassembly is named")?)?;
+    let all = functions(&disassembly);
+    let frames = all.iter().map(|f| Ok((f.name.clone(), frame(f)?))).collect::<Result<HashMap<_, _>, String>>()?;
+    let most = most_painted(&std::io::read_to_string(std::io::stdin())?)?;
+    let mut fits = true;
+    println!("| call | painted | by the frames | the deepest chain of calls |");
+    println!("|---|---|---|---|");
+    for call in CALLS {
+        let chain = bound(&frames, call)?;
+        let used = *most.get(&call).ok_or(format!("{} was not called", call.name()))?;
+        let links = chain.iter().map(|(name, bytes)| format!("{name} {bytes}")).collect::<Vec<_>>();
+        println!("| {} | {used} | {} | {} |", call.name(), bytes(&chain), links.join(", "));
+        fits &= used <= bytes(&chain) && bytes(&chain) <= LIMIT;
     }
-    std::process::exit(i32::from(over));
+    if fits {
+        return Ok(());
+    }
+    Err(format!("a call uses more than {LIMIT} bytes of stack, or more than its frames").into())
 }

@@ -1,10 +1,12 @@
 //! What each call costs: instructions where valgrind is there, and time, beside the second referee's time.
 //! `bench` prints the tables; `bench SIDE NUMBER` makes one call of one case, for valgrind to count.
 
+mod library;
+
 use host::referee::rule;
+use library::call;
 use measure::cases::{cases, tiny, Case, SIZES};
 use measure::crowds::crowds;
-use measure::library::call;
 use measure::scenes::TINY;
 use std::process::Command;
 use std::time::Instant;
