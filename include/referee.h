@@ -1,7 +1,7 @@
 /* The referee of Invasion: America as a C library: link libreferee.a, made by `rt staticlib referee`.
  *
  * A position is the bytes that the rules lay out. Nothing is set up and nothing is kept between calls. Every call takes anything:
- * any bytes, any length, a null pointer with length 0. Lent regions must not overlap.
+ * any bytes, any length, a null pointer with length 0. Lent regions must not overlap. No call uses more than 2,048 bytes of stack.
  *
  * The answer's low byte is the refusal's number, 0 if the call is accepted. Of a refusal bits 8 to 23 are the place in the list or
  * path, counted from 1, and 0 if there is none. Of an accepted attack bits 8 to 15 are the column, counted from 1, and bits 16 to 23

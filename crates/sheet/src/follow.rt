@@ -34,7 +34,8 @@ fn leads(sheet: &[u8], h: usize, z: usize) -> bool
     false
 }
 
-// The chain from the stack in place `h` on, by the pushes from number `k` on.
+// The chain from the stack in place `h` on, by the pushes from number `k` on. `left` stacks may still be pushed, three at most, and one fewer at
+// each turn.
 fn take(
     sheet: &[u8],
     w: usize,

@@ -135,7 +135,7 @@ fn serves(sheet: &mut [u8], home: usize, k: usize, i: usize, a: usize) -> bool
     false
 }
 
-// Whether a series of `k` steps goes on from the place `home`, from which the group starts.
+// Whether a series of `k` steps begins at the place `home`, from which the group starts.
 pub fn begins(sheet: &mut [u8], home: usize, k: usize) -> bool
     requires { ⌜ (length (now sheet) ≡ 182) × (home < 182) × (k ≤ 3) ⌝ }
     ensures { λ r. ⌜ (r ≡ servesIn home (now (sheet .entry)) k 0 home) × (now (sheet .exit) ≡ now (sheet .entry)) ⌝ }

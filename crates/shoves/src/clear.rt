@@ -87,7 +87,9 @@ pub fn clear(p: &mut [u8], v: View, h: usize, pushes: &[u16], k: usize) -> usize
     let mut j = end;
     while k < j {
         j -= 1;
-        move_stack(p, v, out_of(h, pushes, k, j), pushes[j] as usize);
+        let from = out_of(h, pushes, k, j);
+        let to = pushes[j] as usize;
+        move_stack(p, v, from, to);
     }
     end
 }

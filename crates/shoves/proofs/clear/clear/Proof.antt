@@ -30,19 +30,19 @@ sub-j c = search needs
 
 out-of-requires : tie.Need-out-of-requires Inv-loop μ-loop
 out-of-requires c κs =
-    let n = c .before .before in
+    let n = c .before in
     omega (arith, n .loop .inv .most, n .before .chain-end .ensures .chained .few)
 
-mul-move-stack : tie.Need-mul-move-stack Inv-loop μ-loop
-mul-move-stack c = search needs
+mul-to : tie.Need-mul-to Inv-loop μ-loop
+mul-to c = search needs
 
-shared-slice-read-move-stack : tie.Need-shared-slice-read-move-stack Inv-loop μ-loop
-shared-slice-read-move-stack c =
-    let n = c .before .before .before .before in
+shared-slice-read-to : tie.Need-shared-slice-read-to Inv-loop μ-loop
+shared-slice-read-to c =
+    let n = c .before .before .before in
     omega (arith, n .loop .inv .most, n .before .chain-end .ensures .chained .few)
 
-cast-move-stack : tie.Need-cast-move-stack Inv-loop μ-loop
-cast-move-stack c = omega (arith, c .shared-slice-known2 .given (c .before .before .before .before .loop .j - 1))
+cast-to : tie.Need-cast-to Inv-loop μ-loop
+cast-to c = omega (arith, c .shared-slice-known2 .given (c .before .before .before .loop .j - 1))
 
 move-stack-requires : tie.Need-move-stack-requires Inv-loop μ-loop
 move-stack-requires c κs = c .before .before .before .before .loop .inv .laid
@@ -52,8 +52,8 @@ loop-less c = search needs
 
 loop-again : tie.Need-loop-again Inv-loop μ-loop
 loop-again c =
-    let o = c .before .before .before .before in
-    let n = o .before .before .before in
+    let o = c .before .before .before .before .before in
+    let n = o .before .before in
     let s = n .before .before .before .before .before in
     let e = ap (λ (x : ℕ). makes (n .loop .p) (stackTo (board (n .loop .p)) x (getD (s .args .pushes .now) (n .loop .j - 1) 0))) (o .out-of .ensures) in
     done-more (s .pre .0) (n .before .chain-end .ensures) (n .loop .inv) (omega arith) (c .before .before .move-stack .ensures ∙ e)
@@ -74,9 +74,9 @@ clear-spec =
     loop-holds
     sub-j
     out-of-requires
-    mul-move-stack
-    shared-slice-read-move-stack
-    cast-move-stack
+    mul-to
+    shared-slice-read-to
+    cast-to
     move-stack-requires
     loop-less
     loop-again
