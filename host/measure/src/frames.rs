@@ -34,7 +34,7 @@ fn address(operands: &str) -> Result<u64, String> {
 fn onward(step: &Instruction) -> Result<Onward, String> {
     match step.name.as_str() {
         "ret" | "ud2" | "int3" | "hlt" => Ok(Onward::Nowhere),
-        "jmp" if step.linked.is_some() => Err(format!("it ends in another function, {}", step.operands)),
+        name if name.starts_with('j') && step.linked.is_some() => Err("it ends in another function".to_string()),
         "jmp" if step.operands.starts_with('*') => Ok(Onward::Table),
         "jmp" => address(&step.operands).map(Onward::To),
         name if name.starts_with('j') => address(&step.operands).map(Onward::NextOr),
@@ -48,10 +48,17 @@ fn number(operands: &str) -> Option<i64> {
     u64::from_str_radix(digits, 16).ok().map(|number| number as i64)
 }
 
+/// Whether an instruction sets the stack pointer or a part of it: its last operand, or either if it exchanges them.
+fn sets_pointer(step: &Instruction) -> bool {
+    let pointer = |operand: &str| ["%rsp", "%esp", "%sp", "%spl"].contains(&operand);
+    let exchanges = step.name.starts_with("xchg") || step.name.starts_with("xadd");
+    let last = step.operands.rsplit(',').next().is_some_and(pointer);
+    last || (exchanges && step.operands.split(',').any(pointer))
+}
+
 /// How far the stack pointer goes down.
 fn lowered(step: &Instruction) -> Result<i64, String> {
-    let sets = step.operands.rsplit(',').next() == Some("%rsp");
-    let moved = match (step.name.as_str(), sets) {
+    let moved = match (step.name.as_str(), sets_pointer(step)) {
         ("push", false) => Some(8),
         ("pop", false) => Some(-8),
         ("sub", true) => number(&step.operands),
@@ -209,12 +216,14 @@ mod tests {
     fn what_cannot_be_followed_is_an_error() {
         for code in [
             " 0:\tmov    %rbp,%rsp\n 3:\tret\n",
+            " 0:\txchg   %rsp,%rax\n 3:\tret\n",
+            " 0:\tsub    %rax,%rsp\n 3:\tret\n",
             " 0:\tpush   %rax\n 1:\tret\n",
             " 0:\tje     3 <f+0x3>\n 2:\tpush   %rax\n 3:\tret\n",
             " 0:\tnop\n",
             " 0:\tret\n 1:\tret\n",
             " 0:\tcall   *%rax\n 2:\tret\n",
-            " 0:\tjmp    5 <f+0x5>\n\t\t\t1: R_X86_64_PLT32\tg-0x4\n",
+            " 0:\tje     5 <f+0x5>\n\t\t\t1: R_X86_64_PLT32\tg-0x4\n 5:\tret\n",
         ] {
             assert!(of(code).is_err(), "{code}");
         }
