@@ -135,7 +135,8 @@ fn serves(sheet: &mut [u8], home: usize, k: usize, i: usize, a: usize) -> bool
     false
 }
 
-// Whether a series of `k` steps begins at the place `home`, from which the group starts.
+// Whether a series of `k` steps begins at the place `home`, from which the group starts. The search is entered here and not by `go_on`, so
+// that the compiled recursion is that of `serves`, in which the last step has no turn.
 pub fn begins(sheet: &mut [u8], home: usize, k: usize) -> bool
     requires { ⌜ (length (now sheet) ≡ 182) × (home < 182) × (k ≤ 3) ⌝ }
     ensures { λ r. ⌜ (r ≡ servesIn home (now (sheet .entry)) k 0 home) × (now (sheet .exit) ≡ now (sheet .entry)) ⌝ }
