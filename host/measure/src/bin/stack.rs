@@ -1,11 +1,12 @@
 //! The stack that each call uses, in two ways: the most that `painted.c` found, which it prints on standard input here,
 //! and the most that is possible by the frames of the compiled library, whose disassembly is the file named.
-//! Ends with status 1 if a call may use more than 2,048 bytes, or uses more than the frames allow.
+//! Ends with status 1 if a call may use more than 2,048 bytes, or uses more than the frames allow, or if the library exports
+//! a function that is not among the calls.
 
 use host::order::{Call, CALLS};
 use host::refusal::BROKEN_POSITION;
 use measure::bound::{bytes, chain, Link};
-use measure::disassembly::functions;
+use measure::disassembly::{functions, Function};
 use measure::frames::{frame, Frame};
 use std::collections::{BTreeMap, HashMap};
 use std::error::Error;
@@ -24,6 +25,12 @@ fn exported(call: Call) -> (&'static str, usize) {
         Call::Advance => ("ia_advance", 0),
         Call::Close => ("ia_close", 0),
     }
+}
+
+/// An exported function that no call stands for, and so is not measured. The exported ones have a name without a path.
+fn unmeasured(library: &[Function]) -> Option<&str> {
+    let known = |name: &str| CALLS.iter().any(|&call| exported(call).0 == name);
+    library.iter().map(|function| function.name.as_str()).find(|name| !name.contains("::") && !known(name))
 }
 
 /// `CALL BYTES ANSWER`. A position that is broken would show nothing but its check.
@@ -53,8 +60,11 @@ fn bound(frames: &HashMap<String, Frame>, call: Call) -> Result<Vec<Link>, Strin
 
 fn main() -> Result<(), Box<dyn Error>> {
     let disassembly = std::fs::read_to_string(std::env::args().nth(1).ok_or("no disassembly is named")?)?;
-    let all = functions(&disassembly);
-    let frames = all.iter().map(|f| Ok((f.name.clone(), frame(f)?))).collect::<Result<HashMap<_, _>, String>>()?;
+    let library = functions(&disassembly);
+    if let Some(name) = unmeasured(&library) {
+        return Err(format!("{name} is exported and not measured").into());
+    }
+    let frames = library.iter().map(|f| Ok((f.name.clone(), frame(f)?))).collect::<Result<HashMap<_, _>, String>>()?;
     let most = most_painted(&std::io::read_to_string(std::io::stdin())?)?;
     let mut fits = true;
     println!("| call | painted | by the frames | the deepest chain of calls |");
@@ -70,4 +80,17 @@ fn main() -> Result<(), Box<dyn Error>> {
         return Ok(());
     }
     Err(format!("a call uses more than {LIMIT} bytes of stack, or more than its frames").into())
+}
+
+#[cfg(test)]
+mod tests {
+    use super::*;
+
+    #[test]
+    fn an_exported_function_that_is_not_measured_is_named() {
+        let library =
+            |names: &[&str]| functions(&names.iter().map(|name| format!("00 <{name}>:\n")).collect::<String>());
+        assert_eq!(unmeasured(&library(&["acceptance::check", "ia_close"])), None);
+        assert_eq!(unmeasured(&library(&["acceptance::check", "ia_close", "ia_new"])), Some("ia_new"));
+    }
 }
