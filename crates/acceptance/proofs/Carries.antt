@@ -16,7 +16,7 @@ use Rattle.position.specs.Change.{Change}
 use Rattle.position.specs.Change.Change.{placed, destroyed, marked, assigned, timed, staged, routed, unrouted}
 use Rattle.position.specs.Effect.{withUnits, withDesk, change, changes}
 
--- the tables, the counters and the last turn
+-- the tables, the counters, the last turn and the players
 pub record Fixed (b c : Board) : Type 0 where
   pub chart : c .chart ≡ b .chart
   pub results : c .results ≡ b .results
@@ -26,13 +26,15 @@ pub record Fixed (b c : Board) : Type 0 where
   pub kind : c .units .kind ≡ b .units .kind
   pub allowance : c .units .allowance ≡ b .units .allowance
   pub lastTurn : c .desk .lastTurn ≡ b .desk .lastTurn
+  pub players : c .desk .player ≡ b .desk .player
 
 module _ (b : Board) where
-  -- other units with these counters, and another desk with this last turn
+  -- other units with these counters, and another desk with this last turn and these players
   fixed-both :
       (s : Units) (d : Desk) → s .count ≡ b .units .count → s .nationality ≡ b .units .nationality → s .kind ≡ b .units .kind
-      → s .allowance ≡ b .units .allowance → d .lastTurn ≡ b .desk .lastTurn → Fixed b (withDesk (withUnits b s) d)
-  fixed-both s d n t k a e =
+      → s .allowance ≡ b .units .allowance → d .lastTurn ≡ b .desk .lastTurn → d .player ≡ b .desk .player
+      → Fixed b (withDesk (withUnits b s) d)
+  fixed-both s d n t k a e g =
       record {
         chart = refl;
         results = refl;
@@ -42,19 +44,20 @@ module _ (b : Board) where
         kind = k;
         allowance = a;
         lastTurn = e;
+        players = g;
       }
 
   pub fixed-units :
       (s : Units) → s .count ≡ b .units .count → s .nationality ≡ b .units .nationality → s .kind ≡ b .units .kind
       → s .allowance ≡ b .units .allowance → Fixed b (withUnits b s)
-  fixed-units s n t k a = fixed-both s (b .desk) n t k a refl
+  fixed-units s n t k a = fixed-both s (b .desk) n t k a refl refl
 
-  pub fixed-desk : (d : Desk) → d .lastTurn ≡ b .desk .lastTurn → Fixed b (withDesk b d)
-  fixed-desk d e = fixed-both (b .units) d refl refl refl refl e
+  pub fixed-desk : (d : Desk) → d .lastTurn ≡ b .desk .lastTurn → d .player ≡ b .desk .player → Fixed b (withDesk b d)
+  fixed-desk d e g = fixed-both (b .units) d refl refl refl refl e g
 
   fixed-cond : (t : Bool) {c : Board} → Fixed b c → Fixed b (cond t c b)
   fixed-cond true f = f
-  fixed-cond false f = fixed-desk (b .desk) refl
+  fixed-cond false f = fixed-desk (b .desk) refl refl
 
   pub fixed-change : (x : Change) → Fixed b (change b x)
   unfolding change
@@ -62,10 +65,10 @@ module _ (b : Board) where
   fixed-change (destroyed u) = fixed-units _ refl refl refl refl
   fixed-change (marked u m) = fixed-units _ refl refl refl refl
   fixed-change (assigned u r) = fixed-units _ refl refl refl refl
-  fixed-change (timed t f ph) = fixed-desk _ refl
-  fixed-change (staged s n x) = fixed-desk _ refl
-  fixed-change (routed r w x y z) = fixed-desk _ refl
-  fixed-change unrouted = fixed-desk _ refl
+  fixed-change (timed t f ph) = fixed-desk _ refl refl
+  fixed-change (staged s n x) = fixed-desk _ refl refl
+  fixed-change (routed r w x y z) = fixed-desk _ refl refl
+  fixed-change unrouted = fixed-desk _ refl refl
 
 pub changes-then : (xs ys : List Change) (b : Board) → changes b (xs ++ ys) ≡ changes (changes b xs) ys
 unfolding changes
@@ -220,6 +223,7 @@ module _ {b c : Board} (f : Fixed b c) where
         map = rw (f .map) (l .map);
         units = u;
         clock = k;
+        players = rw (f .players) (l .players);
         stage = s;
         routes = r;
       }

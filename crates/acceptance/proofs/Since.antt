@@ -85,9 +85,11 @@ module _ {b c : Board} (most : b .map .hexes ≤ nowhere) (s : Since b c) where
         routes = routes-ok-by f (ap (λ (d : Desk). d .route) e) (s .routes);
       }
 
-  since-desk : (d : Desk) → d .lastTurn ≡ c .desk .lastTurn → OneClock (c .desk) d → RoutesOk (withDesk c d) → Since b (withDesk c d)
-  since-desk d e k o =
-      let f = fixed-desk c d e in
+  since-desk :
+      (d : Desk) → d .lastTurn ≡ c .desk .lastTurn → d .player ≡ c .desk .player → OneClock (c .desk) d → RoutesOk (withDesk c d)
+      → Since b (withDesk c d)
+  since-desk d e g k o =
+      let f = fixed-desk c d e g in
       record {
         fixed = fixed-trans (s .fixed) f;
         clock =
@@ -126,7 +128,7 @@ module _ {b c : Board} (most : b .map .hexes ≤ nowhere) (s : Since b c) where
   pub since-staged : (t n x : ℕ) → Since b (change c (staged t n x))
   unfolding change
   since-staged t n x =
-      since-desk (withStage (c .desk) t n x) refl (record { turn = refl; force = refl; phase = refl })
+      since-desk (withStage (c .desk) t n x) refl refl (record { turn = refl; force = refl; phase = refl })
       (routes-ok-by (fixed-change c (staged t n x)) refl (s .routes))
 
   pub since-routed :
@@ -134,11 +136,11 @@ module _ {b c : Board} (most : b .map .hexes ≤ nowhere) (s : Since b c) where
       → ((j : ℕ) → j < 4 → PlaceOk (change c (routed r w x y z)) r j) → Since b (change c (routed r w x y z))
   unfolding change
   since-routed r w x y z l n before path =
-      since-desk (withRoutes (c .desk) (reroute (c .desk .route) r w x y z)) refl (record { turn = refl; force = refl; phase = refl })
+      since-desk (withRoutes (c .desk) (reroute (c .desk .route) r w x y z)) refl refl (record { turn = refl; force = refl; phase = refl })
       (routes-written c r w x y z l n before path (s .routes))
 
   -- the routes are cleared
   pub since-unrouted : Since b (change c unrouted)
   unfolding change
   since-unrouted =
-      since-desk (withRoutes (c .desk) unfilled) refl (record { turn = refl; force = refl; phase = refl }) (routes-cleared c)
+      since-desk (withRoutes (c .desk) unfilled) refl refl (record { turn = refl; force = refl; phase = refl }) (routes-cleared c)

@@ -17,7 +17,7 @@ use Rattle.acceptance.proofs.Lawfuls.{Suited, suited-same, lawful-still
 
 -- what never changes, after one change and another
 pub fixed-refl : (b : Board) → Fixed b b
-fixed-refl b = fixed-desk b (b .desk) refl
+fixed-refl b = fixed-desk b (b .desk) refl refl
 
 pub fixed-trans : {b c d : Board} → Fixed b c → Fixed c d → Fixed b d
 fixed-trans f g =
@@ -30,6 +30,7 @@ fixed-trans f g =
       kind = g .kind ∙ f .kind;
       allowance = g .allowance ∙ f .allowance;
       lastTurn = g .lastTurn ∙ f .lastTurn;
+      players = g .players ∙ f .players;
     }
 
 pub fixed-changes : (xs : List Change) (b : Board) → Fixed b (changes b xs)

@@ -82,6 +82,14 @@ pub record ClockOk (d : Desk) : Type 0 where
   pub stage : d .stage ≤ 3
   pub combat : (d .stage ≡ 0 → ⊥) → d .phase ≡ 1
 
+-- "naming its player, 0..3"; "force 3 never shares a player"
+pub record PlayerOk (d : Desk) (f : ℕ) : Type 0 where
+  pub small : d .player f ≤ 3
+  pub apart : (f ≡ 3 → ⊥) → d .player f ≡ d .player 3 → ⊥
+
+abbrev pub PlayersOk : Desk → Type 0
+PlayersOk d = (f : ℕ) → f < 4 → PlayerOk d f
+
 -- "Stage 0: no roles or routes."
 pub record QuietOk (b : Board) : Type 0 where
   pub owing : holders b 1 ≡ 0
@@ -143,6 +151,7 @@ pub record Lawful (b : Board) : Type 0 where
   pub map : MapOk (b .map)
   pub units : UnitsOk b
   pub clock : ClockOk (b .desk)
+  pub players : PlayersOk (b .desk)
   pub stage : StageOk b
   pub routes : RoutesOk b
 

@@ -28,6 +28,7 @@ use Rattle.acceptance.specs.Accepted.{
   PairOk,
   UnitsOk,
   ClockOk,
+  PlayerOk,
   QuietOk,
   RetreatsOk,
   LossesOk,
@@ -72,8 +73,8 @@ shaped? p =
     (both (in? 1 (Layout.height p) 64)
     (both (entry? p 3 (Layout.unitsAt p) (Layout.unitsLength p))
     (both (decLe (Layout.count p) 400)
-    (both (entry? p 4 (Layout.deskAt p) Layout.deskLength)
-    (ℕ-discrete (length p) (Layout.deskAt p + Layout.deskLength)))))))))))
+    (both (entry? p 4 (Layout.deskAt p) (Layout.deskLength p))
+    (ℕ-discrete (length p) (Layout.deskAt p + Layout.deskLength p)))))))))))
 
 unfoldable pub mapped? : (b : Board) (u : ℕ) → Dec (MappedOk b u)
 mapped? b u =
@@ -158,6 +159,11 @@ clock? d =
     (both (decLe (d .phase) 2)
     (both (decLe (d .stage) 3) (given (never (ℕ-discrete (d .stage) 0)) (ℕ-discrete (d .phase) 1)))))))
 
+unfoldable pub player? : (d : Desk) (f : ℕ) → Dec (PlayerOk d f)
+player? d f =
+    iff (λ x. record { small = x .0; apart = x .1 }) (λ s. (s .small, s .apart))
+    (both (decLe (d .player f) 3) (given (never (ℕ-discrete f 3)) (never (ℕ-discrete (d .player f) (d .player 3)))))
+
 unfoldable pub quiet? : (b : Board) → Dec (QuietOk b)
 quiet? b =
     iff (λ x. record { owing = x .0; advancing = x .1 .0; routes = x .1 .1 }) (λ s. (s .owing, (s .advancing, s .routes)))
@@ -224,14 +230,16 @@ lawful? b =
       map = x .1 .1 .0;
       units = x .1 .1 .1 .0;
       clock = x .1 .1 .1 .1 .0;
-      stage = x .1 .1 .1 .1 .1 .0;
-      routes = x .1 .1 .1 .1 .1 .1;
+      players = x .1 .1 .1 .1 .1 .0;
+      stage = x .1 .1 .1 .1 .1 .1 .0;
+      routes = x .1 .1 .1 .1 .1 .1 .1;
     })
-    (λ s. (s .chart, (s .results, (s .map, (s .units, (s .clock, (s .stage, s .routes)))))))
+    (λ s. (s .chart, (s .results, (s .map, (s .units, (s .clock, (s .players, (s .stage, s .routes))))))))
     (both (below (terrain? (b .chart)) 18)
     (both (results? (b .results))
     (both (map? (b .map))
-    (both (units? b) (both (clock? (b .desk)) (both (stage? b) (below (route? b) 6)))))))
+    (both (units? b)
+    (both (clock? (b .desk)) (both (below (player? (b .desk)) 4) (both (stage? b) (below (route? b) 6))))))))
 
 unfoldable pub accepted? : (p : List ℕ) → Dec (Accepted p)
 accepted? p =

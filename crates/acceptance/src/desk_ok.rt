@@ -1,7 +1,8 @@
-// Whether the desk keeps its lines of document 01: the clock, the stage and what the stage asks of roles and routes.
+// Whether the desk keeps its lines of the documents: the clock, the players, the stage and what the stage asks of roles and routes.
 ghost use mathlib.Core.Path.{_≡_};
+ghost use Prim.Native.Nat.{_<_};
 ghost use Rattle.position.specs.Board.{board, desk};
-ghost use Rattle.acceptance.specs.Accepted.{ClockOk, QuietOk, RetreatsOk, LossesOk, AdvancesOk, DuringOk, StageOk};
+ghost use Rattle.acceptance.specs.Accepted.{ClockOk, PlayerOk, PlayersOk, QuietOk, RetreatsOk, LossesOk, AdvancesOk, DuringOk, StageOk};
 ghost use Rattle.position.specs.Laid.{Laid, Says};
 use crate::owing;
 use position::View;
@@ -35,6 +36,36 @@ pub fn clock_ok(p: &[u8], v: View) -> bool
     }
     if read::phase(p, v) != 1 {
         return false;
+    }
+    true
+}
+
+// Whether force `f` has a player, and not force 3's.
+fn player_ok(p: &[u8], v: View, f: usize) -> bool
+    requires { ⌜ Laid (now p) v ⌝ }
+    ensures { λ r. ⌜ Says r (PlayerOk (desk (now (p .entry))) f) ⌝ }
+{
+    let player = read::player(p, v, f);
+    if 3 < player {
+        return false;
+    }
+    if f == 3 {
+        return true;
+    }
+    if player == read::player(p, v, 3) {
+        return false;
+    }
+    true
+}
+
+pub fn players_ok(p: &[u8], v: View) -> bool
+    requires { ⌜ Laid (now p) v ⌝ }
+    ensures { λ r. ⌜ Says r (PlayersOk (desk (now (p .entry)))) ⌝ }
+{
+    for f in 0..4 {
+        if !player_ok(p, v, f) {
+            return false;
+        }
     }
     true
 }

@@ -36,6 +36,9 @@ fn lawful(p: &[u8], v: View) -> bool
     if !desk_ok::clock_ok(p, v) {
         return false;
     }
+    if !desk_ok::players_ok(p, v) {
+        return false;
+    }
     if !desk_ok::stage_ok(p, v) {
         return false;
     }

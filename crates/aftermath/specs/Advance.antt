@@ -1,7 +1,7 @@
 -- Advance and close: their refusals in their order, and what they change.
 -- Assumes nothing.
 use Prim.Native.Nat.{ℕ, _+_}
-use mathlib.Core.Bool.{Bool, not, _&&_}
+use mathlib.Core.Bool.{Bool, not, _&&_, _||_}
 use mathlib.Core.List.{List, [], _∷_, map}
 use lib.Dec.{leb, eqb}
 use Rattle.position.specs.Tally.{any}
@@ -16,7 +16,7 @@ use Rattle.ruling.specs.Verdict.{Verdict}
 use Rattle.ruling.specs.Verdict.Judge.{rule}
 use Rattle.ruling.specs.Verdict.Verdict.{refuseIf, judge}
 use Rattle.field.specs.Scene.{scene}
-use Rattle.field.specs.Zone.{holdsEnemy}
+use Rattle.field.specs.Zone.{holdsEnemy, holdsNeutral}
 use Rattle.field.specs.Listed.{sieve}
 use Rattle.aftermath.specs.Stage.{thenOn}
 
@@ -24,11 +24,15 @@ use Rattle.aftermath.specs.Stage.{thenOn}
 unfoldable pub mayAdvance : Board → ℕ → Bool
 mayAdvance b u = eqb (b .units .role u) 2
 
--- an Enemy of unit u stands on number i of route r
-unfoldable pub heldAt : Board → ℕ → ℕ → ℕ → Bool
-heldAt b u r i = holdsEnemy (scene b) (forceOf b u) (b .desk .route r i)
+-- an Enemy of unit u, or a force that is neutral to its own, stands on hex h
+unfoldable pub shut : Board → ℕ → ℕ → Bool
+shut b u h = holdsEnemy (scene b) (forceOf b u) h || holdsNeutral (scene b) (forceOf b u) h
 
--- number j of route r is the hex, "with no Enemy from its start to that hex", both included
+-- on number i of route r: "an advance over or onto one is 7"
+unfoldable pub heldAt : Board → ℕ → ℕ → ℕ → Bool
+heldAt b u r i = shut b u (b .desk .route r i)
+
+-- number j of route r is the hex, "with no Enemy from its start to that hex", both included, and no neutral force
 unfoldable pub clearTo : Board → ℕ → ℕ → ℕ → ℕ → Bool
 clearTo b u hex r j = eqb (b .desk .route r j) hex && not (any (heldAt b u r) (j + 1))
 

@@ -64,7 +64,7 @@ owing kind strength =
             marks = λ u. 1;
             role = λ u. 1;
           };
-      desk = record { turn = 1; lastTurn = 1; force = 2; phase = 1; stage = 2; owed = 0; need = 3; route = λ r j. nowhere };
+      desk = record { turn = 1; lastTurn = 1; force = 2; phase = 1; stage = 2; owed = 0; need = 3; route = λ r j. nowhere; player = λ f. f };
     }
 
 -- what is answered to a list of losses

@@ -11,6 +11,7 @@ ghost use Rattle.ruling.specs.Judged.{TestedOf};
 ghost use Rattle.ruling.specs.Answers.{answerAs};
 ghost use Rattle.aftermath.specs.Stage.{thenOn};
 ghost use Rattle.aftermath.specs.Advance.{
+  shut,
   heldAt,
   clearTo,
   serves,
@@ -34,15 +35,27 @@ use position::write;
 use ruling::Answer;
 use ruling::Tested;
 
-// Whether an Enemy of unit `u` stands on number `i` of route `r`.
+// Whether an Enemy of unit `u`, or a force that is neutral to its own, stands on hex `h`.
+fn shut(p: &[u8], v: View, u: usize, h: usize) -> bool
+    requires { ⌜ Laid (now p) v ⌝ }
+    ensures { λ b. ⌜ b ≡ shut (board (now (p .entry))) u h ⌝ }
+{
+    let f = forces::force_of(p, v, u);
+    if zone::holds_enemy(p, v, f, h) {
+        return true;
+    }
+    zone::holds_neutral(p, v, f, h)
+}
+
+// Whether number `i` of route `r` is shut to unit `u`.
 fn held_at(p: &[u8], v: View, u: usize, r: usize, i: usize) -> bool
     requires { ⌜ Laid (now p) v ⌝ }
     ensures { λ b. ⌜ b ≡ heldAt (board (now (p .entry))) u r i ⌝ }
 {
-    zone::holds_enemy(p, v, forces::force_of(p, v, u), read::route(p, v, r, i))
+    shut(p, v, u, read::route(p, v, r, i))
 }
 
-// Whether an Enemy of unit `u` stands on one of the first `n` numbers of route `r`.
+// Whether one of the first `n` numbers of route `r` is shut to unit `u`.
 fn held_along(p: &[u8], v: View, u: usize, r: usize, n: usize) -> bool
     requires { ⌜ Laid (now p) v × (n ≤ 4) ⌝ }
     ensures { λ b. ⌜ b ≡ any (heldAt (board (now (p .entry))) u r) n ⌝ }
@@ -57,7 +70,7 @@ fn held_along(p: &[u8], v: View, u: usize, r: usize, n: usize) -> bool
     false
 }
 
-// Whether number `j` of route `r` is the hex, with no Enemy from its start to there.
+// Whether number `j` of route `r` is the hex, with nothing shut from its start to there.
 fn clear_to(p: &[u8], v: View, u: usize, hex: usize, r: usize, j: usize) -> bool
     requires { ⌜ Laid (now p) v × (j < 4) ⌝ }
     ensures { λ b. ⌜ b ≡ clearTo (board (now (p .entry))) u hex r j ⌝ }

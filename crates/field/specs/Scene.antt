@@ -1,10 +1,10 @@
--- What zones and supply look at: the map, where units stand, their nationalities and types, and who is Enemy to whom.
--- Marks, roles, strengths and the desk are not in it, so they cannot matter.
+-- What zones and supply look at: the map, where units stand, their nationalities and types, and who is Enemy or neutral to whom.
+-- Marks, roles, strengths and the rest of the desk are not in it, so they cannot matter.
 -- Assumes nothing.
 use Prim.Native.Nat.{ℕ}
 use mathlib.Core.Bool.{Bool}
 use Rattle.position.specs.Kind.{force}
-use Rattle.position.specs.Board.{Board, Map, enemy}
+use Rattle.position.specs.Board.{Board, Map, enemy, neutral}
 
 pub record Scene : Type 0 where
   pub map : Map
@@ -13,6 +13,7 @@ pub record Scene : Type 0 where
   pub kind : ℕ → ℕ
   pub hex : ℕ → ℕ
   pub enemy : ℕ → ℕ → Bool
+  pub neutral : ℕ → ℕ → Bool
 
 abbrev pub scene : Board → Scene
 scene b =
@@ -23,6 +24,7 @@ scene b =
       kind = b .units .kind;
       hex = b .units .hex;
       enemy = enemy b;
+      neutral = neutral b;
     }
 
 -- the force of unit u

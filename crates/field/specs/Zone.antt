@@ -8,6 +8,8 @@ use Rattle.grid.specs.declared.Beside.the-variants.{At, Off}
 use Rattle.position.specs.Tally.{any}
 use Rattle.position.specs.Kind.{castsZone, supplyKind}
 use Rattle.position.specs.Ground.{beside, side}
+use Rattle.position.specs.declared.forces.Relation.{Relation}
+use Rattle.position.specs.declared.forces.Relation.the-variants.{Enemy, Neutral}
 use Rattle.field.specs.Scene.{Scene, forceIn}
 
 -- unit u stands on hex h
@@ -37,6 +39,22 @@ enemyOn s f h u = standsOn s h u && s .enemy f (forceIn s u)
 -- hex h holds an Enemy of force f
 unfoldable pub holdsEnemy : Scene → ℕ → ℕ → Bool
 holdsEnemy s f h = any (enemyOn s f h) (s .count)
+
+-- the same for a neutral force
+unfoldable pub neutralOn : Scene → ℕ → ℕ → ℕ → Bool
+neutralOn s f h u = standsOn s h u && s .neutral f (forceIn s u)
+
+unfoldable pub holdsNeutral : Scene → ℕ → ℕ → Bool
+holdsNeutral s f h = any (neutralOn s f h) (s .count)
+
+-- and for either of the two
+abbrev pub relatedOn : Scene → Relation → ℕ → ℕ → ℕ → Bool
+relatedOn s Enemy = enemyOn s
+relatedOn s Neutral = neutralOn s
+
+abbrev pub holdsRelated : Scene → Relation → ℕ → ℕ → Bool
+holdsRelated s Enemy = holdsEnemy s
+holdsRelated s Neutral = holdsNeutral s
 
 -- unit u is of force f, casts a zone, and stands on hex h
 unfoldable pub casterOn : Scene → ℕ → ℕ → ℕ → Bool

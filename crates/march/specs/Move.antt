@@ -17,7 +17,7 @@ use Rattle.ruling.specs.Verdict.{Verdict, along}
 use Rattle.ruling.specs.Verdict.Judge.{rule}
 use Rattle.ruling.specs.Verdict.Verdict.{refuseIf, judge}
 use Rattle.field.specs.Scene.{scene}
-use Rattle.field.specs.Zone.{holdsEnemy, enemyZone}
+use Rattle.field.specs.Zone.{holdsEnemy, holdsNeutral, enemyZone}
 use Rattle.field.specs.Working.{working}
 use Rattle.field.specs.Phasing.{notPhasing}
 use Rattle.field.specs.Listed.{onMapAll}
@@ -61,13 +61,14 @@ leavesZone b u l k = ltb 1 k && enemyZone (scene b) (forceOf b u) (l .at)
 unfoldable pub noStep : Board → ℕ → ℕ → Bool
 noStep b h x = not (joined (b .map) h x && standable b x)
 
--- the questions of the step to hex x, at place k: "each step 9, 7, 8, 10"
+-- the questions of the step to hex x, at place k: "each step 9, 7, 8, 10", and "18, a neutral force there, after 8"
 unfoldable pub step : Board → ℕ → Leg → ℕ → ℕ → Verdict → Verdict
 step b u l x k rest =
     refuseIf (leavesZone b u l k) 9 k
     (refuseIf (noStep b (l .at) x) 7 k
     (refuseIf (holdsEnemy (scene b) (forceOf b u) x) 8 k
-    (refuseIf (ltb (allowed b u) (afterStep b l x .spent)) 10 k rest)))
+    (refuseIf (holdsNeutral (scene b) (forceOf b u) x) 18 k
+    (refuseIf (ltb (allowed b u) (afterStep b l x .spent)) 10 k rest))))
 
 -- the questions of every step
 unfoldable pub steps : Board → ℕ → List ℕ → (Leg → Verdict) → Verdict

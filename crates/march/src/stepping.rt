@@ -77,7 +77,7 @@ fn no_step(p: &[u8], v: View, h: usize, x: usize) -> bool
     true
 }
 
-// The questions of the step to hex `x`, at place `k`: 9, 7, 8, 10.
+// The questions of the step to hex `x`, at place `k`: 9, 7, 8, 18, 10.
 pub fn one_step(p: &[u8], v: View, u: usize, at: usize, spent: usize, x: usize, k: usize) -> Way
     requires { ⌜ Laid (now p) v × (spent < 256) ⌝ }
     ensures { λ r.
@@ -91,6 +91,9 @@ pub fn one_step(p: &[u8], v: View, u: usize, at: usize, spent: usize, x: usize, 
     }
     if zone::holds_enemy(p, v, forces::force_of(p, v, u), x) {
         return Way::Stop(8, k);
+    }
+    if zone::holds_neutral(p, v, forces::force_of(p, v, u), x) {
+        return Way::Stop(18, k);
     }
     let total = spent + step_cost(p, v, at, x);
     if allowed(p, v, u) < total {

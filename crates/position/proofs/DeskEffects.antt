@@ -8,29 +8,42 @@ use native.Mathlib.Omega.{arith}
 use native.Mathlib.Decide.{decLt, ℕ-discrete}
 use lib.Dec.{ltb, eqb}
 use borrow.Author.Tests.{lt-ltb, le-ltb, eq-eqb, ne-eqb}
-use Rattle.position.specs.Layout.{strengthField, strength, deskByte, need, route, routeField, setDesk, setClock, setStage, setRouteHex, setRoute, clearRoutes}
+use Rattle.position.specs.Layout.{strengthField, strength, deskByte, need, route, routeField, player, setDesk, setClock, setStage, setRouteHex, setRoute, clearRoutes}
 use Rattle.position.specs.Board.{Units, Desk, units, desk, nowhere}
 use Rattle.position.specs.Shape.{Shaped}
 use Rattle.position.specs.Effect.{withClock, withStage, withRoutes, ofFour, reroute, unfilled}
 use Rattle.position.proofs.Tables.{route-in, route-past, route-over}
 use Rattle.position.proofs.Front.{Front, front-refl, front-trans, shaped-kept}
 use Rattle.position.proofs.Writes.{front-desk, unit-desk, desk-desk, desk-same}
-use Rattle.position.proofs.Effects.{need-from, route-from, desk-at, units-before}
+use Rattle.position.proofs.Effects.{need-from, route-from, player-from, desk-at, units-before}
 
 -- what bytes written to the desk one after another leave alone
 pub record Desked (p q : List ℕ) : Type 0 where
   pub front : Front p q
   pub units : units q ≡ units p
   pub strengths : (w : ℕ) → strength q w ≡ strength p w
+  pub players : (g : ℕ) → player q g ≡ player p g
 
-pub desked : (p : List ℕ) (f x : ℕ) → Desked p (setDesk p f x)
-desked p f x = record { front = front-desk p f x; units = units-before p f x; strengths = λ w. unit-desk p f x w strengthField (omega arith) }
+pub desked : (p : List ℕ) (f x : ℕ) → f < 56 → Desked p (setDesk p f x)
+desked p f x l =
+    record {
+      front = front-desk p f x;
+      units = units-before p f x;
+      strengths = λ w. unit-desk p f x w strengthField (omega arith);
+      players = player-from (front-desk p f x) (λ k m. desk-desk p f x k (λ e. omega arith));
+    }
 
 pub desked-refl : (p : List ℕ) → Desked p p
-desked-refl p = record { front = front-refl p; units = refl; strengths = λ w. refl }
+desked-refl p = record { front = front-refl p; units = refl; strengths = λ w. refl; players = λ g. refl }
 
 pub desked-then : {p q r : List ℕ} → Desked p q → Desked q r → Desked p r
-desked-then a b = record { front = front-trans (a .front) (b .front); units = b .units ∙ a .units; strengths = λ w. b .strengths w ∙ a .strengths w }
+desked-then a b =
+    record {
+      front = front-trans (a .front) (b .front);
+      units = b .units ∙ a .units;
+      strengths = λ w. b .strengths w ∙ a .strengths w;
+      players = λ g. b .players g ∙ a .players g;
+    }
 
 -- turn, force and phase
 module _ (p : List ℕ) (t f ph : ℕ) where
@@ -42,7 +55,8 @@ module _ (p : List ℕ) (t f ph : ℕ) where
 
   pub clock-desked : Desked p (setClock p t f ph)
   unfolding setClock
-  clock-desked = desked-then (desked-then (desked p 0 t) (desked turned₁ 2 f)) (desked turned₂ 3 ph)
+  clock-desked =
+      desked-then (desked-then (desked p 0 t (omega arith)) (desked turned₁ 2 f (omega arith))) (desked turned₂ 3 ph (omega arith))
 
   clock-far : (k : ℕ) → 4 ≤ k → deskByte (setDesk turned₂ 3 ph) k ≡ deskByte p k
   clock-far k l =
@@ -70,6 +84,7 @@ module _ (p : List ℕ) (t f ph : ℕ) where
           owed = clock-bytes 5 i;
           need = need-from p q (clock-bytes 6) (clock-bytes 7) i;
           route = fun-ext (λ r. fun-ext (route-from p q (λ k l. clock-far k (omega arith)) r)) i;
+          player = fun-ext (clock-desked .players) i;
         }
 
 -- stage, n and need
@@ -86,7 +101,9 @@ module _ (p : List ℕ) (st n x : ℕ) where
   pub stage-desked : Desked p (setStage p st n x)
   unfolding setStage
   stage-desked =
-      desked-then (desked-then (desked-then (desked p 4 st) (desked staged₁ 5 n)) (desked staged₂ 6 (x % 256))) (desked staged₃ 7 (x / 256))
+      desked-then
+      (desked-then (desked-then (desked p 4 st (omega arith)) (desked staged₁ 5 n (omega arith))) (desked staged₂ 6 (x % 256) (omega arith)))
+      (desked staged₃ 7 (x / 256) (omega arith))
 
   stage-far : (k : ℕ) → 8 ≤ k → deskByte (setDesk staged₃ 7 (x / 256)) k ≡ deskByte p k
   stage-far k l =
@@ -124,11 +141,12 @@ module _ (p : List ℕ) (st n x : ℕ) where
           owed = stage-bytes 5 i;
           need = need-set i;
           route = fun-ext (λ r. fun-ext (route-from p q stage-far r)) i;
+          player = fun-ext (stage-desked .players) i;
         }
 
 -- what a write to the routes leaves of the desk
-desk-routes : (p q : List ℕ) (f : ℕ → ℕ → ℕ) → ((k : ℕ) → k < 8 → deskByte q k ≡ deskByte p k) → ((r j : ℕ) → route q r j ≡ f r j) → desk q ≡ withRoutes (desk p) f
-desk-routes p q f h g =
+desk-routes : {p q : List ℕ} → Desked p q → (f : ℕ → ℕ → ℕ) → ((k : ℕ) → k < 8 → deskByte q k ≡ deskByte p k) → ((r j : ℕ) → route q r j ≡ f r j) → desk q ≡ withRoutes (desk p) f
+desk-routes {p} {q} s f h g =
     λ i.
     record {
       turn = h 0 (omega arith) i;
@@ -139,6 +157,7 @@ desk-routes p q f h g =
       owed = h 5 (omega arith) i;
       need = need-from p q (h 6 (omega arith)) (h 7 (omega arith)) i;
       route = fun-ext (λ r. fun-ext (g r)) i;
+      player = fun-ext (s .players) i;
     }
 
 -- past the fourth number of any route
@@ -163,7 +182,8 @@ module _ {p : List ℕ} (s : Shaped p) (r j h : ℕ) (lr : r < 6) (lj : j < 4) w
 
   route-hex-desked : Desked p (setRouteHex p r j h)
   unfolding setRouteHex
-  route-hex-desked = desked-then (desked p (routeField r j) (h % 256)) (desked routed₁ (routeField r j + 1) (h / 256))
+  route-hex-desked =
+      desked-then (desked p (routeField r j) (h % 256) (omega arith)) (desked routed₁ (routeField r j + 1) (h / 256) (omega arith))
 
   far-byte : (k : ℕ) → (k ≡ routeField r j → ⊥) → (k ≡ routeField r j + 1 → ⊥) → deskByte routed₂ k ≡ deskByte p k
   far-byte k m n = desk-desk routed₁ (routeField r j + 1) (h / 256) k n ∙ desk-desk p (routeField r j) (h % 256) k m
@@ -302,7 +322,7 @@ module _ {p : List ℕ} (s : Shaped p) (r a b c d : ℕ) where
       at (no n) = simp (le-ltb r 6 (omega arith))
 
   pub desk-route : desk (setRoute p r a b c d) ≡ withRoutes (desk p) (reroute (route p) r a b c d)
-  desk-route = desk-routes p (setRoute p r a b c d) (reroute (route p) r a b c d) route-near routes-set
+  desk-route = desk-routes route-desked (reroute (route p) r a b c d) route-near routes-set
 
 -- the routes emptied, one after another
 pub cleared-desked : {p : List ℕ} → Shaped p → (n : ℕ) → Desked p (clearRoutes p n)
@@ -338,7 +358,7 @@ cleared-routes {p} s (suc n) i k l m =
 
 pub desk-cleared : {p : List ℕ} → Shaped p → desk (clearRoutes p 6) ≡ withRoutes (desk p) unfilled
 unfolding unfilled
-desk-cleared {p} s = desk-routes p (clearRoutes p 6) unfilled (cleared-near s 6) (λ i k. at i k (decLt i 6))
+desk-cleared {p} s = desk-routes (cleared-desked s 6) unfilled (cleared-near s 6) (λ i k. at i k (decLt i 6))
   where
     at : (i k : ℕ) → Dec (i < 6) → route (clearRoutes p 6) i k ≡ nowhere
     at i k (yes l) = cleared-routes s 6 i k (omega arith) l

@@ -21,6 +21,9 @@ use Rattle.position.specs.Layout.{
   need,
   route,
   routeField,
+  playersField,
+  named,
+  player,
   setUnit,
   setDesk,
   setHex,
@@ -38,7 +41,7 @@ use Rattle.position.specs.Change.{Change, make, makes, turned}
 use Rattle.position.specs.Change.Change.{placed, destroyed, marked, assigned, timed, staged, routed, unrouted}
 use Rattle.position.specs.Effect.{upd, withHex, withMarks, withRole, withShown, withClock, withStage, withRoutes, ofFour, reroute, unfilled, withUnits, withDesk, change, changes, turnedUp}
 use Rattle.position.proofs.Tables.{hex-in, set-unit-out}
-use Rattle.position.proofs.Front.{Front, front-trans, front-refl, shaped-kept, chart-kept, results-kept, ground-kept, count-kept, hexes-kept}
+use Rattle.position.proofs.Front.{Front, front-trans, front-refl, shaped-kept, chart-kept, results-kept, ground-kept, count-kept, hexes-kept, named-kept}
 use Rattle.position.proofs.Writes.{front-unit, front-desk, unit-unit, unit-same, desk-unit, unit-desk, desk-desk, desk-same}
 
 -- a table after one number of it was written
@@ -89,6 +92,11 @@ pub route-from : (p q : List ℕ) → ((k : ℕ) → 8 ≤ k → deskByte q k �
 unfolding route
 route-from p q h r j = rw (h (routeField r j) (omega arith), h (routeField r j + 1) (omega arith))
 
+-- the players, which stand behind all that a call writes
+pub player-from : {p q : List ℕ} → Front p q → ((k : ℕ) → 56 ≤ k → deskByte q k ≡ deskByte p k) → (f : ℕ) → player q f ≡ player p f
+unfolding player
+player-from s h f = rw (named-kept s, h (playersField + f) (omega arith)) refl
+
 -- units and desk, from their bytes
 pub units-from : (p q : List ℕ) → count q ≡ count p → ((w g : ℕ) → g < 8 → unitByte q w g ≡ unitByte p w g) → units q ≡ units p
 units-from p q e h =
@@ -104,8 +112,8 @@ units-from p q e h =
       role = fun-ext (λ w. h w 7 (omega arith)) i;
     }
 
-pub desk-from : (p q : List ℕ) → ((k : ℕ) → deskByte q k ≡ deskByte p k) → desk q ≡ desk p
-desk-from p q h =
+pub desk-from : {p q : List ℕ} → Front p q → ((k : ℕ) → deskByte q k ≡ deskByte p k) → desk q ≡ desk p
+desk-from {p} {q} s h =
     λ i.
     record {
       turn = h 0 i;
@@ -116,6 +124,7 @@ desk-from p q h =
       owed = h 5 i;
       need = need-from p q (h 6) (h 7) i;
       route = fun-ext (λ r. fun-ext (route-from p q (λ k l. h k) r)) i;
+      player = fun-ext (player-from s (λ k l. h k)) i;
     }
 
 -- the board, from its parts: a write behind the front leaves the rest
@@ -306,7 +315,7 @@ module _ {p : List ℕ} (s : Shaped p) (u h : ℕ) where
 
 -- a unit's bytes leave the desk, and the desk's bytes leave the units
 pub desk-behind : (p : List ℕ) (u f x : ℕ) → f < 8 → desk (setUnit p u f x) ≡ desk p
-desk-behind p u f x l = desk-from p (setUnit p u f x) (desk-unit p u f x l)
+desk-behind p u f x l = desk-from (front-unit p u f x) (desk-unit p u f x l)
 
 pub units-before : (p : List ℕ) (f x : ℕ) → units (setDesk p f x) ≡ units p
 units-before p f x = units-from p (setDesk p f x) (count-kept (front-desk p f x)) (unit-desk p f x)

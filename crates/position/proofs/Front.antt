@@ -7,7 +7,7 @@ use mathlib.Core.Bool.{Bool, true, false, cond}
 use native.Mathlib.Omega.{arith}
 use native.Mathlib.Decide.{decLt}
 use lib.ListN.{length, set, length-set}
-use lib.Dec.{ltb}
+use lib.Dec.{ltb, eqb}
 use lib.Seq.{getD-set-other}
 use borrow.Author.Tests.{ltb-true}
 use Rattle.position.specs.declared.View.{View}
@@ -24,6 +24,7 @@ use Rattle.position.specs.Layout.{
   unitsAt,
   count,
   deskAt,
+  named,
   unitAt,
   cell,
   columnByte,
@@ -88,6 +89,10 @@ module _ {p q : List ℕ} (f : Front p q) where
   pub deskAt-kept : deskAt q ≡ deskAt p
   unfolding deskAt
   deskAt-kept = omega (arith, unitsAt-kept, count-kept)
+
+  pub named-kept : named q ≡ named p
+  unfolding named extent unitsAt mapAt
+  named-kept = ap (λ (n : ℕ). cond (eqb n 60) 4 0) (word-kept 18 (omega arith))
 
   pub unitAt-kept : (u : ℕ) → unitAt q u ≡ unitAt p u
   unfolding unitAt
@@ -174,8 +179,8 @@ module _ {p q : List ℕ} (f : Front p q) where
         height = omega (arith, height-kept, s .height);
         units = entry-kept 3 (omega arith) unitsAt-kept (omega (arith, count-kept)) (s .units);
         count = omega (arith, count-kept, s .count);
-        desk = entry-kept 4 (omega arith) deskAt-kept refl (s .desk);
-        whole = f .long ∙ s .whole ∙ ap (λ (n : ℕ). n + 56) (sym deskAt-kept);
+        desk = entry-kept 4 (omega arith) deskAt-kept (omega (arith, named-kept)) (s .desk);
+        whole = omega (arith, f .long, s .whole, deskAt-kept, named-kept);
       }
 
   pub laid-kept : {v : View} → Laid p v → Laid q v
@@ -190,9 +195,9 @@ module _ {p q : List ℕ} (f : Front p q) where
               hexes = w .hexes ∙ sym hexes-kept;
               columns = w .columns ∙ sym columns-kept;
               count = w .count ∙ sym count-kept;
-              tiles = omega (arith, w .tiles, mapAt-kept);
               units = omega (arith, w .units, unitsAt-kept);
               desk = w .desk ∙ sym deskAt-kept;
+              named = w .named ∙ sym named-kept;
             };
         fits = rw (f .long) (l .fits);
       }

@@ -3,9 +3,11 @@
 use Prim.Native.Nat.{ℕ, _+_, _*_, _≤_, _<_}
 use mathlib.Core.Path.{_≡_, sym, ap, ap₂}
 use mathlib.Core.List.{List}
+use mathlib.Core.Bool.{Bool, true, false, cond}
 use native.Mathlib.Omega.{arith}
 use native.Mathlib.Nat.{mul-le-mul}
-use Rattle.position.specs.Layout.{byte, word, columns, mapAt, width, height, hexes, unitsAt, count}
+use lib.Dec.{eqb}
+use Rattle.position.specs.Layout.{byte, word, extent, columns, mapAt, width, height, hexes, unitsAt, count, named}
 use Rattle.position.specs.Shape.{In, Entry, Shaped}
 use Rattle.position.specs.Laid.{Laid}
 use Rattle.position.specs.declared.View.{View}
@@ -67,6 +69,14 @@ module _ (p : List ℕ) where
   pub count-is : {at : ℕ} → at ≡ unitsAt p → word p at ≡ count p
   unfolding count
   count-is e = ap (word p) e
+
+  pub named-most : {n : ℕ} → n ≡ named p → n ≤ 4
+  unfolding named
+  named-most e = omega (arith, e, cond-most (eqb (extent p 4) 60))
+    where
+      cond-most : (t : Bool) → cond t 4 0 ≤ 4
+      cond-most true = omega arith
+      cond-most false = omega arith
 
 -- an entry, by other names of where its body begins and how long it is
 pub entry-is : {p : List ℕ} {k a b l m : ℕ} → a ≡ b → l ≡ m → Entry p k a l → Entry p k b m

@@ -5,7 +5,7 @@ use mathlib.Core.Path.{_≡_}
 use mathlib.Core.List.{List}
 use lib.ListN.{set}
 use borrow.Author.Tests.{lt-ltb, le-ltb}
-use Rattle.position.specs.Layout.{count, columnByte, code, unitAt, unitByte, hex, deskByte, routeField, route, setUnit}
+use Rattle.position.specs.Layout.{count, columnByte, code, unitAt, unitByte, hex, deskByte, routeField, route, playersField, named, player, setUnit}
 
 module _ (p : List ℕ) (c die : ℕ) where
   pub code-in : 0 < die → die < 7 → code p c die ≡ columnByte p c (die + 1)
@@ -43,6 +43,16 @@ module _ (p : List ℕ) (r j : ℕ) where
   pub route-over : r < 6 → 4 ≤ j → route p r j ≡ 65535
   unfolding route
   route-over l m = simp (lt-ltb r 6 l, le-ltb j 4 m)
+
+-- where the desk names a force's player, and where it does not
+module _ (p : List ℕ) (f : ℕ) where
+  pub player-in : f < named p → player p f ≡ deskByte p (playersField + f)
+  unfolding player
+  player-in l = simp (lt-ltb f (named p) l)
+
+  pub player-out : named p ≤ f → player p f ≡ f
+  unfolding player
+  player-out l = simp (le-ltb f (named p) l)
 
 -- what is written to a unit, and to one that is not there
 module _ (p : List ℕ) (u f x : ℕ) where

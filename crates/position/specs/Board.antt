@@ -2,12 +2,14 @@
 -- accessors that show nothing past their tables, so positions that differ only in face-down strengths have one board.
 -- Assumes nothing.
 use Prim.Native.Nat.{ℕ, _*_}
-use mathlib.Core.Bool.{Bool, not, cond}
+use mathlib.Core.Bool.{Bool, not, _&&_, cond}
 use mathlib.Core.List.{List}
 use lib.Dec.{eqb}
 use Rattle.position.specs.Bits.{has, tried}
 use Rattle.position.specs.Kind as Kind
 use Rattle.position.specs.Layout as Layout
+use Rattle.position.specs.declared.forces.Relation.{Relation}
+use Rattle.position.specs.declared.forces.Relation.the-variants.{Enemy, Neutral}
 
 -- cost and defence multiple of the terrains 0..15; 16 is the river side and 17 the major river side
 pub record Chart : Type 0 where
@@ -51,6 +53,7 @@ pub record Desk : Type 0 where
   pub owed : ℕ
   pub need : ℕ
   pub route : ℕ → ℕ → ℕ
+  pub player : ℕ → ℕ
 
 pub record Board : Type 0 where
   pub chart : Chart
@@ -105,6 +108,7 @@ desk p =
       owed = Layout.owed p;
       need = Layout.need p;
       route = Layout.route p;
+      player = Layout.player p;
     }
 
 abbrev pub board : List ℕ → Board
@@ -118,6 +122,15 @@ nowhere = 65535
 unfoldable pub forceOf : Board → ℕ → ℕ
 forceOf b u = Kind.force (b .units .nationality u)
 
--- "Every other force is Enemy."
+-- "forces of one player are neither Friendly nor Enemy": Enemy is a force of another player
 unfoldable pub enemy : Board → ℕ → ℕ → Bool
-enemy b f g = not (eqb f g)
+enemy b f g = not (eqb (b .desk .player f) (b .desk .player g))
+
+-- and neutral another force of the same player
+unfoldable pub neutral : Board → ℕ → ℕ → Bool
+neutral b f g = not (eqb f g) && eqb (b .desk .player f) (b .desk .player g)
+
+-- either of the two
+abbrev pub relates : Board → Relation → ℕ → ℕ → Bool
+relates b Enemy = enemy b
+relates b Neutral = neutral b

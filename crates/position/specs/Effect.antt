@@ -77,6 +77,7 @@ withClock d t f ph =
       owed = d .owed;
       need = d .need;
       route = d .route;
+      player = d .player;
     }
 
 abbrev pub withStage : Desk → ℕ → ℕ → ℕ → Desk
@@ -90,6 +91,7 @@ withStage d s n x =
       owed = n;
       need = x;
       route = d .route;
+      player = d .player;
     }
 
 abbrev pub withRoutes : Desk → (ℕ → ℕ → ℕ) → Desk
@@ -103,6 +105,7 @@ withRoutes d f =
       owed = d .owed;
       need = d .need;
       route = f;
+      player = d .player;
     }
 
 -- number j of the four

@@ -6,7 +6,7 @@ use mathlib.Core.Path.{_≡_}
 use mathlib.Core.List.{List}
 use mathlib.Core.Bool.{cond}
 use lib.ListN.{length, getD, set}
-use lib.Dec.{ltb}
+use lib.Dec.{ltb, eqb}
 use Rattle.position.specs.declared.View.{View}
 
 -- byte i, 0 past the end; and the 16-bit number at i, little-endian
@@ -64,8 +64,15 @@ count p = word p (unitsAt p)
 abbrev pub unitsLength : List ℕ → ℕ
 unitsLength p = 2 + 8 * count p
 
-abbrev pub deskLength : ℕ
-deskLength = 56
+-- where the desk names the players, behind all else; and how many it names: 4, or none, as its length in the contents says
+abbrev pub playersField : ℕ
+playersField = 56
+
+unfoldable pub named : List ℕ → ℕ
+named p = cond (eqb (extent p 4) (playersField + 4)) 4 0
+
+abbrev pub deskLength : List ℕ → ℕ
+deskLength p = playersField + named p
 
 unfoldable pub deskAt : List ℕ → ℕ
 deskAt p = unitsAt p + 2 + 8 * count p
@@ -185,6 +192,10 @@ routeField r j = 8 + 8 * r + 2 * j
 unfoldable pub route : List ℕ → ℕ → ℕ → ℕ
 route p r j = cond (ltb r 6) (cond (ltb j 4) (deskByte p (routeField r j) + 256 * deskByte p (routeField r j + 1)) 65535) 65535
 
+-- "one byte per force naming its player, 0..3"; "Positions of the old length are read with four players"
+unfoldable pub player : List ℕ → ℕ → ℕ
+player p f = cond (ltb f (named p)) (deskByte p (playersField + f)) f
+
 -- the position with another number in byte f of unit u, or of the desk; as it was where there is no such unit
 unfoldable pub setUnit : List ℕ → ℕ → ℕ → ℕ → List ℕ
 setUnit p u f x = cond (ltb u (count p)) (set p (unitAt p u + f) x) p
@@ -219,23 +230,23 @@ unfoldable pub clearRoutes : List ℕ → ℕ → List ℕ
 clearRoutes p zero = p
 clearRoutes p (suc n) = setRoute (clearRoutes p n) n 65535 65535 65535 65535
 
--- the view v is the position's: its counts, and where its hexes, its units and its desk begin
+-- the view v is the position's: its counts, and where its units and its desk begin
 pub record ViewOf (p : List ℕ) (v : View) : Type 0 where
   pub width : v .width ≡ width p
   pub height : v .height ≡ height p
   pub hexes : v .hexes ≡ hexes p
   pub columns : v .columns ≡ columns p
   pub count : v .count ≡ count p
-  pub tiles : v .tiles ≡ mapAt p + 2
   pub units : v .units ≡ unitsAt p + 2
   pub desk : v .desk ≡ deskAt p
+  pub named : v .named ≡ named p
 
 -- the bodies of a view lie one after the other and fill `long` bytes; no count is above its limit
 pub record Fits (long : ℕ) (v : View) : Type 0 where
-  pub tiles : v .tiles ≡ resultsAt + 1 + 8 * v .columns + 2
-  pub units : v .units ≡ v .tiles + 5 * v .hexes + 2
+  pub units : v .units ≡ resultsAt + 1 + 8 * v .columns + 2 + 5 * v .hexes + 2
   pub desk : v .desk ≡ v .units + 8 * v .count
-  pub whole : long ≡ v .desk + 56
+  pub whole : long ≡ v .desk + playersField + v .named
   pub columns : v .columns ≤ 12
   pub hexes : v .hexes ≤ 4096
   pub count : v .count ≤ 400
+  pub named : v .named ≤ 4

@@ -30,6 +30,6 @@ pub record Shaped (p : List ℕ) : Type 0 where
   -- "Units: 16-bit count 0..400; per unit" eight bytes
   pub units : Entry p 3 (Layout.unitsAt p) (Layout.unitsLength p)
   pub count : Layout.count p ≤ 400
-  -- "Desk, 56 bytes"
-  pub desk : Entry p 4 (Layout.deskAt p) Layout.deskLength
-  pub whole : length p ≡ Layout.deskAt p + Layout.deskLength
+  -- "Desk, 56 bytes", and four more if it names the players
+  pub desk : Entry p 4 (Layout.deskAt p) (Layout.deskLength p)
+  pub whole : length p ≡ Layout.deskAt p + Layout.deskLength p

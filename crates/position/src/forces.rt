@@ -1,10 +1,16 @@
 // Who belongs to whom.
 ghost use mathlib.Core.Path.{_≡_};
-ghost use Rattle.position.specs.Board.{board, forceOf, enemy};
+ghost use Rattle.position.specs.Board.{board, forceOf, enemy, neutral, relates};
 ghost use Rattle.position.specs.Laid.{Laid};
 use crate::View;
 use crate::kind;
 use crate::read;
+
+// What another force is to a force: its player is another, or the same.
+pub enum Relation {
+    Enemy,
+    Neutral,
+}
 
 // The force of unit `u`.
 pub fn force_of(p: &[u8], v: View, u: usize) -> usize
@@ -19,5 +25,27 @@ pub fn enemy(p: &[u8], v: View, f: usize, g: usize) -> bool
     requires { ⌜ Laid (now p) v ⌝ }
     ensures { λ r. ⌜ r ≡ enemy (board (now (p .entry))) f g ⌝ }
 {
-    f != g
+    read::player(p, v, f) != read::player(p, v, g)
+}
+
+// Whether force `g` is neutral to force `f`.
+pub fn neutral(p: &[u8], v: View, f: usize, g: usize) -> bool
+    requires { ⌜ Laid (now p) v ⌝ }
+    ensures { λ r. ⌜ r ≡ neutral (board (now (p .entry))) f g ⌝ }
+{
+    if f == g {
+        return false;
+    }
+    read::player(p, v, f) == read::player(p, v, g)
+}
+
+// Whether force `g` is in relation `w` to force `f`.
+pub fn related(p: &[u8], v: View, w: Relation, f: usize, g: usize) -> bool
+    requires { ⌜ Laid (now p) v ⌝ }
+    ensures { λ r. ⌜ r ≡ relates (board (now (p .entry))) w f g ⌝ }
+{
+    match w {
+        Relation::Enemy => enemy(p, v, f, g),
+        Relation::Neutral => neutral(p, v, f, g),
+    }
 }

@@ -2,18 +2,21 @@
 ghost use mathlib.Core.Path.{_≡_};
 ghost use Prim.Native.Nat.{_+_, _*_, _<_, _≤_};
 ghost use lib.ListN.{length};
-ghost use Rattle.position.specs.Layout.{byte, word, cell, columnByte, hexByte, unitByte, deskByte, setUnit, setDesk};
+ghost use Rattle.position.specs.Layout.{byte, word, cell, named, columnByte, hexByte, unitByte, deskByte, setUnit, setDesk};
 ghost use Rattle.position.specs.Laid.{Laid, Read};
 use crate::View;
 
-// Where the first two bodies begin, how long chart and desk are, and how long a record of each other body is.
+// Where the contents name the desk, and how many forces it names the players of if it does.
+const DESK_ENTRY: usize = 16;
+
+const FORCES: usize = 4;
+
+// Where the first two bodies begin, how long the chart is, and how long a record of each other body is.
 pub const CHART: usize = 20;
 
 pub const RESULTS: usize = 56;
 
 pub const CHART_LENGTH: usize = 36;
-
-pub const DESK_LENGTH: usize = 56;
 
 pub const TERRAIN_SIZE: usize = 2;
 
@@ -79,6 +82,8 @@ pub const NEED: usize = 6;
 
 pub const ROUTES: usize = 8;
 
+pub const PLAYERS: usize = 56;
+
 pub fn wide(x: u8) -> usize
     ensures { λ r. ⌜ Read x 256 r ⌝ }
 {
@@ -91,6 +96,17 @@ pub fn word(p: &[u8], at: usize) -> usize
     ensures { λ r. ⌜ Read (word (now (p .entry)) at) 65536 r ⌝ }
 {
     wide(p[at]) + 256 * wide(p[at + 1])
+}
+
+// How many players the desk names: its length in the contents tells.
+pub fn named(p: &[u8]) -> usize
+    requires { ⌜ 20 ≤ length (now p) ⌝ }
+    ensures { λ r. ⌜ r ≡ named (now (p .entry)) ⌝ }
+{
+    if word(p, DESK_ENTRY + 2) == PLAYERS + FORCES {
+        return FORCES;
+    }
+    0
 }
 
 // Byte `f` of record `k`, in a table of `n` records of `size` bytes that begins at `start`; 0 past its last record.
@@ -122,7 +138,7 @@ pub fn hex_byte(p: &[u8], v: View, h: usize, f: usize) -> usize
     requires { ⌜ Laid (now p) v × (f < 5) ⌝ }
     ensures { λ r. ⌜ Read (hexByte (now (p .entry)) h f) 256 r ⌝ }
 {
-    cell(p, v.tiles, HEX_SIZE, v.hexes, h, f)
+    cell(p, RESULTS + 1 + COLUMN_SIZE * v.columns + 2, HEX_SIZE, v.hexes, h, f)
 }
 
 pub fn unit_byte(p: &[u8], v: View, u: usize, f: usize) -> usize
@@ -133,7 +149,7 @@ pub fn unit_byte(p: &[u8], v: View, u: usize, f: usize) -> usize
 }
 
 pub fn desk_byte(p: &[u8], v: View, f: usize) -> usize
-    requires { ⌜ Laid (now p) v × (f < 56) ⌝ }
+    requires { ⌜ Laid (now p) v × (f < 56 + v .named) ⌝ }
     ensures { λ r. ⌜ Read (deskByte (now (p .entry)) f) 256 r ⌝ }
 {
     let at = v.desk + f;

@@ -9,16 +9,17 @@ pub mod read;
 pub mod shape;
 pub mod write;
 
-// What is handed on of a position whose bodies lie as they should: its counts, and where its hexes, its units and its desk begin.
+// What is handed on of a position whose bodies lie as they should: its counts, where its units and its desk begin, and how many
+// players the desk names.
 pub struct View {
     pub width: usize,
     pub height: usize,
     pub hexes: usize,
     pub columns: usize,
     pub count: usize,
-    pub tiles: usize,
     pub units: usize,
     pub desk: usize,
+    pub named: usize,
 }
 
 // The answer of a check: the view of what passed, or nothing of it.

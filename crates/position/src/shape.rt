@@ -17,8 +17,7 @@ fn with_units(p: &[u8], cols: usize, wide: usize, high: usize) -> Checked
     ensures { λ r. ⌜ SizedOf (now (p .entry)) r ⌝ }
 {
     let hexes = wide * high;
-    let tiles = layout::RESULTS + 1 + layout::COLUMN_SIZE * cols + 2;
-    let units = tiles + layout::HEX_SIZE * hexes + 2;
+    let units = layout::RESULTS + 1 + layout::COLUMN_SIZE * cols + 2 + layout::HEX_SIZE * hexes + 2;
     if p.len() < units {
         return Checked::Broken;
     }
@@ -27,7 +26,8 @@ fn with_units(p: &[u8], cols: usize, wide: usize, high: usize) -> Checked
         return Checked::Broken;
     }
     let desk = units + layout::UNIT_SIZE * count;
-    if p.len() != desk + layout::DESK_LENGTH {
+    let named = layout::named(p);
+    if p.len() != desk + layout::PLAYERS + named {
         return Checked::Broken;
     }
     Checked::Whole(View {
@@ -36,9 +36,9 @@ fn with_units(p: &[u8], cols: usize, wide: usize, high: usize) -> Checked
         hexes,
         columns: cols,
         count,
-        tiles,
         units,
         desk,
+        named,
     })
 }
 
@@ -116,13 +116,13 @@ pub fn shape(p: &[u8]) -> Checked
     if !entry(p, 1, layout::RESULTS, 1 + layout::COLUMN_SIZE * v.columns) {
         return Checked::Broken;
     }
-    if !entry(p, 2, v.tiles - 2, 2 + layout::HEX_SIZE * v.hexes) {
+    if !entry(p, 2, layout::RESULTS + 1 + layout::COLUMN_SIZE * v.columns, 2 + layout::HEX_SIZE * v.hexes) {
         return Checked::Broken;
     }
     if !entry(p, 3, v.units - 2, 2 + layout::UNIT_SIZE * v.count) {
         return Checked::Broken;
     }
-    if !entry(p, 4, v.desk, layout::DESK_LENGTH) {
+    if !entry(p, 4, v.desk, layout::PLAYERS + v.named) {
         return Checked::Broken;
     }
     Checked::Whole(v)

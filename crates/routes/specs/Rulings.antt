@@ -44,7 +44,7 @@ plain =
             marks = λ u. 0;
             role = λ u. 0;
           };
-      desk = record { turn = 1; lastTurn = 1; force = 0; phase = 1; stage = 1; owed = 2; need = 0; route = λ r j. nowhere };
+      desk = record { turn = 1; lastTurn = 1; force = 0; phase = 1; stage = 1; owed = 2; need = 0; route = λ r j. nowhere; player = λ f. f };
     }
 
 -- "from 12, D2, route 7, 2 is legal by distance, 7, 8 is not"

@@ -1,4 +1,4 @@
--- `position::lawful` meets its contract: all seven questions are asked.
+-- `position::lawful` meets its contract: all eight questions are asked.
 -- Assumes nothing.
 use borrow.Author.Needs.{needs}
 use Rattle.position.proofs.Answers.{said, unsaid}
@@ -35,21 +35,28 @@ clock-ok-requires c κs = search needs
 returns-5 : tie.Need-returns-5
 returns-5 c = λ t. unsaid (c .before .clock-ok .result) (c .if5 .taken) (c .before .clock-ok .ensures) (t .clock)
 
+players-ok-requires : tie.Need-players-ok-requires
+players-ok-requires c κs = search needs
+
+returns-6 : tie.Need-returns-6
+returns-6 c = λ t. unsaid (c .before .players-ok .result) (c .if6 .taken) (c .before .players-ok .ensures) (t .players)
+
 stage-ok-requires : tie.Need-stage-ok-requires
 stage-ok-requires c κs = search needs
 
-returns-6 : tie.Need-returns-6
-returns-6 c = λ t. unsaid (c .before .stage-ok .result) (c .if6 .taken) (c .before .stage-ok .ensures) (t .stage)
+returns-7 : tie.Need-returns-7
+returns-7 c = λ t. unsaid (c .before .stage-ok .result) (c .if7 .taken) (c .before .stage-ok .ensures) (t .stage)
 
 routes-ok-requires : tie.Need-routes-ok-requires
 routes-ok-requires c κs = search needs
 
-returns-7 : tie.Need-returns-7
-returns-7 c = λ t. unsaid (c .before .routes-ok .result) (c .if7 .taken) (c .before .routes-ok .ensures) (t .routes)
-
 returns-8 : tie.Need-returns-8
-returns-8 c =
-    let q6 = c .before .before in
+returns-8 c = λ t. unsaid (c .before .routes-ok .result) (c .if8 .taken) (c .before .routes-ok .ensures) (t .routes)
+
+returns-9 : tie.Need-returns-9
+returns-9 c =
+    let q7 = c .before .before in
+    let q6 = q7 .before .before in
     let q5 = q6 .before .before in
     let q4 = q5 .before .before in
     let q3 = q4 .before .before in
@@ -61,8 +68,9 @@ returns-8 c =
       map = said (q3 .before .map-ok .result) (q3 .if3 .left) (q3 .before .map-ok .ensures);
       units = said (q4 .before .units-ok .result) (q4 .if4 .left) (q4 .before .units-ok .ensures);
       clock = said (q5 .before .clock-ok .result) (q5 .if5 .left) (q5 .before .clock-ok .ensures);
-      stage = said (q6 .before .stage-ok .result) (q6 .if6 .left) (q6 .before .stage-ok .ensures);
-      routes = said (c .before .routes-ok .result) (c .if7 .left) (c .before .routes-ok .ensures);
+      players = said (q6 .before .players-ok .result) (q6 .if6 .left) (q6 .before .players-ok .ensures);
+      stage = said (q7 .before .stage-ok .result) (q7 .if7 .left) (q7 .before .stage-ok .ensures);
+      routes = said (c .before .routes-ok .result) (c .if8 .left) (c .before .routes-ok .ensures);
     }
 
 pub lawful-spec : {M : Type 1} → statement M
@@ -79,8 +87,10 @@ lawful-spec =
     returns-4
     clock-ok-requires
     returns-5
-    stage-ok-requires
+    players-ok-requires
     returns-6
-    routes-ok-requires
+    stage-ok-requires
     returns-7
-    returns-8)
+    routes-ok-requires
+    returns-8
+    returns-9)

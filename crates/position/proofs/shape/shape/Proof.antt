@@ -3,6 +3,7 @@
 use mathlib.Core.Path.{refl, subst}
 use native.Mathlib.Omega.{arith}
 use borrow.Author.Needs.{needs}
+use Rattle.position.specs.Layout.{mapAt}
 use Rattle.position.specs.Laid.{Sized, SizedOf}
 use Rattle.position.proofs.Answers.{said, unsaid}
 use Rattle.position.proofs.Shapes.{entry-is}
@@ -45,14 +46,20 @@ returns-3 c =
     λ t. let s = known k in unsaid (c .before .entry2 .result) (c .if2 .taken) (c .before .entry2 .ensures)
     (entry-is refl (omega arith) (t .results))
 
-sub-entry : tie.Need-sub-entry
-sub-entry c = let s = known (c .before .before .before .before .before .before) in omega arith
+add-entry-2 : tie.Need-add-entry-2
+add-entry-2 c = search needs
 
 mul-entry-2 : tie.Need-mul-entry-2
-mul-entry-2 c = let s = known (c .before .before .before .before .before .before .before) in omega arith
+mul-entry-2 c = let s = known (c .before .before .before .before .before .before) in omega arith
 
-add-entry-2 : tie.Need-add-entry-2
-add-entry-2 c = let s = known (c .before .before .before .before .before .before .before) in omega arith
+add-entry-3 : tie.Need-add-entry-3
+add-entry-3 c = let s = known (c .before .before .before .before .before .before) in omega arith
+
+mul-entry-3 : tie.Need-mul-entry-3
+mul-entry-3 c = let s = known (c .before .before .before .before .before .before .before) in omega arith
+
+add-entry-4 : tie.Need-add-entry-4
+add-entry-4 c = let s = known (c .before .before .before .before .before .before .before) in omega arith
 
 entry-requires-3 : tie.Need-entry-requires-3
 entry-requires-3 c κs =
@@ -60,23 +67,24 @@ entry-requires-3 c κs =
     let s = known k in (omega arith, omega arith)
 
 returns-4 : tie.Need-returns-4
+unfolding mapAt
 returns-4 c =
     let k = c .before .before .before .before .before .before .before .before .before in
     λ t. let s = known k in unsaid (c .before .entry3 .result) (c .if3 .taken) (c .before .entry3 .ensures)
     (entry-is (omega arith) (omega arith) (t .map))
 
-sub-entry-2 : tie.Need-sub-entry-2
-sub-entry-2 c =
+sub-entry : tie.Need-sub-entry
+sub-entry c =
     let k = c .before .before .before .before .before .before .before .before .before .before in
     let s = known k in omega arith
 
-mul-entry-3 : tie.Need-mul-entry-3
-mul-entry-3 c =
+mul-entry-4 : tie.Need-mul-entry-4
+mul-entry-4 c =
     let k = c .before .before .before .before .before .before .before .before .before .before .before in
     let s = known k in omega arith
 
-add-entry-3 : tie.Need-add-entry-3
-add-entry-3 c =
+add-entry-5 : tie.Need-add-entry-5
+add-entry-5 c =
     let k = c .before .before .before .before .before .before .before .before .before .before .before in
     let s = known k in omega arith
 
@@ -91,20 +99,26 @@ returns-5 c =
     λ t. let s = known k in unsaid (c .before .entry4 .result) (c .if4 .taken) (c .before .entry4 .ensures)
     (entry-is (omega arith) (omega arith) (t .units))
 
+add-entry-6 : tie.Need-add-entry-6
+add-entry-6 c =
+    let k = c .before .before .before .before .before .before .before .before .before .before .before .before .before .before in
+    let s = known k in omega arith
+
 entry-requires-5 : tie.Need-entry-requires-5
 entry-requires-5 c κs =
-    let k = c .before .before .before .before .before .before .before .before .before .before .before .before .before in
+    let k = c .before .before .before .before .before .before .before .before .before .before .before .before .before .before in
     let s = known k in (omega arith, omega arith)
 
 returns-6 : tie.Need-returns-6
 returns-6 c =
-    let k = c .before .before .before .before .before .before .before .before .before .before .before .before .before .before .before in
+    let k = c .before .before .before .before .before .before .before .before .before .before .before .before .before .before .before .before in
     λ t. let s = known k in unsaid (c .before .entry5 .result) (c .if5 .taken) (c .before .entry5 .ensures)
-    (entry-is (omega arith) refl (t .desk))
+    (entry-is (omega arith) (omega arith) (t .desk))
 
 returns-7 : tie.Need-returns-7
+unfolding mapAt
 returns-7 c =
-    let q4 = c .before .before in
+    let q4 = c .before .before .before in
     let q3 = q4 .before .before .before .before in
     let q2 = q3 .before .before .before .before in
     let q1 = q2 .before .before .before in
@@ -122,7 +136,7 @@ returns-7 c =
         units = entry-is (omega arith) (omega arith)
             (said (q4 .before .entry4 .result) (q4 .if4 .left) (q4 .before .entry4 .ensures));
         count = s .count;
-        desk = entry-is (omega arith) refl (said (c .before .entry5 .result) (c .if5 .left) (c .before .entry5 .ensures));
+        desk = entry-is (omega arith) (omega arith) (said (c .before .entry5 .result) (c .if5 .left) (c .before .entry5 .ensures));
         whole = s .whole;
       };
       view = s .view;
@@ -143,16 +157,19 @@ shape-spec =
     add-entry
     entry-requires-2
     returns-3
-    sub-entry
-    mul-entry-2
     add-entry-2
+    mul-entry-2
+    add-entry-3
+    mul-entry-3
+    add-entry-4
     entry-requires-3
     returns-4
-    sub-entry-2
-    mul-entry-3
-    add-entry-3
+    sub-entry
+    mul-entry-4
+    add-entry-5
     entry-requires-4
     returns-5
+    add-entry-6
     entry-requires-5
     returns-6
     returns-7)

@@ -6,7 +6,7 @@ use native.Mathlib.Omega.{arith}
 use borrow.Author.Needs.{needs}
 use Rattle.position.specs.Layout.{mapAt, hexes, unitsAt, count, deskAt}
 use Rattle.position.proofs.Answers.{carry}
-use Rattle.position.proofs.Shapes.{area, hexes-is, count-is}
+use Rattle.position.proofs.Shapes.{area, hexes-is, count-is, named-most}
 use Rattle.position.proofs.shape.with_units.Statement.{statement}
 use Rattle.position.proofs.shape.with_units.Tie as tie
 
@@ -24,26 +24,26 @@ counted c = let s = sizes (c .before .before .before) in c .word .ensures .is �
 mul-hexes : tie.Need-mul-hexes
 mul-hexes c = omega (arith, sizes (c .before))
 
-add-tiles : tie.Need-add-tiles
-add-tiles c = search needs
-
-mul-tiles : tie.Need-mul-tiles
-mul-tiles c = search needs
-
-add-tiles-2 : tie.Need-add-tiles-2
-add-tiles-2 c = search needs
-
-add-tiles-3 : tie.Need-add-tiles-3
-add-tiles-3 c = search needs
+add-units : tie.Need-add-units
+add-units c = search needs
 
 mul-units : tie.Need-mul-units
-mul-units c = omega (arith, sizes (c .before))
-
-add-units : tie.Need-add-units
-add-units c = omega (arith, sizes (c .before))
+mul-units c = search needs
 
 add-units-2 : tie.Need-add-units-2
-add-units-2 c = omega (arith, sizes (c .before))
+add-units-2 c = search needs
+
+add-units-3 : tie.Need-add-units-3
+add-units-3 c = search needs
+
+mul-units-2 : tie.Need-mul-units-2
+mul-units-2 c = omega (arith, sizes (c .before))
+
+add-units-4 : tie.Need-add-units-4
+add-units-4 c = omega (arith, sizes (c .before))
+
+add-units-5 : tie.Need-add-units-5
+add-units-5 c = omega (arith, sizes (c .before))
 
 returns : tie.Need-returns
 unfolding mapAt unitsAt deskAt
@@ -64,19 +64,25 @@ mul-desk c = search needs
 add-desk : tie.Need-add-desk
 add-desk c = search needs
 
+named-requires : tie.Need-named-requires
+named-requires c κs = search needs
+
 add-if3 : tie.Need-add-if3
 add-if3 c = search needs
 
+add-if3-2 : tie.Need-add-if3-2
+add-if3-2 c = omega (arith, named-most _ (c .named .ensures))
+
 returns-3 : tie.Need-returns-3
 unfolding mapAt unitsAt deskAt
-returns-3 c = λ t. omega (arith, sizes (c .before .before .before .before .before), counted (c .before .before))
+returns-3 c = λ t. omega (arith, sizes (c .before .before .before .before .before .before), counted (c .before .before .before))
 
 returns-4 : tie.Need-returns-4
 unfolding mapAt unitsAt deskAt
 returns-4 c =
-    let s = c .before .before .before .before .before .pre in
-    let z = sizes (c .before .before .before .before .before) in
-    let n = counted (c .before .before) in
+    let s = c .before .before .before .before .before .before .pre in
+    let z = sizes (c .before .before .before .before .before .before) in
+    let n = counted (c .before .before .before) in
     record {
       columns = carry (s .0 .0) (s .0 .1);
       width = carry (s .1 .0 .0) (s .1 .0 .1);
@@ -89,18 +95,18 @@ returns-4 c =
         hexes = z .0;
         columns = s .0 .0;
         count = n;
-        tiles = omega arith;
         units = omega arith;
         desk = omega arith;
+        named = c .before .named .ensures;
       };
       fits = record {
-        tiles = omega arith;
         units = omega arith;
         desk = omega arith;
         whole = omega arith;
         columns = omega arith;
         hexes = z .1;
         count = omega arith;
+        named = named-most _ (c .before .named .ensures);
       };
     }
 
@@ -109,19 +115,21 @@ with-units-spec =
     tie.close
     (tie.spec
     mul-hexes
-    add-tiles
-    mul-tiles
-    add-tiles-2
-    add-tiles-3
-    mul-units
     add-units
+    mul-units
     add-units-2
+    add-units-3
+    mul-units-2
+    add-units-4
+    add-units-5
     returns
     sub-word
     word-requires
     returns-2
     mul-desk
     add-desk
+    named-requires
     add-if3
+    add-if3-2
     returns-3
     returns-4)
