@@ -103,7 +103,7 @@ module _ {p q : List ℕ} (s : Same p q) where
               marks = fun-ext marks-alike i;
               role = fun-ext (λ w. u w 7 (omega arith) (omega arith)) i;
             };
-        desk = desk-from p q desk-alike i;
+        desk = desk-from front-same desk-alike i;
       }
 
 -- one byte written to both

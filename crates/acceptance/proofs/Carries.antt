@@ -11,7 +11,7 @@ use Rattle.position.specs.Kind.{force}
 use Rattle.position.specs.Board.{Board, Units, Desk, nowhere, forceOf}
 use Rattle.position.specs.Ground.{standable}
 use Rattle.position.specs.Crowd.{crowd, holders, owesAt, owingHexes, filled, routes}
-use Rattle.acceptance.specs.Accepted.{StandOk, UnitOk, PairOk, UnitsOk, ClockOk, RetreatsOk, StageOk, LinkOk, PlaceOk, RoutesOk, Lawful}
+use Rattle.acceptance.specs.Accepted.{StandOk, UnitOk, PairOk, UnitsOk, ClockOk, PlayersOk, RetreatsOk, StageOk, LinkOk, PlaceOk, RoutesOk, Lawful}
 use Rattle.position.specs.Change.{Change}
 use Rattle.position.specs.Change.Change.{placed, destroyed, marked, assigned, timed, staged, routed, unrouted}
 use Rattle.position.specs.Effect.{withUnits, withDesk, change, changes}
@@ -214,6 +214,10 @@ module _ {b c : Board} (f : Fixed b c) where
         let k = owing-by e role in
         record { owed = rw n (o .owed); some = rw k (o .some); room = rw (k, routes-by route) (o .room) }
 
+  -- the players
+  players-by : PlayersOk (b .desk) → PlayersOk (c .desk)
+  players-by o g m = record { small = rw (f .players) (o g m .small); apart = rw (f .players) (o g m .apart) }
+
   -- the whole board
   pub lawful-by : UnitsOk c → ClockOk (c .desk) → StageOk c → RoutesOk c → Lawful b → Lawful c
   lawful-by u k s r l =
@@ -223,7 +227,7 @@ module _ {b c : Board} (f : Fixed b c) where
         map = rw (f .map) (l .map);
         units = u;
         clock = k;
-        players = rw (f .players) (l .players);
+        players = players-by (l .players);
         stage = s;
         routes = r;
       }

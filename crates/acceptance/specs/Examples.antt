@@ -10,7 +10,7 @@ use Rattle.grid.specs.Rulings.{gridOpen}
 use Rattle.position.specs.Tally.{tally, any}
 use Rattle.position.specs.Bits.{has}
 use Rattle.position.specs.Kind.{alwaysTried, force, mayBelong, mayAllow}
-use Rattle.position.specs.Layout.{word, offset, extent, columns, mapAt, width, height, hexes, unitsAt, count, deskAt, cell, columnByte, code, hexByte, unitAt, unitByte, hex, deskByte, need, route}
+use Rattle.position.specs.Layout.{word, offset, extent, columns, mapAt, width, height, hexes, unitsAt, count, deskAt, cell, columnByte, code, hexByte, unitAt, unitByte, hex, deskByte, need, route, named, player}
 use Rattle.position.specs.Board.{forceOf}
 use Rattle.position.specs.Ground.{stored, storedAt, side, next, isAt, joined, standable}
 use Rattle.position.specs.Crowd.{crowd, holders, owesAt, owingHexes, filled, routes}
@@ -31,6 +31,7 @@ use Rattle.acceptance.specs.Broken.{
   pair?,
   units?,
   clock?,
+  player?,
   quiet?,
   retreats?,
   losses?,
@@ -47,7 +48,7 @@ use Rattle.acceptance.specs.Broken.{
 
 -- 'unfolding computing' opens what acceptance computes by
 unfoldable pub computing : ℕ
-unfolding decLe decLt ℕ-discrete gridOpen tally any has alwaysTried force mayBelong mayAllow word offset extent columns mapAt width height hexes unitsAt count deskAt cell columnByte code hexByte unitAt unitByte hex deskByte need route forceOf stored storedAt side next isAt joined standable crowd holders owesAt owingHexes filled routes iff both given never last below holds? off? answersNo in? entry? shaped? terrain? column? rising? results? edge? hex? map? mapped? destroyed? role? counter? duty? stand? unit? twoForces? oneForce? pair? units? clock? quiet? retreats? losses? advances? during? stage? link? place? route? lawful? accepted? broken
+unfolding decLe decLt ℕ-discrete gridOpen tally any has alwaysTried force mayBelong mayAllow word offset extent columns mapAt width height hexes unitsAt count deskAt cell columnByte code hexByte unitAt unitByte hex deskByte need route named player forceOf stored storedAt side next isAt joined standable crowd holders owesAt owingHexes filled routes iff both given never last below holds? off? answersNo in? entry? shaped? terrain? column? rising? results? edge? hex? map? mapped? destroyed? role? counter? duty? stand? unit? twoForces? oneForce? pair? units? clock? player? quiet? retreats? losses? advances? during? stage? link? place? route? lawful? accepted? broken
 computing = 0
 
 -- eighteen pairs of cost 1 and multiple 1
@@ -81,7 +82,12 @@ roster = contents ++ plain ++ table ++ strip ++ counters ++ quiet
 abbrev pub rosterLess : List ℕ
 rosterLess = set (set roster 94 255) 95 255
 
-pub whole : map broken (roster ∷ rosterLess ∷ []) ≡ false ∷ false ∷ []
+-- the same on a desk that names the players of the four forces
+abbrev named-by : ℕ → ℕ → ℕ → ℕ → List ℕ
+named-by f g h d = set roster 18 60 ++ (f ∷ g ∷ h ∷ d ∷ [])
+
+-- as the document has it, on a desk that says the same, and in the two-player game
+pub whole : map broken (roster ∷ rosterLess ∷ named-by 0 1 2 3 ∷ named-by 1 1 1 0 ∷ []) ≡ replicate 4 false
 unfolding computing
 whole = refl
 
@@ -125,8 +131,13 @@ broken-ones =
     ∷ but 104 1  -- "1 to 3 only in phase 1"
     ∷ but 105 1  -- "Elsewhere n and need are 0."
     ∷ set (but 108 0) 109 0  -- "Stage 0: no .. routes."
+    ∷ but 18 60  -- a desk that is said to name players, and does not
+    ∷ (roster ++ (0 ∷ 1 ∷ 2 ∷ 3 ∷ []))  -- one that names them, and is not said to
+    ∷ (set roster 18 58 ++ (0 ∷ 1 ∷ []))  -- one that names two
+    ∷ named-by 0 4 2 3  -- "naming its player, 0..3"
+    ∷ named-by 0 1 2 2  -- "force 3 never shares a player"
     ∷ []
 
-pub each : map broken broken-ones ≡ replicate 33 true
+pub each : map broken broken-ones ≡ replicate 38 true
 unfolding computing
 each = refl
