@@ -15,7 +15,7 @@ use Rattle.position.specs.Tally.{any}
 use Rattle.position.specs.Change.Change.{assigned, placed}
 use Rattle.position.specs.Effect.{change, changes}
 use Rattle.position.proofs.Shapes.{hexes-most}
-use Rattle.position.proofs.Tallies.{any-false, any-some, both-yes, either}
+use Rattle.position.proofs.Tallies.{any-false, any-some, both-yes, either, neither}
 use Rattle.acceptance.specs.Accepted.{Accepted, Lawful}
 use Rattle.acceptance.specs.Broken.{broken}
 use Rattle.acceptance.proofs.Lawfuls.{Room}
@@ -23,9 +23,9 @@ use Rattle.acceptance.proofs.Since.{since-lawful, since-placed}
 use Rattle.ruling.specs.Verdict.{outcome}
 use Rattle.ruling.proofs.Kept.{Kept, kept-past, kept-ruled}
 use Rattle.field.specs.Scene.{scene}
-use Rattle.field.specs.Zone.{holdsEnemy}
+use Rattle.field.specs.Zone.{holdsEnemy, holdsNeutral}
 use Rattle.field.specs.Listed.{sieve}
-use Rattle.field.proofs.Zones.{no-enemy}
+use Rattle.field.proofs.Zones.{all-own}
 use Rattle.aftermath.specs.Stage.{thenOn}
 use Rattle.aftermath.specs.Advance.{
   advanceChanges,
@@ -40,18 +40,19 @@ use Rattle.aftermath.specs.Advance.{
   mayAdvance,
   noRoute,
   serves,
+  shut,
   unitChecks,
 }
 use Rattle.aftermath.proofs.KeepStage.{Lessened, all-freed, lawful-then-on, lessened-freed, lessened-none, lessened-owing}
 
--- a route's number is the hex, and no Enemy of unit u stands there
+-- a route's number is the hex, and it is not shut to unit u
 record Reached (b : Board) (u hex : ℕ) : Type 0 where
   route : ℕ
   place : ℕ
   filled : route < 6
   within : place < 4
   is : b .desk .route route place ≡ hex
-  free : holdsEnemy (scene b) (forceOf b u) hex ≡ false
+  free : shut b u hex ≡ false
 
 module _ (b : Board) (u hex : ℕ) where
   serves-leads : (r : ℕ) → serves b u hex r ≡ true → any (clearTo b u hex r) 4 ≡ true
@@ -65,9 +66,15 @@ module _ (b : Board) (u hex : ℕ) where
       let x = both-yes (eqb (b .desk .route r j) hex) (not h) e in
       (eqb-true (b .desk .route r j) hex (x .0), not-true h (x .1))
 
-  free-there : (r j : ℕ) → b .desk .route r j ≡ hex → heldAt b u r j ≡ false → holdsEnemy (scene b) (forceOf b u) hex ≡ false
+  free-there : (r j : ℕ) → b .desk .route r j ≡ hex → heldAt b u r j ≡ false → shut b u hex ≡ false
   unfolding heldAt
-  free-there r j e f = ap (holdsEnemy (scene b) (forceOf b u)) (sym e) ∙ f
+  free-there r j e f = ap (shut b u) (sym e) ∙ f
+
+  all-own-there : shut b u hex ≡ false → (w : ℕ) → w < b .units .count → b .units .hex w ≡ hex → forceOf b w ≡ forceOf b u
+  unfolding shut
+  all-own-there e =
+      let n = neither (holdsEnemy (scene b) (forceOf b u) hex) (holdsNeutral (scene b) (forceOf b u) hex) e in
+      all-own b u hex (n .0) (n .1)
 
   reached : noRoute b u hex ≡ false → Reached b u hex
   unfolding noRoute
@@ -117,7 +124,7 @@ module _ {p : List ℕ} (a : Accepted p) where
               ap (standable b) (sym (r .is))
               ∙ a .lawful .routes (r .route) (r .filled) .places (r .place) (r .within) .stands (λ z. n (sym (r .is) ∙ z));
           few = omega (arith, leb-false 3 (others b u hex) f);
-          own = λ w m _ z. no-enemy b u hex (r .free) w m z;
+          own = λ w m _ z. all-own-there b u hex (r .free) w m z;
         }
 
     lawful-advance :

@@ -1,7 +1,7 @@
 -- An accepted position stays accepted after an attack.
 -- Assumes nothing.
 use Prim.Native.Nat.{ℕ, _+_, _-_, _*_, _≤_, _<_}
-use mathlib.Core.Path.{_≡_, sym}
+use mathlib.Core.Path.{_≡_, sym, ap, _∙_}
 use mathlib.Core.Bool.{true, false, not, _&&_}
 use mathlib.Core.List.{List, [], _∷_, map}
 use native.Mathlib.Omega.{arith}
@@ -21,10 +21,10 @@ use Rattle.ruling.specs.Verdict.{turnedAll, outcome}
 use Rattle.ruling.specs.Secret.{Each}
 use Rattle.ruling.proofs.Kept.{Kept, kept-past, kept-ruled}
 use Rattle.ruling.proofs.Turning.{uncovered, kept-seen, kept-each}
-use Rattle.field.specs.Scene.{scene}
+use Rattle.field.specs.Scene.{scene, forceIn}
 use Rattle.field.specs.Phasing.{notPhasing}
 use Rattle.field.specs.Zone.{standsOn, enemyOn, holdsEnemy}
-use Rattle.field.proofs.Zones.{force-in}
+use Rattle.field.proofs.Zones.{force-in, enemy-other}
 use Rattle.field.specs.Listed.{listLength, noUnit, allThere, named, andThen}
 use Rattle.results.specs.declared.Upshot.{Upshot}
 use Rattle.battle.specs.Attack.{dieFits, mayAttackNow, foughtOn, noTarget, cannotAttack, notBeside, attacker, attackers, inRange, attackChecks}
@@ -79,12 +79,10 @@ module _ (b : Board) where
       (eqb-true (b .desk .stage) 0 (h .0), eqb-true (b .desk .phase) 1 (h .1))
 
   enemy-parts : (f h u : ℕ) → enemyOn (scene b) f h u ≡ true → (b .units .hex u ≡ h) × (forceOf b u ≡ f → ⊥)
-  unfolding enemyOn enemy
+  unfolding enemyOn
   enemy-parts f h u e =
-      let g = forceOf b u in
-      let q : (standsOn (scene b) h u && not (eqb f g)) ≡ true = rw (force-in b u) e in
-      let x = both-yes (standsOn (scene b) h u) (not (eqb f g)) q in
-      (stands-is b h u (x .0), λ z. eqb-false f g (not-true (eqb f g) (x .1)) (sym z))
+      let x = both-yes (standsOn (scene b) h u) (enemy b f (forceIn (scene b) u)) e in
+      (stands-is b h u (x .0), enemy-other b f (forceOf b u) (ap (enemy b f) (force-in b u) ∙ x .1))
 
   target-held : (target : ℕ) → noTarget b target ≡ false → Held b target
   unfolding noTarget holdsEnemy

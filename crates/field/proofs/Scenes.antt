@@ -1,8 +1,8 @@
--- Marks, roles and the desk do not matter to zones and supply: a change of them leaves the scene as it was.
+-- Marks, roles, clock, stage and routes do not matter to zones and supply: a change of them leaves the scene as it was.
 -- Assumes nothing.
 use Prim.Native.Nat.{ℕ}
 use mathlib.Core.Path.{_≡_, refl}
-use Rattle.position.specs.Board.{Board, enemy}
+use Rattle.position.specs.Board.{Board, enemy, neutral}
 use Rattle.position.specs.Change.{Change}
 use Rattle.position.specs.Change.Change.{marked, assigned, timed, staged, routed, unrouted}
 use Rattle.position.specs.Effect.{change, turnedUp}
@@ -18,7 +18,7 @@ pub data Still : Change → Type 0 where
   routes : Still unrouted
 
 pub scene-marks : (b : Board) {x : Change} → Still x → scene (change b x) ≡ scene b
-unfolding change enemy
+unfolding change enemy neutral
 scene-marks b marks = refl
 scene-marks b role = refl
 scene-marks b clock = refl
@@ -28,5 +28,5 @@ scene-marks b routes = refl
 
 -- nor does it matter who is turned over
 pub scene-turned-up : (b : Board) (u x : ℕ) → scene (turnedUp b u x) ≡ scene b
-unfolding turnedUp enemy
+unfolding turnedUp enemy neutral
 scene-turned-up b u x = refl

@@ -2,22 +2,28 @@
 -- Assumes nothing.
 use Prim.Native.Nat.{ℕ, _+_, _≤_, _<_}
 use mathlib.Core.Path.{_≡_, refl, sym, ap, _∙_}
-use mathlib.Core.Bool.{Bool, true, false, not}
+use mathlib.Core.Bool.{Bool, true, false, not, _&&_}
 use native.Mathlib.Omega.{arith}
 use lib.Dec.{ltb, eqb}
 use borrow.Author.Tests.{ltb-true, lt-ltb, eq-eqb, ne-eqb, eqb-true, eqb-false, not-true, not-false}
 use Rattle.grid.specs.declared.Beside.{Beside}
 use Rattle.grid.specs.declared.Beside.the-variants.{At, Off}
 use Rattle.position.specs.Tally.{any}
-use Rattle.position.specs.Board.{Board, forceOf, enemy}
+use Rattle.position.specs.Board.{Board, forceOf, enemy, neutral, relates}
+use Rattle.position.specs.declared.forces.Relation.{Relation}
+use Rattle.position.specs.declared.forces.Relation.the-variants.{Enemy, Neutral}
 use Rattle.position.specs.Ground.{beside, side}
-use Rattle.position.proofs.Tallies.{both-yes, not-both, any-zero, any-miss, any-some, any-true, any-false}
+use Rattle.position.proofs.Tallies.{both-yes, not-both, either, any-zero, any-miss, any-some, any-true, any-false}
 use Rattle.field.specs.Scene.{Scene, scene, forceIn}
 use Rattle.field.specs.Zone.{
   standsOn,
   ownOn,
   enemyOn,
   holdsEnemy,
+  neutralOn,
+  holdsNeutral,
+  relatedOn,
+  holdsRelated,
   holdsCaster,
   casterAt,
   castsOver,
@@ -68,6 +74,25 @@ module _ (s : Scene) (f h u : ℕ) where
   pub enemy-off : (s .hex u ≡ h → ⊥) → enemyOn s f h u ≡ false
   unfolding enemyOn
   enemy-off e = simp (stands-off s h u e)
+
+  neutral-here : s .hex u ≡ h → neutralOn s f h u ≡ s .neutral f (forceIn s u)
+  unfolding neutralOn
+  neutral-here e = simp (stands-here s h u e)
+
+  -- for either relation
+  pub related-off : (w : Relation) → (s .hex u ≡ h → ⊥) → relatedOn s w f h u ≡ false
+  unfolding neutralOn
+  related-off Enemy e = enemy-off e
+  related-off Neutral e = simp (stands-off s h u e)
+
+pub related-here : (b : Board) (w : Relation) (f h u : ℕ) → b .units .hex u ≡ h → relatedOn (scene b) w f h u ≡ relates b w f (forceOf b u)
+related-here b Enemy f h u e = enemy-here (scene b) f h u e ∙ ap (enemy b f) (sym (force-in b u))
+related-here b Neutral f h u e = neutral-here (scene b) f h u e ∙ ap (neutral b f) (sym (force-in b u))
+
+pub holds-any : (s : Scene) (w : Relation) (f h : ℕ) → holdsRelated s w f h ≡ any (relatedOn s w f h) (s .count)
+unfolding holdsEnemy holdsNeutral
+holds-any s Enemy f h = refl
+holds-any s Neutral f h = refl
 
 module _ (s : Scene) (f h : ℕ) where
   -- outside all-sea a zone comes from any direction,
@@ -161,13 +186,31 @@ module _ (s : Scene) (f h : ℕ) where
       let e = enemy-casts s f h (z .force) (z .against) ∙ from-casts s (z .force) h (z .from) in
       any-true (enemyCasts s f h) 4 (z .force) (z .among) e
 
--- where no Enemy of unit u stands, all that stand there are of its force
-pub no-enemy :
-    (b : Board) (u h : ℕ) → holdsEnemy (scene b) (forceOf b u) h ≡ false
+-- no force is Enemy to itself
+pub enemy-other : (b : Board) (f g : ℕ) → enemy b f g ≡ true → g ≡ f → ⊥
+unfolding enemy
+enemy-other b f g e z =
+    let t = eqb (b .desk .player f) (b .desk .player g) in
+    not-both t (eq-eqb (b .desk .player f) (b .desk .player g) (ap (b .desk .player) (sym z))) (not-true t e)
+
+-- another force is Enemy or neutral
+same-force : (b : Board) (f g : ℕ) → enemy b f g ≡ false → neutral b f g ≡ false → g ≡ f
+unfolding enemy neutral
+same-force b f g e n =
+    let k = not-false (eqb (b .desk .player f) (b .desk .player g)) e in
+    either (eqb f g)
+    (λ z. sym (eqb-true f g z))
+    (λ z. not-both (not (eqb f g) && eqb (b .desk .player f) (b .desk .player g)) (simp (z, k)) n)
+
+-- where neither Enemy of unit u nor a neutral force stands, all that stand there are of its force
+pub all-own :
+    (b : Board) (u h : ℕ) → holdsEnemy (scene b) (forceOf b u) h ≡ false → holdsNeutral (scene b) (forceOf b u) h ≡ false
     → (w : ℕ) → w < b .units .count → b .units .hex w ≡ h → forceOf b w ≡ forceOf b u
-unfolding holdsEnemy enemy
-no-enemy b u h e w l z =
+all-own b u h e n w l z =
     let f = forceOf b u in
-    let n = any-false (enemyOn (scene b) f h) (b .units .count) w e l in
-    let q = not-false (eqb f (forceOf b w)) (ap (enemy b f) (force-in b w) ∙ sym (enemy-here (scene b) f h w z) ∙ n) in
-    sym (eqb-true f (forceOf b w) q)
+    same-force b f (forceOf b w) (none Enemy e) (none Neutral n)
+  where
+    none : (t : Relation) → holdsRelated (scene b) t (forceOf b u) h ≡ false → relates b t (forceOf b u) (forceOf b w) ≡ false
+    none t x =
+        let f = forceOf b u in
+        sym (related-here b t f h w z) ∙ any-false (relatedOn (scene b) t f h) (b .units .count) w (sym (holds-any (scene b) t f h) ∙ x) l

@@ -13,7 +13,7 @@ use Rattle.ruling.specs.Judged.{Passes, Stops}
 use Rattle.ruling.proofs.Meets.{pass, stop}
 use Rattle.ruling.proofs.Going.{Gone, gone-more}
 use Rattle.field.specs.Scene.{scene}
-use Rattle.field.specs.Zone.{holdsEnemy}
+use Rattle.field.specs.Zone.{holdsEnemy, holdsNeutral}
 use Rattle.march.specs.Move.{Leg, leg, afterStep, allowed, leavesZone, noStep, step}
 use Rattle.march.specs.Judged.{Onward, PathOf}
 use Rattle.march.specs.declared.Path.{Path}
@@ -35,19 +35,29 @@ module _ (p : List ℕ) (b : Board) (u : ℕ) (l : Leg) (x k : ℕ) where
   unfolding step
   stops-enemy e f g m v = pass e (pass f (stop g))
 
-  pub stops-spent :
+  pub stops-neutral :
       leavesZone b u l k ≡ false → noStep b (l .at) x ≡ false → holdsEnemy (scene b) (forceOf b u) x ≡ false
-      → allowed b u < afterStep b l x .spent
-      → Stops p (step b u l x k) 10 k
+      → holdsNeutral (scene b) (forceOf b u) x ≡ true
+      → Stops p (step b u l x k) 18 k
   unfolding step
-  stops-spent e f g h m v = pass e (pass f (pass g (stop (lt-ltb (allowed b u) (afterStep b l x .spent) h))))
+  stops-neutral e f g n m v = pass e (pass f (pass g (stop n)))
 
-  pub passes-step :
-      leavesZone b u l k ≡ false → noStep b (l .at) x ≡ false → holdsEnemy (scene b) (forceOf b u) x ≡ false
-      → afterStep b l x .spent ≤ allowed b u
-      → Passes p (step b u l x k)
+  -- the tests before the last, passed
+  pub record Open : Type 0 where
+    pub zone : leavesZone b u l k ≡ false
+    pub ground : noStep b (l .at) x ≡ false
+    pub foe : holdsEnemy (scene b) (forceOf b u) x ≡ false
+    pub neutral : holdsNeutral (scene b) (forceOf b u) x ≡ false
+
+  pub stops-spent : Open → allowed b u < afterStep b l x .spent → Stops p (step b u l x k) 10 k
   unfolding step
-  passes-step e f g h m v a q r w = pass e (pass f (pass g (pass (le-ltb (allowed b u) (afterStep b l x .spent) h) w)))
+  stops-spent o h m v =
+      pass (o .zone) (pass (o .ground) (pass (o .foe) (pass (o .neutral) (stop (lt-ltb (allowed b u) (afterStep b l x .spent) h)))))
+
+  pub passes-step : Open → afterStep b l x .spent ≤ allowed b u → Passes p (step b u l x k)
+  unfolding step
+  passes-step o h m v a q r w =
+      pass (o .zone) (pass (o .ground) (pass (o .foe) (pass (o .neutral) (pass (le-ltb (allowed b u) (afterStep b l x .spent) h) w))))
 
 -- past a step, to where it leads and what it comes to
 pub gone-step :

@@ -21,8 +21,8 @@ use Rattle.ruling.specs.Verdict.{Verdict, outcome}
 use Rattle.field.specs.Scene.{scene}
 use Rattle.field.specs.Phasing.{notPhasing}
 use Rattle.field.specs.Listed.{offMap, onMapAll}
-use Rattle.field.specs.Zone.{holdsEnemy}
-use Rattle.field.proofs.Zones.{no-enemy}
+use Rattle.field.specs.Zone.{holdsEnemy, holdsNeutral}
+use Rattle.field.proofs.Zones.{all-own}
 use Rattle.march.specs.Move.{
   pathLength,
   mayMoveNow,
@@ -122,8 +122,10 @@ module _ {p l : List ℕ} (a : Accepted p) (u : ℕ) where
       (λ e.
       kept-past a (holdsEnemy (scene b) (forceOf b u) x)
       (λ g.
+      kept-past a (holdsNeutral (scene b) (forceOf b u) x)
+      (λ n.
       kept-past a (ltb (allowed b u) (afterStep b s x .spent))
-      (λ _. f (record { stands = step-stands b (s .at) x e; own = no-enemy b u x g })))))
+      (λ _. f (record { stands = step-stands b (s .at) x e; own = all-own b u x g n }))))))
 
   kept-move : (path : List ℕ) → Kept p l (moveVerdict p u path)
   unfolding moveVerdict moveRule moveChecks onMapAll offMap steps

@@ -89,10 +89,11 @@ pub fn one_step(p: &[u8], v: View, u: usize, at: usize, spent: usize, x: usize, 
     if no_step(p, v, at, x) {
         return Way::Stop(7, k);
     }
-    if zone::holds_enemy(p, v, forces::force_of(p, v, u), x) {
+    let f = forces::force_of(p, v, u);
+    if zone::holds_enemy(p, v, f, x) {
         return Way::Stop(8, k);
     }
-    if zone::holds_neutral(p, v, forces::force_of(p, v, u), x) {
+    if zone::holds_neutral(p, v, f, x) {
         return Way::Stop(18, k);
     }
     let total = spent + step_cost(p, v, at, x);

@@ -4,17 +4,17 @@ use Prim.Native.Nat.{ℕ, _<_}
 use mathlib.Core.Path.{_≡_, refl, sym, ap, ap₂, _∙_}
 use mathlib.Core.Bool.{Bool, true, false, not, _&&_}
 use lib.Dec.{eqb, ltb}
-use borrow.Author.Tests.{eq-eqb, ne-eqb, not-true}
+use borrow.Author.Tests.{ne-eqb}
 use Rattle.grid.specs.declared.Beside.{Beside}
 use Rattle.grid.specs.declared.Beside.the-variants.{At, Off}
 use Rattle.position.specs.Tally.{any}
 use Rattle.position.specs.Board.{Board, Map, enemy, forceOf}
 use Rattle.position.specs.Ground.{beside, side}
-use Rattle.position.proofs.Tallies.{any-same, either, not-both, same-or}
+use Rattle.position.proofs.Tallies.{any-same, either, same-or}
 use Rattle.acceptance.proofs.Carries.{Fixed, standable-by}
 use Rattle.field.specs.Scene.{Scene, forceIn}
 use Rattle.field.specs.Zone.{standsOn, ownOn, casterOn, holdsCaster, casterAt, castsOver, casts, enemyCasts, enemyZone}
-use Rattle.field.proofs.Zones.{force-in}
+use Rattle.field.proofs.Zones.{force-in, enemy-other}
 use Rattle.routes.specs.Bears.{bears}
 
 -- two scenes of one map and one set of counters, in which the units of other forces than f stand alike
@@ -86,9 +86,8 @@ bears-same {b} {c} f x o h =
       count = x .count;
       nationality = x .nationality;
       kind = x .kind;
-      foe = λ g. refl;
-      other =
-          λ g e z. not-both (eqb f g) (eq-eqb f g (sym z)) (not-true (eqb f g) e);
+      foe = λ g. ap (λ (q : ℕ → ℕ). not (eqb (q f) (q g))) (x .players);
+      other = enemy-other b f;
       hex = λ w l n. o w l (λ z. n (sym (force-in b w) ∙ z));
     })
     h)
