@@ -83,7 +83,7 @@ module _ (p : List ℕ) (t f ph : ℕ) where
           stage = clock-bytes 4 i;
           owed = clock-bytes 5 i;
           need = need-from p q (clock-bytes 6) (clock-bytes 7) i;
-          route = fun-ext (λ r. fun-ext (route-from p q (λ k l. clock-far k (omega arith)) r)) i;
+          route = fun-ext (λ r. fun-ext (route-from p q (λ k l _. clock-far k (omega arith)) r)) i;
           player = fun-ext (clock-desked .players) i;
         }
 
@@ -140,7 +140,7 @@ module _ (p : List ℕ) (st n x : ℕ) where
           stage = stage-bytes 4 i;
           owed = stage-bytes 5 i;
           need = need-set i;
-          route = fun-ext (λ r. fun-ext (route-from p q stage-far r)) i;
+          route = fun-ext (λ r. fun-ext (route-from p q (λ k l _. stage-far k l) r)) i;
           player = fun-ext (stage-desked .players) i;
         }
 

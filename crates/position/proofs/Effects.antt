@@ -40,7 +40,7 @@ use Rattle.position.specs.Shape.{Shaped}
 use Rattle.position.specs.Change.{Change, make, makes, turned}
 use Rattle.position.specs.Change.Change.{placed, destroyed, marked, assigned, timed, staged, routed, unrouted}
 use Rattle.position.specs.Effect.{upd, withHex, withMarks, withRole, withShown, withClock, withStage, withRoutes, ofFour, reroute, unfilled, withUnits, withDesk, change, changes, turnedUp}
-use Rattle.position.proofs.Tables.{hex-in, set-unit-out}
+use Rattle.position.proofs.Tables.{hex-in, route-in, route-past, route-over, set-unit-out}
 use Rattle.position.proofs.Front.{Front, front-trans, front-refl, shaped-kept, chart-kept, results-kept, ground-kept, count-kept, hexes-kept, named-kept}
 use Rattle.position.proofs.Writes.{front-unit, front-desk, unit-unit, unit-same, desk-unit, unit-desk, desk-desk, desk-same}
 
@@ -88,9 +88,16 @@ pub need-from : (p q : List ℕ) → deskByte q 6 ≡ deskByte p 6 → deskByte 
 unfolding need
 need-from p q a b = ap₂ (λ (x y : ℕ). x + 256 * y) a b
 
-pub route-from : (p q : List ℕ) → ((k : ℕ) → 8 ≤ k → deskByte q k ≡ deskByte p k) → (r j : ℕ) → route q r j ≡ route p r j
-unfolding route
-route-from p q h r j = rw (h (routeField r j) (omega arith), h (routeField r j + 1) (omega arith))
+pub route-from : (p q : List ℕ) → ((k : ℕ) → 8 ≤ k → k < 56 → deskByte q k ≡ deskByte p k) → (r j : ℕ) → route q r j ≡ route p r j
+route-from p q h r j = at (decLt r 6) (decLt j 4)
+  where
+    at : Dec (r < 6) → Dec (j < 4) → route q r j ≡ route p r j
+    at (yes l) (yes m) =
+        route-in q r j l m
+        ∙ ap₂ (λ (a b : ℕ). a + 256 * b) (h (routeField r j) (omega arith) (omega arith)) (h (routeField r j + 1) (omega arith) (omega arith))
+        ∙ sym (route-in p r j l m)
+    at (yes l) (no m) = route-over q r j l (omega arith) ∙ sym (route-over p r j l (omega arith))
+    at (no l) m = route-past q r j (omega arith) ∙ sym (route-past p r j (omega arith))
 
 -- the players, which stand behind all that a call writes
 pub player-from : {p q : List ℕ} → Front p q → ((k : ℕ) → 56 ≤ k → deskByte q k ≡ deskByte p k) → (f : ℕ) → player q f ≡ player p f
@@ -112,19 +119,19 @@ units-from p q e h =
       role = fun-ext (λ w. h w 7 (omega arith)) i;
     }
 
-pub desk-from : {p q : List ℕ} → Front p q → ((k : ℕ) → deskByte q k ≡ deskByte p k) → desk q ≡ desk p
-desk-from {p} {q} s h =
+pub desk-from : (p q : List ℕ) → ((k : ℕ) → k < 56 → deskByte q k ≡ deskByte p k) → ((f : ℕ) → player q f ≡ player p f) → desk q ≡ desk p
+desk-from p q h g =
     λ i.
     record {
-      turn = h 0 i;
-      lastTurn = h 1 i;
-      force = h 2 i;
-      phase = h 3 i;
-      stage = h 4 i;
-      owed = h 5 i;
-      need = need-from p q (h 6) (h 7) i;
-      route = fun-ext (λ r. fun-ext (route-from p q (λ k l. h k) r)) i;
-      player = fun-ext (player-from s (λ k l. h k)) i;
+      turn = h 0 (omega arith) i;
+      lastTurn = h 1 (omega arith) i;
+      force = h 2 (omega arith) i;
+      phase = h 3 (omega arith) i;
+      stage = h 4 (omega arith) i;
+      owed = h 5 (omega arith) i;
+      need = need-from p q (h 6 (omega arith)) (h 7 (omega arith)) i;
+      route = fun-ext (λ r. fun-ext (route-from p q (λ k _ l. h k l) r)) i;
+      player = fun-ext g i;
     }
 
 -- the board, from its parts: a write behind the front leaves the rest
@@ -315,7 +322,9 @@ module _ {p : List ℕ} (s : Shaped p) (u h : ℕ) where
 
 -- a unit's bytes leave the desk, and the desk's bytes leave the units
 pub desk-behind : (p : List ℕ) (u f x : ℕ) → f < 8 → desk (setUnit p u f x) ≡ desk p
-desk-behind p u f x l = desk-from (front-unit p u f x) (desk-unit p u f x l)
+desk-behind p u f x l =
+    let h = desk-unit p u f x l in
+    desk-from p (setUnit p u f x) (λ k _. h k) (player-from (front-unit p u f x) (λ k _. h k))
 
 pub units-before : (p : List ℕ) (f x : ℕ) → units (setDesk p f x) ≡ units p
 units-before p f x = units-from p (setDesk p f x) (count-kept (front-desk p f x)) (unit-desk p f x)

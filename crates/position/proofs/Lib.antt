@@ -7,10 +7,13 @@ pub mod BitLaws
 pub mod Tallies
 pub mod Crowds
 pub mod Sides
+pub mod Bodies
 pub mod Front
 pub mod Writes
 pub mod Effects
 pub mod DeskEffects
 pub mod Changes
+pub mod Twins
+pub mod Players
 pub mod Restores
 pub mod Laying

@@ -12,7 +12,8 @@ use Rattle.position.specs.Layout.{byte, unitsAt, count, deskAt, unitAt, 
 use Rattle.position.specs.Shape.{Shaped}
 use Rattle.position.proofs.Cells.{cell-in, cell-out}
 use Rattle.position.proofs.Tables.{set-unit-in, set-unit-out}
-use Rattle.position.proofs.Front.{Front, front-refl, front-set, unitsAt-kept, count-kept, deskAt-kept, unitAt-kept}
+use Rattle.position.proofs.Bodies.{Bodies, count-same, deskAt-same, unitAt-same}
+use Rattle.position.proofs.Front.{Front, front-refl, front-set, front-bodies, unitsAt-kept, count-kept, deskAt-kept, unitAt-kept}
 
 -- a unit's byte in the list, and past the units
 pub unit-in : (p : List ℕ) (u f : ℕ) → u < count p → unitByte p u f ≡ byte p (unitAt p u + f)
@@ -47,28 +48,28 @@ pub byte-desk : (p : List ℕ) (f x i : ℕ) → (i ≡ deskAt p + f → ⊥) �
 unfolding setDesk
 byte-desk p f x i n = getD-set-other p (deskAt p + f) i x 0 n
 
--- a unit's byte in a position that has the same front
-pub unit-there : {p q : List ℕ} → Front p q → (w g : ℕ) → (w < count p → byte q (unitAt p w + g) ≡ byte p (unitAt p w + g)) → unitByte q w g ≡ unitByte p w g
+-- a unit's byte in a position that has the same bodies before the units' records
+pub unit-there : {p q : List ℕ} → Bodies p q → (w g : ℕ) → (w < count p → byte q (unitAt p w + g) ≡ byte p (unitAt p w + g)) → unitByte q w g ≡ unitByte p w g
 unit-there {p} {q} f w g h = at (decLt w (count p))
   where
     at : Dec (w < count p) → unitByte q w g ≡ unitByte p w g
     at (yes l) =
-        unit-in q w g (omega (arith, count-kept f))
-        ∙ ap (λ (i : ℕ). byte q (i + g)) (unitAt-kept f w)
+        unit-in q w g (omega (arith, count-same f))
+        ∙ ap (λ (i : ℕ). byte q (i + g)) (unitAt-same f w)
         ∙ h l
         ∙ sym (unit-in p w g l)
-    at (no n) = unit-out q w g (omega (arith, count-kept f)) ∙ sym (unit-out p w g (omega arith))
+    at (no n) = unit-out q w g (omega (arith, count-same f)) ∙ sym (unit-out p w g (omega arith))
 
-pub desk-there : {p q : List ℕ} → Front p q → (k : ℕ) → byte q (deskAt p + k) ≡ byte p (deskAt p + k) → deskByte q k ≡ deskByte p k
+pub desk-there : {p q : List ℕ} → Bodies p q → (k : ℕ) → byte q (deskAt p + k) ≡ byte p (deskAt p + k) → deskByte q k ≡ deskByte p k
 unfolding deskByte
-desk-there {p} {q} f k h = ap (λ (i : ℕ). byte q (i + k)) (deskAt-kept f) ∙ h
+desk-there {p} {q} f k h = ap (λ (i : ℕ). byte q (i + k)) (deskAt-same f) ∙ h
 
 -- the bytes of units and desk after a write to a unit
 module _ (p : List ℕ) (u f x : ℕ) (l : f < 8) where
   pub unit-unit : (w g : ℕ) → g < 8 → (w ≡ u → g ≡ f → ⊥) → unitByte (setUnit p u f x) w g ≡ unitByte p w g
   unfolding unitAt
   unit-unit w g m n =
-      unit-there (front-unit p u f x) w g (λ k. byte-unit p u f x (unitAt p w + g) (λ j e. n (omega arith) (omega arith)))
+      unit-there (front-bodies (front-unit p u f x)) w g (λ k. byte-unit p u f x (unitAt p w + g) (λ j e. n (omega arith) (omega arith)))
 
   pub unit-same : Shaped p → u < count p → unitByte (setUnit p u f x) u f ≡ x
   unfolding deskAt unitAt
@@ -80,16 +81,16 @@ module _ (p : List ℕ) (u f x : ℕ) (l : f < 8) where
 
   pub desk-unit : (k : ℕ) → deskByte (setUnit p u f x) k ≡ deskByte p k
   unfolding deskAt unitAt
-  desk-unit k = desk-there (front-unit p u f x) k (byte-unit p u f x (deskAt p + k) (λ m e. omega arith))
+  desk-unit k = desk-there (front-bodies (front-unit p u f x)) k (byte-unit p u f x (deskAt p + k) (λ m e. omega arith))
 
 -- and after a write to the desk
 module _ (p : List ℕ) (f x : ℕ) where
   pub unit-desk : (w g : ℕ) → g < 8 → unitByte (setDesk p f x) w g ≡ unitByte p w g
   unfolding deskAt unitAt
-  unit-desk w g m = unit-there (front-desk p f x) w g (λ l. byte-desk p f x (unitAt p w + g) (λ e. omega arith))
+  unit-desk w g m = unit-there (front-bodies (front-desk p f x)) w g (λ l. byte-desk p f x (unitAt p w + g) (λ e. omega arith))
 
   pub desk-desk : (k : ℕ) → (k ≡ f → ⊥) → deskByte (setDesk p f x) k ≡ deskByte p k
-  desk-desk k n = desk-there (front-desk p f x) k (byte-desk p f x (deskAt p + k) (λ e. n (omega arith)))
+  desk-desk k n = desk-there (front-bodies (front-desk p f x)) k (byte-desk p f x (deskAt p + k) (λ e. n (omega arith)))
 
   pub desk-same : Shaped p → f < 56 → deskByte (setDesk p f x) f ≡ x
   unfolding deskByte setDesk

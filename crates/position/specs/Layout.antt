@@ -3,7 +3,7 @@
 -- Assumes nothing.
 use Prim.Native.Nat.{ℕ, zero, suc, _+_, _*_, _/_, _%_, _≤_}
 use mathlib.Core.Path.{_≡_}
-use mathlib.Core.List.{List}
+use mathlib.Core.List.{List, [], _∷_, _++_}
 use mathlib.Core.Bool.{cond}
 use lib.ListN.{length, getD, set}
 use lib.Dec.{ltb, eqb}
@@ -195,6 +195,10 @@ route p r j = cond (ltb r 6) (cond (ltb j 4) (deskByte p (routeField r j) + 256 
 -- "one byte per force naming its player, 0..3"; "Positions of the old length are read with four players"
 unfoldable pub player : List ℕ → ℕ → ℕ
 player p f = cond (ltb f (named p)) (deskByte p (playersField + f)) f
+
+-- the position with a longer desk, which names the players 0, 1, 2, 3
+unfoldable pub withPlayers : List ℕ → List ℕ
+withPlayers p = set p (4 * 4 + 2) (playersField + 4) ++ (0 ∷ 1 ∷ 2 ∷ 3 ∷ [])
 
 -- the position with another number in byte f of unit u, or of the desk; as it was where there is no such unit
 unfoldable pub setUnit : List ℕ → ℕ → ℕ → ℕ → List ℕ

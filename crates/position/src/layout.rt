@@ -138,7 +138,14 @@ pub fn hex_byte(p: &[u8], v: View, h: usize, f: usize) -> usize
     requires { ⌜ Laid (now p) v × (f < 5) ⌝ }
     ensures { λ r. ⌜ Read (hexByte (now (p .entry)) h f) 256 r ⌝ }
 {
-    cell(p, RESULTS + 1 + COLUMN_SIZE * v.columns + 2, HEX_SIZE, v.hexes, h, f)
+    cell(
+        p,
+        RESULTS + 1 + COLUMN_SIZE * v.columns + 2,
+        HEX_SIZE,
+        v.hexes,
+        h,
+        f,
+    )
 }
 
 pub fn unit_byte(p: &[u8], v: View, u: usize, f: usize) -> usize

@@ -116,7 +116,12 @@ pub fn shape(p: &[u8]) -> Checked
     if !entry(p, 1, layout::RESULTS, 1 + layout::COLUMN_SIZE * v.columns) {
         return Checked::Broken;
     }
-    if !entry(p, 2, layout::RESULTS + 1 + layout::COLUMN_SIZE * v.columns, 2 + layout::HEX_SIZE * v.hexes) {
+    if !entry(
+        p,
+        2,
+        layout::RESULTS + 1 + layout::COLUMN_SIZE * v.columns,
+        2 + layout::HEX_SIZE * v.hexes,
+    ) {
         return Checked::Broken;
     }
     if !entry(p, 3, v.units - 2, 2 + layout::UNIT_SIZE * v.count) {

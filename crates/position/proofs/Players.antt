@@ -1,0 +1,265 @@
+-- A desk of the old length and the same desk with the players named that it is read with: one board, and each change made to both.
+-- Assumes nothing.
+use Prim.Native.Nat.{ℕ, zero, suc, _+_, _*_, _≤_, _<_}
+use mathlib.Core.Path.{_≡_, refl, sym, ap, ap₂, fun-ext, _∙_}
+use mathlib.Core.List.{List, [], _∷_, _++_}
+use mathlib.Core.Bool.{Bool, true, false, not, cond, _&&_}
+use native.Mathlib.Omega.{arith}
+use native.Mathlib.Decide.{decLt, ℕ-discrete}
+use lib.ListN.{length, getD, set, length-set, length-append, List·getD-append}
+use lib.Seq.{getD-set-same, getD-set-other, getD-append-add, set-append-left, set-comm}
+use lib.Dec.{eqb}
+use borrow.Author.Tests.{eq-eqb, ne-eqb}
+use Rattle.position.specs.Bits.{with, tried}
+use Rattle.position.specs.Layout.{
+  byte,
+  word,
+  extent,
+  mapAt,
+  hexes,
+  unitsAt,
+  count,
+  playersField,
+  named,
+  deskLength,
+  deskAt,
+  unitAt,
+  unitByte,
+  strengthField,
+  strength,
+  marks,
+  deskByte,
+  player,
+  withPlayers,
+  setUnit,
+  setDesk,
+  setMarks,
+}
+use Rattle.position.specs.Board.{Board, board, units, desk, enemy, neutral}
+use Rattle.position.specs.Shape.{Shaped}
+use Rattle.position.specs.Change.{turned}
+use Rattle.position.proofs.Tables.{player-in, player-out, set-unit-in, set-unit-out}
+use Rattle.position.proofs.Bodies.{Bodies, hexes-same, count-same, deskAt-same, unitAt-same, chart-same, results-same, ground-same, shaped-same}
+use Rattle.position.proofs.Front.{Front, shaped-kept, extent-kept}
+use Rattle.position.proofs.Writes.{unit-there, desk-there, front-unit, front-desk}
+use Rattle.position.proofs.Effects.{units-from, desk-from}
+use Rattle.position.proofs.Twins.{Twin}
+
+-- the bytes of the longer position
+module _ (p : List ℕ) where
+  pub with-length : length (withPlayers p) ≡ length p + 4
+  unfolding withPlayers
+  with-length = length-append (set p 18 60) (0 ∷ 1 ∷ 2 ∷ 3 ∷ []) ∙ omega (arith, length-set p 18 60)
+
+  with-byte : (i : ℕ) → i < length p → (i ≡ 18 → ⊥) → byte (withPlayers p) i ≡ byte p i
+  unfolding withPlayers
+  with-byte i l n =
+      List·getD-append (set p 18 60) (0 ∷ 1 ∷ 2 ∷ 3 ∷ []) 0 i (omega (arith, length-set p 18 60)) ∙ getD-set-other p 18 i 60 0 n
+
+  with-entry : 18 < length p → byte (withPlayers p) 18 ≡ 60
+  unfolding withPlayers
+  with-entry l =
+      List·getD-append (set p 18 60) (0 ∷ 1 ∷ 2 ∷ 3 ∷ []) 0 18 (omega (arith, length-set p 18 60)) ∙ getD-set-same p 18 60 0 l
+
+  with-tail : (f : ℕ) → byte (withPlayers p) (length p + f) ≡ byte (0 ∷ 1 ∷ 2 ∷ 3 ∷ []) f
+  unfolding withPlayers
+  with-tail f =
+      ap (λ (n : ℕ). byte (set p 18 60 ++ (0 ∷ 1 ∷ 2 ∷ 3 ∷ [])) (n + f)) (sym (length-set p 18 60))
+      ∙ getD-append-add (set p 18 60) (0 ∷ 1 ∷ 2 ∷ 3 ∷ []) f 0
+
+-- the four players by name
+spelled : (f : ℕ) → f < 4 → byte (0 ∷ 1 ∷ 2 ∷ 3 ∷ []) f ≡ f
+spelled zero l = refl
+spelled (suc zero) l = refl
+spelled (suc (suc zero)) l = refl
+spelled (suc (suc (suc zero))) l = refl
+spelled (suc (suc (suc (suc f)))) l = absurd (omega arith)
+
+-- what the desk's length says
+module _ (p : List ℕ) (short : extent p 4 ≡ 56) where
+  none-named : named p ≡ 0
+  unfolding named
+  none-named = simp (ne-eqb (extent p 4) 60 (λ e. omega arith))
+
+  long-said : 20 ≤ length p → extent (withPlayers p) 4 ≡ 60
+  unfolding extent word
+  long-said l =
+      let e = with-byte p 19 (omega arith) (λ z. omega arith) in
+      let h = with-entry p (omega arith) in
+      let s = short in
+      omega (arith, e, h, s)
+
+  all-named : 20 ≤ length p → named (withPlayers p) ≡ 4
+  unfolding named
+  all-named l = simp (eq-eqb (extent (withPlayers p) 4) 60 (long-said l))
+
+-- the same bodies before the units' records, both ways
+bodies-with : (p : List ℕ) → unitsAt p + 2 ≤ length p → Bodies p (withPlayers p)
+unfolding unitsAt mapAt
+bodies-with p l =
+    record {
+      contents = λ i m. with-byte p i (omega arith) (λ e. omega arith);
+      same = λ i m n. with-byte p i (omega arith) (λ e. omega arith);
+    }
+
+bodies-without : (p : List ℕ) → unitsAt (withPlayers p) + 2 ≤ length p → Bodies (withPlayers p) p
+unfolding unitsAt mapAt
+bodies-without p l =
+    record {
+      contents = λ i m. sym (with-byte p i (omega arith) (λ e. omega arith));
+      same = λ i m n. sym (with-byte p i (omega arith) (λ e. omega arith));
+    }
+
+-- a position whose bodies lie as they should, on a desk of the old length
+pub record Old (p : List ℕ) : Type 0 where
+  pub shaped : Shaped p
+  pub short : extent p 4 ≡ 56
+
+pub old-kept : {p q : List ℕ} → Front p q → Old p → Old q
+old-kept f o = record { shaped = shaped-kept f (o .shaped); short = extent-kept f ∙ o .short }
+
+module _ {p : List ℕ} (o : Old p) where
+  -- where it ends
+  ends : length p ≡ deskAt p + 56
+  ends = omega (arith, o .shaped .whole, none-named p (o .short))
+
+  long : 20 ≤ length p
+  unfolding deskAt unitsAt mapAt
+  long = omega (arith, ends)
+
+  bodies : Bodies p (withPlayers p)
+  unfolding deskAt
+  bodies = bodies-with p (omega (arith, ends))
+
+  pub shaped-with : Shaped (withPlayers p)
+  shaped-with =
+      shaped-same bodies (omega (arith, long-said p (o .short) long, all-named p (o .short) long))
+      (omega (arith, with-length p, ends, deskAt-same bodies, all-named p (o .short) long))
+      (o .shaped)
+
+  unit-byte : (w g : ℕ) → g < 8 → unitByte (withPlayers p) w g ≡ unitByte p w g
+  unfolding unitAt deskAt unitsAt mapAt
+  unit-byte w g l = unit-there bodies w g (λ m. with-byte p (unitAt p w + g) (omega (arith, ends)) (λ e. omega arith))
+
+  pub strength-with : (w : ℕ) → strength (withPlayers p) w ≡ strength p w
+  strength-with w = unit-byte w strengthField (omega arith)
+
+  desk-byte : (k : ℕ) → k < 56 → deskByte (withPlayers p) k ≡ deskByte p k
+  unfolding deskAt unitsAt mapAt
+  desk-byte k l = desk-there bodies k (with-byte p (deskAt p + k) (omega (arith, ends)) (λ e. omega arith))
+
+  -- the players named are those that the old desk is read with
+  pub old-player : (f : ℕ) → player p f ≡ f
+  old-player f = player-out p f (omega (arith, none-named p (o .short)))
+
+  player-with : (f : ℕ) → player (withPlayers p) f ≡ f
+  unfolding deskByte
+  player-with f = at (decLt f 4)
+    where
+      n : named (withPlayers p) ≡ 4
+      n = all-named p (o .short) long
+
+      at : Dec (f < 4) → player (withPlayers p) f ≡ f
+      at (yes l) =
+          player-in (withPlayers p) f (omega (arith, n))
+          ∙ ap (byte (withPlayers p)) (omega (arith, deskAt-same bodies, ends))
+          ∙ with-tail p f
+          ∙ spelled f l
+      at (no m) = player-out (withPlayers p) f (omega (arith, n))
+
+  -- so there is one board
+  pub board-with : board (withPlayers p) ≡ board p
+  board-with =
+      let q = withPlayers p in
+      λ i.
+      record {
+        chart = chart-same bodies i;
+        results = results-same bodies i;
+        map = ground-same bodies i;
+        units = units-from p q (count-same bodies) unit-byte i;
+        desk = desk-from p q desk-byte (λ f. player-with f ∙ sym (old-player f)) i;
+      }
+
+  -- and a byte written to one is written to the other
+  with-set : (i x : ℕ) → i < length p → (i ≡ 18 → ⊥) → set (withPlayers p) i x ≡ withPlayers (set p i x)
+  unfolding withPlayers
+  with-set i x l n =
+      set-append-left (set p 18 60) (0 ∷ 1 ∷ 2 ∷ 3 ∷ []) i x (omega (arith, length-set p 18 60))
+      ∙ ap (λ (r : List ℕ). r ++ (0 ∷ 1 ∷ 2 ∷ 3 ∷ [])) (set-comm p 18 i 60 x (λ e. n (sym e)))
+
+  unit-with : (u f x : ℕ) → f < 8 → setUnit (withPlayers p) u f x ≡ withPlayers (setUnit p u f x)
+  unfolding unitAt deskAt unitsAt mapAt
+  unit-with u f x l = at (decLt u (count p))
+    where
+      at : Dec (u < count p) → setUnit (withPlayers p) u f x ≡ withPlayers (setUnit p u f x)
+      at (yes m) =
+          set-unit-in (withPlayers p) u f x (omega (arith, count-same bodies))
+          ∙ ap (λ (i : ℕ). set (withPlayers p) (i + f) x) (unitAt-same bodies u)
+          ∙ with-set (unitAt p u + f) x (omega (arith, ends)) (λ e. omega arith)
+          ∙ ap withPlayers (sym (set-unit-in p u f x m))
+      at (no m) =
+          set-unit-out (withPlayers p) u f x (omega (arith, count-same bodies)) ∙ ap withPlayers (sym (set-unit-out p u f x (omega arith)))
+
+  desk-with : (f x : ℕ) → f < 56 → setDesk (withPlayers p) f x ≡ withPlayers (setDesk p f x)
+  unfolding setDesk deskAt unitsAt mapAt
+  desk-with f x l =
+      ap (λ (i : ℕ). set (withPlayers p) (i + f) x) (deskAt-same bodies)
+      ∙ with-set (deskAt p + f) x (omega (arith, ends)) (λ e. omega arith)
+
+-- a longer position whose bodies lie as they should comes from one whose do
+pub shaped-without : (p : List ℕ) → extent p 4 ≡ 56 → Shaped (withPlayers p) → Shaped p
+unfolding deskAt unitsAt mapAt
+shaped-without p short s =
+    let b = bodies-without p (omega (arith, s .whole, with-length p)) in
+    let n = all-named p short (omega (arith, s .whole, with-length p)) in
+    let d = deskAt-same b in
+    shaped-same b (omega (arith, short, none-named p short))
+    (omega (arith, s .whole, with-length p, n, d, none-named p short))
+    s
+
+-- q is p with the players named
+pub record Lengthened (p q : List ℕ) : Type 0 where
+  pub old : Old p
+  pub is : q ≡ withPlayers p
+
+written : {p q : List ℕ} → Lengthened p q → (u f x : ℕ) → f < 8 → Lengthened (setUnit p u f x) (setUnit q u f x)
+written s u f x l =
+    record {
+      old = old-kept (front-unit _ u f x) (s .old);
+      is = ap (λ (r : List ℕ). setUnit r u f x) (s .is) ∙ unit-with (s .old) u f x l;
+    }
+
+pub twin-players : Twin Lengthened
+unfolding setMarks
+twin-players =
+    record {
+      area = λ s. ap hexes (s .is) ∙ hexes-same (bodies (s .old));
+      shows = λ s u. ap (λ (r : List ℕ). marks r u) (s .is) ∙ unit-byte (s .old) u 6 (omega arith);
+      field = λ s u f x l _. written s u f x l;
+      face = λ s u m _. written s u 6 m (omega arith);
+      desk =
+          λ s f x l.
+          record {
+            old = old-kept (front-desk _ f x) (s .old);
+            is = ap (λ (r : List ℕ). setDesk r f x) (s .is) ∙ desk-with (s .old) f x l;
+          };
+    }
+
+-- a unit turned over in both
+pub turned-with : {p q : List ℕ} → Lengthened p q → (u : ℕ) → Lengthened (turned p u) (turned q u)
+unfolding turned setMarks
+turned-with {p} {q} s u = rw (twin-players .shows s u) (written s u 6 (with tried (marks p u)) (omega arith))
+
+-- on a desk of the old length every other force is Enemy, and none is neutral
+module _ {p : List ℕ} (o : Old p) (f g : ℕ) where
+  pub old-enemy : enemy (board p) f g ≡ not (eqb f g)
+  unfolding enemy
+  old-enemy = ap₂ (λ (x y : ℕ). not (eqb x y)) (old-player o f) (old-player o g)
+
+  pub old-neutral : neutral (board p) f g ≡ false
+  unfolding neutral
+  old-neutral = ap₂ (λ (x y : ℕ). not (eqb f g) && eqb x y) (old-player o f) (old-player o g) ∙ not-and (eqb f g)
+    where
+      not-and : (t : Bool) → (not t && t) ≡ false
+      not-and true = refl
+      not-and false = refl
