@@ -1,16 +1,14 @@
 -- What positions that look the same share, and that a change made to both keeps them so.
 -- Assumes nothing.
-use Prim.Native.Nat.{ℕ, zero, suc, _+_, _*_, _/_, _%_, _≤_, _<_}
+use Prim.Native.Nat.{ℕ, _+_, _*_, _≤_, _<_}
 use mathlib.Core.Path.{_≡_, refl, sym, ap, ap₂, fun-ext, _∙_}
-use mathlib.Core.List.{List, [], _∷_}
+use mathlib.Core.List.{List}
 use mathlib.Core.Bool.{Bool, true, false, cond}
 use native.Mathlib.Omega.{arith}
 use native.Mathlib.Decide.{decLt, ℕ-discrete}
 use lib.ListN.{length, set, length-set, List·getD-eq-default}
 use lib.Seq.{getD-set-same, getD-set-other}
-use lib.Dec.{ltb}
-use borrow.Author.Tests.{lt-ltb, le-ltb}
-use Rattle.position.specs.Bits.{has, with, tried, faced}
+use Rattle.position.specs.Bits.{has, with, tried}
 use Rattle.position.specs.Layout.{
   byte,
   unitsAt,
@@ -26,25 +24,17 @@ use Rattle.position.specs.Layout.{
   deskByte,
   setUnit,
   setDesk,
-  setHex,
   setMarks,
-  setRole,
-  setClock,
-  setStage,
-  setRouteHex,
-  setRoute,
-  clearRoutes,
 }
-use Rattle.position.specs.Board.{Board, board, units, desk, shown, nowhere}
+use Rattle.position.specs.Board.{Board, board, units, desk, shown}
 use Rattle.position.specs.Shape.{Shaped}
-use Rattle.position.specs.Change.{Change, make, makes, turned}
-use Rattle.position.specs.Change.Change.{placed, destroyed, marked, assigned, timed, staged, routed, unrouted}
+use Rattle.position.specs.Change.{Change, makes, turned}
 use Rattle.acceptance.specs.Alike.{Hidden, Same}
 use Rattle.position.proofs.Tables.{set-unit-in, set-unit-out}
-use Rattle.position.proofs.Front.{Front, shaped-kept, count-kept, hexes-kept, unitAt-kept, deskAt-kept, chart-kept, results-kept, ground-kept}
+use Rattle.position.proofs.Front.{Front, front-bodies, shaped-kept, count-kept, hexes-kept, unitAt-kept, deskAt-kept, chart-kept, results-kept, ground-kept}
 use Rattle.position.proofs.Writes.{front-unit, front-desk, unit-there, desk-there, unit-in, unit-unit, unit-desk}
-use Rattle.position.proofs.Effects.{front-hex, hex-from, shown-from, desk-from, upd-case, marks-set, faced-face}
-use Rattle.position.proofs.Changes.{front-make}
+use Rattle.position.proofs.Effects.{hex-from, shown-from, player-from, desk-from, upd-case, marks-set}
+use Rattle.position.proofs.Twins.{Twin, twin-makes}
 
 -- what is the same in both
 module _ {p q : List ℕ} (s : Same p q) where
@@ -56,13 +46,13 @@ module _ {p q : List ℕ} (s : Same p q) where
   pub unit-alike : (w g : ℕ) → g < 8 → (g ≡ strengthField → ⊥) → unitByte q w g ≡ unitByte p w g
   unfolding unitAt
   unit-alike w g l n =
-      unit-there front-same w g (λ m. s .bytes (unitAt p w + g) (λ h. let e = h .there in n (omega arith)))
+      unit-there (front-bodies front-same) w g (λ m. s .bytes (unitAt p w + g) (λ h. let e = h .there in n (omega arith)))
 
   -- and a strength that is not hidden
   pub strength-alike : (w : ℕ) → (w < count p → has tried (marks p w) ≡ false → ⊥) → strength q w ≡ strength p w
   unfolding unitAt
   strength-alike w n =
-      unit-there front-same w strengthField
+      unit-there (front-bodies front-same) w strengthField
       (λ m. s .bytes (unitAt p w + strengthField) (λ h. n m (let e : h .unit ≡ w = one h in rw e at (h .down))))
     where
       one : (h : Hidden p (unitAt p w + strengthField)) → h .unit ≡ w
@@ -81,7 +71,7 @@ module _ {p q : List ℕ} (s : Same p q) where
 
   desk-alike : (k : ℕ) → deskByte q k ≡ deskByte p k
   unfolding deskAt unitAt
-  desk-alike k = desk-there front-same k (s .bytes (deskAt p + k) (λ h. let e = h .there in let l = h .counted in omega arith))
+  desk-alike k = desk-there (front-bodies front-same) k (s .bytes (deskAt p + k) (λ h. let e = h .there in let l = h .counted in omega arith))
 
   -- so a player sees one board
   pub board-alike : board q ≡ board p
@@ -103,7 +93,7 @@ module _ {p q : List ℕ} (s : Same p q) where
               marks = fun-ext marks-alike i;
               role = fun-ext (λ w. u w 7 (omega arith) (omega arith)) i;
             };
-        desk = desk-from front-same desk-alike i;
+        desk = desk-from p q (λ k _. desk-alike k) (player-from front-same (λ k _. desk-alike k)) i;
       }
 
 -- one byte written to both
@@ -135,7 +125,7 @@ module _ {p q : List ℕ} (s : Same p q) where
         bytes = λ j n. set-both p q i x j (s .long) (λ d. s .bytes j (λ hid. n (hidden-kept f hid (h (hid .unit)))));
       }
 
-  pub same-desk : (f x : ℕ) → Same (setDesk p f x) (setDesk q f x)
+  same-desk : (f x : ℕ) → Same (setDesk p f x) (setDesk q f x)
   unfolding setDesk
   same-desk f x =
       rw (deskAt-kept (front-same s))
@@ -166,59 +156,27 @@ module _ {p q : List ℕ} (s : Same p q) where
       ap (has tried) (marks-set a u m w)
       ∙ upd-case (λ (k : ℕ). has tried k ≡ has tried (marks p w)) (count p) (marks p) u m w (λ l g. e ∙ ap (λ (k : ℕ). has tried (marks p k)) (sym g)) refl)
 
-hex-marks : (p : List ℕ) (u h w : ℕ) → marks (setHex p u h) w ≡ marks p w
-unfolding setHex
-hex-marks p u h w =
-    unit-unit (setUnit p u 2 (h % 256)) u 3 (h / 256) (omega arith) w 6 (omega arith) (λ e g. omega arith)
-    ∙ unit-unit p u 2 (h % 256) (omega arith) w 6 (omega arith) (λ e g. omega arith)
+-- a shaped position, and one that looks the same
+record Paired (p q : List ℕ) : Type 0 where
+  shaped : Shaped p
+  same : Same p q
 
-pub same-role : {p q : List ℕ} → Same p q → (u r : ℕ) → Same (setRole p u r) (setRole q u r)
-unfolding setRole
-same-role s u r = same-field s u 7 r (omega arith) (omega arith)
+twin-same : Twin Paired
+unfolding setMarks
+twin-same =
+    record {
+      area = λ s. hexes-kept (front-same (s .same));
+      shows = λ s u. marks-alike (s .same) u;
+      field =
+          λ s u f x l n. record { shaped = shaped-kept (front-unit _ u f x) (s .shaped); same = same-field (s .same) u f x l n };
+      face =
+          λ s u m e. record { shaped = shaped-kept (front-unit _ u 6 m) (s .shaped); same = same-marks (s .same) (s .shaped) u m e };
+      desk = λ s f x _. record { shaped = shaped-kept (front-desk _ f x) (s .shaped); same = same-desk (s .same) f x };
+    }
 
-pub same-hex : {p q : List ℕ} → Same p q → (u h : ℕ) → Same (setHex p u h) (setHex q u h)
-unfolding setHex
-same-hex s u h = same-field (same-field s u 2 (h % 256) (omega arith) (omega arith)) u 3 (h / 256) (omega arith) (omega arith)
-
-same-route-hex : {p q : List ℕ} → Same p q → (r j h : ℕ) → Same (setRouteHex p r j h) (setRouteHex q r j h)
-unfolding setRouteHex
-same-route-hex s r j h = same-desk (same-desk s _ _) _ _
-
-same-route : {p q : List ℕ} → Same p q → (r a b c d : ℕ) → Same (setRoute p r a b c d) (setRoute q r a b c d)
-unfolding setRoute
-same-route {p} {q} s r a b c d = at (ltb r 6)
-  where
-    at : (t : Bool) → Same (cond t (setRouteHex (setRouteHex (setRouteHex (setRouteHex p r 0 a) r 1 b) r 2 c) r 3 d) p) (cond t (setRouteHex (setRouteHex (setRouteHex (setRouteHex q r 0 a) r 1 b) r 2 c) r 3 d) q)
-    at true = same-route-hex (same-route-hex (same-route-hex (same-route-hex s r 0 a) r 1 b) r 2 c) r 3 d
-    at false = s
-
-same-cleared : {p q : List ℕ} → Same p q → (n : ℕ) → Same (clearRoutes p n) (clearRoutes q n)
-unfolding clearRoutes
-same-cleared s zero = s
-same-cleared s (suc n) = same-route (same-cleared s n) n nowhere nowhere nowhere nowhere
-
--- the same change to both keeps them the same
-pub same-make : {p q : List ℕ} → Shaped p → Same p q → (x : Change) → Same (make p x) (make q x)
-unfolding make
-same-make {p} {q} a s (placed u h) = rw (hexes-kept (front-same s)) (at (ltb h (hexes p)))
-  where
-    at : (t : Bool) → Same (cond t (setHex p u h) p) (cond t (setHex q u h) q)
-    at true = same-hex s u h
-    at false = s
-same-make {p} a s (destroyed u) =
-    rw (marks-alike s u)
-    (same-role (same-marks (same-hex s u nowhere) (shaped-kept (front-hex a u nowhere) a) u (faced (marks p u) 0) (faced-face (marks p u) 0 ∙ ap (has tried) (sym (hex-marks p u nowhere u)))) u 0)
-same-make {p} a s (marked u m) = rw (marks-alike s u) (same-marks s a u (faced (marks p u) m) (faced-face (marks p u) m))
-same-make a s (assigned u r) = same-role s u r
-same-make a s (timed t f ph) = unfold setClock in same-desk (same-desk (same-desk s _ _) _ _) _ _
-same-make a s (staged st n x) = unfold setStage in same-desk (same-desk (same-desk (same-desk s _ _) _ _) _ _) _ _
-same-make a s (routed r w x y z) = same-route s r w x y z
-same-make a s unrouted = same-cleared s 6
-
+-- the same changes to both keep them the same
 pub same-makes : {p q : List ℕ} → Shaped p → Same p q → (xs : List Change) → Same (makes p xs) (makes q xs)
-unfolding makes
-same-makes a s [] = s
-same-makes a s (x ∷ xs) = same-makes (shaped-kept (front-make a x) a) (same-make a s x) xs
+same-makes a s xs = twin-makes twin-same (record { shaped = a; same = s }) xs .same
 
 -- a unit of one strength in both turned over in both
 pub same-turned : {p q : List ℕ} → Shaped p → Same p q → (u : ℕ) → strength q u ≡ strength p u → Same (turned p u) (turned q u)

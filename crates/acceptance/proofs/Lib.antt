@@ -1,4 +1,5 @@
 pub mod Alikes
+pub mod OldDesks
 pub mod Keeps
 pub mod Carries
 pub mod Lawfuls

@@ -82,12 +82,20 @@ roster = contents ++ plain ++ table ++ strip ++ counters ++ quiet
 abbrev pub rosterLess : List ℕ
 rosterLess = set (set roster 94 255) 95 255
 
--- the same on a desk that names the players of the four forces
-abbrev named-by : ℕ → ℕ → ℕ → ℕ → List ℕ
-named-by f g h d = set roster 18 60 ++ (f ∷ g ∷ h ∷ d ∷ [])
+-- a position with a desk of the old length, with the players of the four forces named
+abbrev namedBy : List ℕ → ℕ → ℕ → ℕ → ℕ → List ℕ
+namedBy p f g h d = set p 18 60 ++ (f ∷ g ∷ h ∷ d ∷ [])
+
+-- the two-player game: one player for forces 0 to 2
+abbrev pub twoPlayers : List ℕ → List ℕ
+twoPlayers p = namedBy p 1 1 1 0
+
+-- S.A.U. infantry 0 landed on hex 0, which is coastal, and E.S.C. infantry 1 on hex 1
+abbrev pub landed : List ℕ
+landed = set (set (set roster 84 0) 86 0) 68 1
 
 -- as the document has it, on a desk that says the same, and in the two-player game
-pub whole : map broken (roster ∷ rosterLess ∷ named-by 0 1 2 3 ∷ named-by 1 1 1 0 ∷ []) ≡ replicate 4 false
+pub whole : map broken (roster ∷ rosterLess ∷ namedBy roster 0 1 2 3 ∷ twoPlayers roster ∷ twoPlayers landed ∷ []) ≡ replicate 5 false
 unfolding computing
 whole = refl
 
@@ -134,8 +142,8 @@ broken-ones =
     ∷ but 18 60  -- a desk that is said to name players, and does not
     ∷ (roster ++ (0 ∷ 1 ∷ 2 ∷ 3 ∷ []))  -- one that names them, and is not said to
     ∷ (set roster 18 58 ++ (0 ∷ 1 ∷ []))  -- one that names two
-    ∷ named-by 0 4 2 3  -- "naming its player, 0..3"
-    ∷ named-by 0 1 2 2  -- "force 3 never shares a player"
+    ∷ namedBy roster 0 4 2 3  -- "naming its player, 0..3"
+    ∷ namedBy roster 0 1 2 2  -- "force 3 never shares a player"
     ∷ []
 
 pub each : map broken broken-ones ≡ replicate 38 true

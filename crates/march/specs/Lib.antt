@@ -4,3 +4,4 @@ pub mod Answers
 pub mod Judged
 pub mod EndPhase
 pub mod Ending
+pub mod Examples

@@ -81,6 +81,10 @@ module _ (p : List ℕ) (short : extent p 4 ≡ 56) where
   unfolding named
   none-named = simp (ne-eqb (extent p 4) 60 (λ e. omega arith))
 
+  -- "read with four players"
+  old-player : (f : ℕ) → player p f ≡ f
+  old-player f = player-out p f (omega (arith, none-named))
+
   long-said : 20 ≤ length p → extent (withPlayers p) 4 ≡ 60
   unfolding extent word
   long-said l =
@@ -149,9 +153,6 @@ module _ {p : List ℕ} (o : Old p) where
   desk-byte k l = desk-there bodies k (with-byte p (deskAt p + k) (omega (arith, ends)) (λ e. omega arith))
 
   -- the players named are those that the old desk is read with
-  pub old-player : (f : ℕ) → player p f ≡ f
-  old-player f = player-out p f (omega (arith, none-named p (o .short)))
-
   player-with : (f : ℕ) → player (withPlayers p) f ≡ f
   unfolding deskByte
   player-with f = at (decLt f 4)
@@ -177,7 +178,7 @@ module _ {p : List ℕ} (o : Old p) where
         results = results-same bodies i;
         map = ground-same bodies i;
         units = units-from p q (count-same bodies) unit-byte i;
-        desk = desk-from p q desk-byte (λ f. player-with f ∙ sym (old-player f)) i;
+        desk = desk-from p q desk-byte (λ f. player-with f ∙ sym (old-player p (o .short) f)) i;
       }
 
   -- and a byte written to one is written to the other
@@ -251,14 +252,14 @@ unfolding turned setMarks
 turned-with {p} {q} s u = rw (twin-players .shows s u) (written s u 6 (with tried (marks p u)) (omega arith))
 
 -- on a desk of the old length every other force is Enemy, and none is neutral
-module _ {p : List ℕ} (o : Old p) (f g : ℕ) where
+module _ (p : List ℕ) (short : extent p 4 ≡ 56) (f g : ℕ) where
   pub old-enemy : enemy (board p) f g ≡ not (eqb f g)
   unfolding enemy
-  old-enemy = ap₂ (λ (x y : ℕ). not (eqb x y)) (old-player o f) (old-player o g)
+  old-enemy = ap₂ (λ (x y : ℕ). not (eqb x y)) (old-player p short f) (old-player p short g)
 
   pub old-neutral : neutral (board p) f g ≡ false
   unfolding neutral
-  old-neutral = ap₂ (λ (x y : ℕ). not (eqb f g) && eqb x y) (old-player o f) (old-player o g) ∙ not-and (eqb f g)
+  old-neutral = ap₂ (λ (x y : ℕ). not (eqb f g) && eqb x y) (old-player p short f) (old-player p short g) ∙ not-and (eqb f g)
     where
       not-and : (t : Bool) → (not t && t) ≡ false
       not-and true = refl

@@ -7,7 +7,7 @@ use Rattle.retreat.proofs.Words.{group-right, destroyed-right, trapped-right, r
 use Rattle.rules.specs.Order.{step}
 use Rattle.rules.specs.Referee.{Meets}
 use Rattle.rules.specs.Certain.{DemandOne, DemandTwo, Certain}
-use Rattle.rules.proofs.Demands.{total, one-result, refusals-leave-all, supply-right, stays-accepted, secrecy}
+use Rattle.rules.proofs.Demands.{total, one-result, refusals-leave-all, supply-right, stays-accepted, old-desks-right, secrecy}
 use Rattle.rules.proofs.Referees.{agree}
 use Rattle.rules.proofs.Rulings.{small-rulings}
 use Rattle.rules.proofs.Useless.{four-useless}
@@ -33,6 +33,7 @@ demand-two =
       pushed = pushed-right;
       played = legal-played-right;
       keeps = stays-accepted;
+      old = old-desks-right;
       small = small-rulings;
       useless = four-useless;
     }

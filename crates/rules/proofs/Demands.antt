@@ -14,11 +14,13 @@ use Rattle.position.specs.Change.{makes}
 use Rattle.acceptance.specs.Broken.{broken, broken-false}
 use Rattle.acceptance.specs.Accepted.{Accepted}
 use Rattle.position.specs.Effect.{changes}
+use Rattle.position.proofs.Players.{old-enemy, old-neutral}
 use Rattle.ruling.specs.Verdict.{outcome, Met}
 use Rattle.ruling.specs.Verdict.Ruling.{accepted}
 use Rattle.ruling.proofs.Meets.{pass, ruled, only, untouched}
 use Rattle.ruling.proofs.Kept.{Kept, kept-past, kept-ruled}
 use Rattle.ruling.proofs.Secrets.{secret-runs}
+use Rattle.ruling.proofs.OldDesks.{old-desks}
 use Rattle.field.specs.Scene.{scene}
 use Rattle.walk.specs.Chain.{OneIf}
 use Rattle.walk.proofs.Marks.{tab-at}
@@ -38,7 +40,7 @@ use Rattle.retreat.specs.Retreat.{retreatVerdict}
 use Rattle.retreat.proofs.KeepRetreat.{retreat-keeps}
 use Rattle.rules.specs.Order.{Order, ruleOf, verdict, step}
 use Rattle.rules.specs.Order.Order.{supply, move, endPhase, attack, retreat, losses, advance, close}
-use Rattle.rules.specs.Demands.{Total, SupplyRight, StaysAccepted, Secrecy, OneResult, RefusalsLeaveAll}
+use Rattle.rules.specs.Demands.{Total, SupplyRight, StaysAccepted, OldDesksRight, Secrecy, OneResult, RefusalsLeaveAll}
 
 pub total : Total
 total p c = (step p c, record { answers = refl; leaves = refl; lends = refl })
@@ -83,6 +85,9 @@ order-keeps p l close a = unfold closeVerdict in close-keeps p l a
 
 pub stays-accepted : StaysAccepted
 stays-accepted p c a = order-keeps p (c .lent) (c .order) a
+
+pub old-desks-right : OldDesksRight
+old-desks-right = record { enemies = old-enemy; neutrals = old-neutral; rulings = old-desks ruleOf }
 
 pub secrecy : Secrecy
 secrecy = secret-runs ruleOf stays-accepted

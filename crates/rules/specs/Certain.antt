@@ -4,7 +4,7 @@
 use Rattle.shoves.specs.Played.{LegalPlayedRight}
 use Rattle.retreat.specs.Words.{GroupRight, DestroyedRight, TrappedRight, RoadRight, RetreatedRight, PushedRight}
 use Rattle.rules.specs.Order.{step}
-use Rattle.rules.specs.Demands.{Total, OneResult, RefusalsLeaveAll, SupplyRight, StaysAccepted, Secrecy}
+use Rattle.rules.specs.Demands.{Total, OneResult, RefusalsLeaveAll, SupplyRight, StaysAccepted, OldDesksRight, Secrecy}
 use Rattle.rules.specs.Referee.{Meets, Agree}
 use Rattle.rules.specs.Useless.{FourUseless}
 use Rattle.rules.specs.Rulings.{SmallRulings}
@@ -20,7 +20,8 @@ pub record DemandOne : Type 0 where
 -- unblocked line of hexes to a source exists; a beaten group is trapped exactly if neither a vacant route of the owed length nor a series
 -- of pushes exists, or only supply units owe, and then it is eliminated exactly if it was sent as long a road as it has, which is written;
 -- else what was sent is accepted exactly if it is legal, a vacant route first; and legal are the pushes that can be played on the board,
--- each step done before the next. Accepted positions stay accepted.
+-- each step done before the next. Accepted positions stay accepted. Positions
+-- that name no players are ruled on as with four.
 pub record DemandTwo : Type 0 where
   pub right : Meets step
   pub agree : Agree
@@ -33,6 +34,7 @@ pub record DemandTwo : Type 0 where
   pub pushed : PushedRight
   pub played : LegalPlayedRight
   pub keeps : StaysAccepted
+  pub old : OldDesksRight
   pub small : SmallRulings
   pub useless : FourUseless
 

@@ -2,13 +2,16 @@
 -- Assumes nothing.
 use Prim.Native.Nat.{ℕ, _≤_, _<_}
 use mathlib.Core.Path.{_≡_}
+use mathlib.Core.Bool.{not, false}
 use mathlib.Core.List.{List}
 use lib.ListN.{length}
-use Rattle.position.specs.Board.{board}
+use lib.Dec.{eqb}
+use Rattle.position.specs.Board.{board, enemy, neutral}
 use Rattle.acceptance.specs.Accepted.{Accepted}
 use Rattle.ruling.specs.Verdict.{Ruling, Outcome, Met}
 use Rattle.ruling.specs.Verdict.Ruling.{refused}
 use Rattle.ruling.specs.Secret.{Sent, Keeping, SecretRuns}
+use Rattle.ruling.specs.OldDesk.{OldDesk, OldDesks}
 use Rattle.field.specs.Scene.{scene}
 use Rattle.walk.specs.Chain.{mark, OneIf}
 use Rattle.supply.specs.Supply.{Supplied}
@@ -38,6 +41,14 @@ StaysAccepted = Keeping ruleOf
 -- turned over is asked of the first run alone, at the moment when it is turned over.
 abbrev pub Secrecy : Type 0
 Secrecy = SecretRuns ruleOf
+
+-- request Four: "Positions of the old length are read with four players, so their rulings don't change." On such a desk every other force is
+-- Enemy and none is neutral, as it was; and for all orders and buffers the outcome is that on the same position with the players 0, 1, 2, 3
+-- named, but for those bytes.
+pub record OldDesksRight : Type 0 where
+  pub enemies : (p : List ℕ) → OldDesk p → (f g : ℕ) → enemy (board p) f g ≡ not (eqb f g)
+  pub neutrals : (p : List ℕ) → OldDesk p → (f g : ℕ) → neutral (board p) f g ≡ false
+  pub rulings : OldDesks ruleOf
 
 -- "Two results that fit the same promise are proved equal"
 abbrev pub OneResult : Type 0
