@@ -27,7 +27,7 @@ pub fn line_names() -> Vec<&'static str> {
 
 /// The lines about the numbers, in the order they are asked.
 #[rustfmt::skip]
-pub const LINES: [Line; 59] = [
+pub const LINES: [Line; 61] = [
     Line { name: "chart: terrain cost 0..9", kept: |p| p.chart.terrains.iter().all(|e| e.cost <= 9) },
     Line { name: "chart: terrain multiple 1..4", kept: |p| p.chart.terrains.iter().all(|e| in_range(e.multiple, 1, 4)) },
     Line { name: "chart: side cost 0..9", kept: |p| side_effects(p).iter().all(|e| e.cost <= 9) },
@@ -70,6 +70,8 @@ pub const LINES: [Line; 59] = [
     Line { name: "desk: force 0..3", kept: |p| p.desk.force <= 3 },
     Line { name: "desk: phase 0..2", kept: |p| p.desk.phase <= 2 },
     Line { name: "desk: stage 0..3", kept: |p| p.desk.stage <= 3 },
+    Line { name: "desk: players 0..3", kept: |p| p.desk.players.iter().flatten().all(|&player| player <= 3) },
+    Line { name: "desk: force 3 shares no player", kept: |p| p.desk.neutrals_of(3).is_empty() },
     Line { name: "stages: 1 to 3 only in phase 1", kept: |p| p.desk.stage == QUIET || p.desk.phase == COMBAT },
     Line { name: "roles: units with a role are tried", kept: |p| each_unit(p, |u| u.role == 0 || u.has(TRIED)) },
     Line { name: "roles: role 1 of one force", kept: |p| forces_of_role(p, OWES).len() <= 1 },

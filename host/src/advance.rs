@@ -23,9 +23,10 @@ pub fn advance(position: &mut Position, unit: u16, hex: u16) -> Result<(), Refus
 }
 
 /// The route starts beside the unit over an unblocked side and contains the hex,
-/// with no Enemy from its start to that hex.
+/// with no Enemy and no neutral from its start to that hex.
 pub fn leads_to(position: &Position, unit: &Unit, route: &[usize], hex: usize) -> bool {
     let Some(end) = route.iter().position(|&one| one == hex) else { return false };
     let beside = position.joined(usize::from(unit.hex), route[0]);
-    beside && route[..=end].iter().all(|&one| !position.enemy_on(one, unit.force()))
+    let barred = |hex: usize| position.enemy_on(hex, unit.force()) || position.neutral_on(hex, unit.force());
+    beside && route[..=end].iter().all(|&one| !barred(one))
 }

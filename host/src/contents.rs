@@ -11,10 +11,12 @@ pub const LINES: [&str; 8] = [
     "results: length by the column count",
     "map: length by width and height",
     "units: length by the count",
-    "desk: 56 bytes",
+    "desk: 56 or 60 bytes",
 ];
 
 const ENTRIES: usize = 20;
+/// The desk without its players.
+const OLD_DESK: usize = 56;
 
 fn number(bytes: &[u8], at: usize) -> u16 {
     u16::from_le_bytes([bytes[at], bytes[at + 1]])
@@ -42,7 +44,7 @@ fn length_fits(body: usize, bytes: &[u8]) -> bool {
         1 => !bytes.is_empty() && bytes.len() == 1 + 8 * usize::from(bytes[0]),
         2 => bytes.len() >= 2 && bytes.len() == 2 + 5 * usize::from(bytes[0]) * usize::from(bytes[1]),
         3 => bytes.len() >= 2 && bytes.len() == 2 + 8 * usize::from(number(bytes, 0)),
-        _ => bytes.len() == 56,
+        _ => bytes.len() == OLD_DESK || bytes.len() == OLD_DESK + 4,
     }
 }
 
@@ -115,6 +117,7 @@ fn desk(body: &[u8]) -> Desk {
         owed_retreat: body[5],
         need: number(body, 6),
         routes: std::array::from_fn(route),
+        players: body[OLD_DESK..].try_into().ok(),
     }
 }
 
@@ -174,5 +177,6 @@ fn desk_bytes(desk: &Desk) -> Vec<u8> {
     let mut bytes = vec![desk.turn, desk.last_turn, desk.force, desk.phase, desk.stage, desk.owed_retreat];
     bytes.extend(desk.need.to_le_bytes());
     bytes.extend(desk.routes.iter().flatten().flat_map(|hex| hex.to_le_bytes()));
+    bytes.extend(desk.players.iter().flatten());
     bytes
 }

@@ -21,6 +21,7 @@ pub mod movement;
 pub mod order;
 pub mod part_route_cases;
 pub mod part_routes;
+pub mod players;
 pub mod position;
 pub mod pushes;
 pub mod record;

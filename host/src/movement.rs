@@ -39,7 +39,7 @@ pub fn allowance(unit: &Unit) -> u32 {
     }
 }
 
-/// Each step in turn: zone left, way, Enemy, allowance.
+/// Each step in turn: zone left, way, Enemy, neutral, allowance.
 fn steps(position: &Position, unit: usize, path: &[usize]) -> Result<(), Refusal> {
     let mover = &position.units[unit];
     let zones = enemy_zones(position, mover.force());
@@ -51,6 +51,7 @@ fn steps(position: &Position, unit: usize, path: &[usize]) -> Result<(), Refusal
         require(!leaves_zone, AFTER_ENEMY_ZONE, place)?;
         require(is_way(position, here, next), NO_WAY, place)?;
         require(!position.enemy_on(next, mover.force()), ENEMY_THERE, place)?;
+        require(!position.neutral_on(next, mover.force()), NEUTRAL_THERE, place)?;
         spent += step_cost(position, here, next);
         require(spent <= allowance(mover), OVER_ALLOWANCE, place)?;
         here = next;

@@ -100,6 +100,8 @@ pub struct Desk {
     pub owed_retreat: u8,
     pub need: u16,
     pub routes: [Route; 6],
+    /// The player of each force; none on a desk of the old length, which has four players.
+    pub players: Option<[u8; 4]>,
 }
 
 #[derive(Clone, Debug, PartialEq, Eq)]
@@ -138,16 +140,22 @@ impl Unit {
     pub fn has(&self, mark: u8) -> bool {
         self.marks & mark != 0
     }
-
-    pub fn is_enemy_of(&self, force: u8) -> bool {
-        self.force() != force
-    }
 }
 
 impl Desk {
-    /// Turn 1 of 10, force 0, land movement, quiet.
+    /// Turn 1 of 10, force 0, land movement, quiet, of the old length.
     pub fn plain() -> Desk {
-        Desk { turn: 1, last_turn: 10, force: 0, phase: 0, stage: 0, owed_retreat: 0, need: 0, routes: [[NONE; 4]; 6] }
+        Desk {
+            turn: 1,
+            last_turn: 10,
+            force: 0,
+            phase: 0,
+            stage: 0,
+            owed_retreat: 0,
+            need: 0,
+            routes: [[NONE; 4]; 6],
+            players: None,
+        }
     }
 
     /// The filled routes, each as the hexes it holds.
@@ -237,8 +245,14 @@ impl Position {
         (0..self.units.len()).filter(|&unit| self.units[unit].stands_on(hex)).collect()
     }
 
+    /// Does an Enemy of the force stand there?
     pub fn enemy_on(&self, hex: usize, force: u8) -> bool {
-        self.units_on(hex).into_iter().any(|unit| self.units[unit].is_enemy_of(force))
+        self.units_on(hex).into_iter().any(|unit| self.desk.enemy(self.units[unit].force(), force))
+    }
+
+    /// Does a force neutral to this one stand there?
+    pub fn neutral_on(&self, hex: usize, force: u8) -> bool {
+        self.units_on(hex).into_iter().any(|unit| self.desk.neutral(self.units[unit].force(), force))
     }
 
     pub fn is_vacant(&self, hex: usize) -> bool {

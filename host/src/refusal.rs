@@ -23,6 +23,7 @@ pub const ROUTE_NOT_LEGAL: u8 = 14;
 pub const LOSSES_SHORT: u8 = 15;
 pub const LAST_PHASE: u8 = 16;
 pub const PUSHES_NOT_LEGAL: u8 = 17;
+pub const NEUTRAL_THERE: u8 = 18;
 
 /// Go on if the question is answered yes; else refuse by `number` at `place`.
 pub fn require(yes: bool, number: u8, place: usize) -> Result<(), Refusal> {

@@ -42,12 +42,12 @@ pub fn units_in_supply(position: &Position) -> Vec<bool> {
     position.units.iter().map(in_supply).collect()
 }
 
-/// Not sea or lake, no Enemy, and outside Enemy zones or holding the force.
+/// Not sea or lake, no Enemy, and outside Enemy zones or holding the force. Neutrals make no difference.
 fn open_hexes(position: &Position, nationality: u8) -> Vec<bool> {
     let force = force_of(nationality);
     let zones = enemy_zones(position, force);
     let held = held_by(position, |unit| unit.force() == force);
-    let enemy = held_by(position, |unit| unit.is_enemy_of(force));
+    let enemy = held_by(position, |unit| position.desk.enemy(unit.force(), force));
     let open = |hex: usize| position.is_land_or_coast(hex) && !enemy[hex] && (!zones[hex] || held[hex]);
     (0..zones.len()).map(open).collect()
 }

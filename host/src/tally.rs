@@ -4,14 +4,14 @@ use crate::acceptance::line_names;
 use crate::order::{Answer, Call, CALLS};
 use crate::retreat_cases::{Case, CASES};
 
-/// Columns of the table: ok, retreated, destroyed, the ten codes, the seventeen refusals.
-pub const OUTCOMES: usize = 3 + 10 + 17;
+/// Columns of the table: ok, retreated, destroyed, the ten codes, the eighteen refusals.
+pub const OUTCOMES: usize = 3 + 10 + 18;
 
 /// The refusals a call can give, by the order of questions.
 pub fn possible_refusals(call: Call) -> &'static [u8] {
     match call {
         Call::Supply => &[1, 3],
-        Call::Move => &[1, 2, 3, 4, 5, 7, 8, 9, 10, 11],
+        Call::Move => &[1, 2, 3, 4, 5, 7, 8, 9, 10, 11, 18],
         Call::End => &[1, 2, 3, 16],
         Call::Attack => &[1, 2, 3, 4, 5, 6, 12, 13],
         Call::Retreat => &[1, 2, 3, 4, 14, 17],

@@ -4,11 +4,11 @@ use crate::grid::DIRECTIONS;
 use crate::position::{Position, ALL_SEA, BLOCKED, MAJOR_RIVER};
 use crate::unit_type;
 
-/// For each hex: is it in a zone of any force other than `force`?
+/// For each hex: is it in a zone of an Enemy of `force`?
 pub fn enemy_zones(position: &Position, force: u8) -> Vec<bool> {
     let mut covered = vec![false; position.grid().hexes()];
     for unit in &position.units {
-        if unit.on_map() && unit.is_enemy_of(force) && unit_type::casts_zone(unit.kind) {
+        if unit.on_map() && position.desk.enemy(unit.force(), force) && unit_type::casts_zone(unit.kind) {
             for hex in zone_of(position, usize::from(unit.hex)) {
                 covered[hex] = true;
             }

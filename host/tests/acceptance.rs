@@ -65,7 +65,7 @@ fn lengths_and_offsets_leave_no_gap_and_no_tail() {
         bytes[18] = 57;
         bytes.push(0);
     };
-    assert_eq!(breaks_bytes(grow_desk), "desk: 56 bytes");
+    assert_eq!(breaks_bytes(grow_desk), "desk: 56 or 60 bytes");
 }
 
 #[test]

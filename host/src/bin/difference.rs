@@ -125,9 +125,12 @@ fn named(digits: &[u8], byte: usize) -> String {
         digits.chunks(2).map(|pair| u8::from_str_radix(std::str::from_utf8(pair).ok()?, 16).ok()).collect();
     let Some(bytes) = bytes else { return String::new() };
     let Ok(position) = taken_apart(&bytes) else { return String::new() };
-    let desk = bytes.len() - 56;
+    let players = bytes.len() - position.desk.players.map_or(0, |players| players.len());
+    let desk = players - 56;
     let units = desk - 8 * position.units.len();
-    if byte >= desk + 8 {
+    if byte >= players {
+        format!(" (desk, player of force {})", byte - players)
+    } else if byte >= desk + 8 {
         format!(" (desk, route {})", (byte - desk - 8) / 8)
     } else if byte >= desk {
         let names = ["turn", "last turn", "force", "phase", "stage", "owed retreat", "need", "need"];

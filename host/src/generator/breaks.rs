@@ -21,12 +21,12 @@ const BYTE_BREAKS: [(&str, ByteBreak); 8] = [
     ("results: length by the column count", |c, b| resize_body(c, b, 1)),
     ("map: length by width and height", |c, b| resize_body(c, b, 2)),
     ("units: length by the count", |c, b| resize_body(c, b, 3)),
-    ("desk: 56 bytes", |c, b| resize_body(c, b, 4)),
+    ("desk: 56 or 60 bytes", resize_desk),
 ];
 
 /// The ways to break the numbers, by the names of the lines.
 #[rustfmt::skip]
-const BREAKS: [(&str, Break); 59] = [
+const BREAKS: [(&str, Break); 61] = [
     ("chart: terrain cost 0..9", |c, p| set(&mut p.chart.terrains[c.below(16)].cost, above(c, 9))),
     ("chart: terrain multiple 1..4", |c, p| set(&mut p.chart.terrains[c.below(16)].multiple, outside(c, 4))),
     ("chart: side cost 0..9", |c, p| set(&mut side_effect(c, p).cost, above(c, 9))),
@@ -69,6 +69,8 @@ const BREAKS: [(&str, Break); 59] = [
     ("desk: force 0..3", |c, p| set(&mut p.desk.force, above(c, 3))),
     ("desk: phase 0..2", |c, p| set(&mut p.desk.phase, above(c, 2))),
     ("desk: stage 0..3", |c, p| set(&mut p.desk.stage, above(c, 3))),
+    ("desk: players 0..3", player_above_3),
+    ("desk: force 3 shares no player", force_3_shares),
     ("stages: 1 to 3 only in phase 1", |c, p| in_stages(p, &[1, 2, 3]).and(set(&mut p.desk.phase, c.pick(&[0, 2])))),
     ("roles: units with a role are tried", |c, p| clear_tried(unit_where(c, p, |u| u.role > 0 && !always_tried(u.kind))?)),
     ("roles: role 1 of one force", |c, p| in_stages(p, &[1, 2]).and_then(|_| role_in_other_force(c, p, OWES))),
@@ -107,12 +109,14 @@ pub fn broken_bytes(chance: &mut Chance, position: &Position, line: usize) -> Op
 /// One byte of a position changed to something else, most often near its end or its beginning.
 pub fn changed_byte(chance: &mut Chance, mut bytes: Vec<u8>) -> Vec<u8> {
     let length = bytes.len();
-    let at = match chance.below(6) {
+    let desk = usize::from(number(&bytes, 16));
+    let at = match chance.below(7) {
         0 => chance.below(20),
         1 => chance.below(length),
-        2 => length - 56 + chance.below(8),
-        3 => length - chance.from_to(1, 48),
-        _ => length - 57 - chance.below((length - 100).min(160)),
+        2 => desk + chance.below(8),
+        3 => desk + 8 + chance.below(48),
+        4 => length - chance.from_to(1, 4),
+        _ => desk - 1 - chance.below((length - 104).min(160)),
     };
     let change = match chance.below(3) {
         0 => 1 << chance.below(8),
@@ -219,14 +223,28 @@ fn shift_a_body(chance: &mut Chance, bytes: &mut [u8]) {
     set_number(bytes, at, moved);
 }
 
+/// A tail, or something missing; now and then the four players come or go and the contents do not say so.
 fn lengthen_or_shorten(chance: &mut Chance, bytes: &mut Vec<u8>) {
-    if chance.percent(50) {
-        let tail = chance.from_to(1, 9);
-        bytes.extend(vec![0; tail]);
-    } else {
-        let lost = chance.from_to(1, 56);
-        bytes.truncate(bytes.len() - lost);
+    match chance.below(4) {
+        0 => {
+            let tail = chance.from_to(1, 9);
+            bytes.extend(vec![0; tail]);
+        }
+        1 => {
+            let lost = chance.from_to(1, 56);
+            bytes.truncate(bytes.len() - lost);
+        }
+        _ if number(bytes, 18) == 56 => bytes.extend(chance.pick(&[[0, 1, 2, 3], [0, 0, 0, 1], [0; 4]])),
+        _ => bytes.truncate(bytes.len() - 4),
     }
+}
+
+/// A desk of a length near the two that are right, with the contents telling the truth.
+fn resize_desk(chance: &mut Chance, bytes: &mut Vec<u8>) {
+    let length = chance.pick(&[0, 52, 54, 55, 55, 57, 57, 58, 58, 59, 59, 61, 61, 62, 64, 64, 112, 120]);
+    let desk = usize::from(number(bytes, 16));
+    bytes.resize(desk + usize::from(length), chance.pick(&[0, 0, 3, 255]));
+    set_number(bytes, 18, length);
 }
 
 /// A body longer or shorter than its counts say, with the contents telling the truth.
@@ -391,6 +409,26 @@ fn last_turn_below(_: &mut Chance, position: &mut Position) -> Option<()> {
         desk.turn = 2;
     }
     set(&mut desk.last_turn, desk.turn - 1)
+}
+
+/// The players on the desk; it becomes one of 60 bytes.
+fn players(position: &mut Position) -> &mut [u8; 4] {
+    position.desk.players.get_or_insert([0, 1, 2, 3])
+}
+
+fn player_above_3(chance: &mut Chance, position: &mut Position) -> Option<()> {
+    set(&mut players(position)[chance.below(4)], above(chance, 3))
+}
+
+/// Force 3 gets the player of another force, or all four forces have one player.
+fn force_3_shares(chance: &mut Chance, position: &mut Position) -> Option<()> {
+    let players = players(position);
+    match chance.below(8) {
+        0 => *players = [chance.byte(0, 3); 4],
+        1..=3 => players[chance.below(3)] = players[3],
+        _ => players[3] = players[chance.below(3)],
+    }
+    Some(())
 }
 
 /// A unit of one more force gets a role that another force has.
