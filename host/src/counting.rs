@@ -3,6 +3,7 @@
 use crate::acceptance::accepted;
 use crate::advance::leads_to;
 use crate::order::{Answer, Order};
+use crate::player_cases::{if_away, if_enemy, neutral_on_path};
 use crate::position::*;
 use crate::record::{read, Line};
 use crate::retreat_cases::cases_of;
@@ -34,7 +35,11 @@ impl Counting {
     /// Play one line and count what it brought about.
     fn line(&mut self, line: &[u8]) {
         let before = accepted(&self.table.position).ok();
-        match (self.table.play(line), read(line)) {
+        let said = read(line);
+        if let Line::Call(order) = &said {
+            self.players(before.as_ref(), order);
+        }
+        match (self.table.play(line), said) {
             (Reply::Answered(call, answer), Line::Call(order)) => {
                 self.tally.count(call, &answer);
                 if let Some(before) = before {
@@ -50,11 +55,21 @@ impl Counting {
         }
     }
 
-    /// Count which retreat it was and, of an accepted call, the change of stage and the advance along a part route.
+    /// Count on which desk a call stands, and whether neutrals decide it.
+    fn players(&mut self, position: Option<&Position>, order: &Order) {
+        let (if_enemy, if_away) = (if_enemy(&self.table, order), if_away(&self.table, order));
+        self.tally.players.count_desk(position);
+        self.tally.players.count_ruled(order.call(), if_enemy, if_away);
+    }
+
+    /// Count which retreat it was, the neutral on a path and, of an accepted call, the change of stage and the advance along a part route.
     fn call(&mut self, before: &Position, order: &Order, answer: &Answer) {
         for case in cases_of(before, order, answer) {
             self.tally.count_retreat(case, before.desk.owed_retreat);
         }
+        neutral_on_path(before, order, answer)
+            .into_iter()
+            .for_each(|neutral| self.tally.players.count_neutral(neutral));
         let after = accepted(&self.table.position).ok().filter(|_| !matches!(answer, Answer::Refused(_)));
         let Some(after) = after else { return };
         self.tally.count_stage(before.desk.stage, after.desk.stage);

@@ -2,7 +2,7 @@
 //!
 //! The rules: one module for each, named in the documents' words. The record: `order`,
 //! `record`, `table`. The cases to compare by: `generator`; what they reach: `counting`, `tally`, `retreat_cases`,
-//! `part_route_cases`.
+//! `part_route_cases`, `player_cases`, `player_tally`.
 
 pub mod acceptance;
 pub mod advance;
@@ -21,6 +21,8 @@ pub mod movement;
 pub mod order;
 pub mod part_route_cases;
 pub mod part_routes;
+pub mod player_cases;
+pub mod player_tally;
 pub mod players;
 pub mod position;
 pub mod pushes;

@@ -57,6 +57,11 @@ impl Table {
         &self.calls
     }
 
+    /// The buffer lent last.
+    pub fn lent(&self) -> &[u8] {
+        &self.lent
+    }
+
     /// Play the next line of the record, given without its newline.
     pub fn play(&mut self, line: &[u8]) -> Reply {
         self.lines += 1;

@@ -1,7 +1,9 @@
-//! How often each answer of each call, each case of a retreat, each broken line and each stage change occurs.
+//! How often each answer of each call, each case of a retreat, each broken line and each stage change occurs; and what
+//! players and neutrals do.
 
 use crate::acceptance::line_names;
 use crate::order::{Answer, Call, CALLS};
+use crate::player_tally::PlayerTally;
 use crate::retreat_cases::{Case, CASES};
 
 /// Columns of the table: ok, retreated, destroyed, the ten codes, the eighteen refusals.
@@ -60,6 +62,7 @@ pub struct Tally {
     /// By case and owed retreat n.
     retreats: [[u64; 4]; CASES.len()],
     followed: u64,
+    pub players: PlayerTally,
 }
 
 impl Default for Tally {
@@ -71,6 +74,7 @@ impl Default for Tally {
             stages: [[0; 4]; 4],
             retreats: [[0; 4]; CASES.len()],
             followed: 0,
+            players: PlayerTally::default(),
         }
     }
 }
@@ -137,7 +141,8 @@ impl Tally {
 
     /// The whole table as text.
     pub fn text(&self) -> String {
-        [self.answers_text(), self.retreats_text(), self.stages_text(), self.broken_text()].join("\n")
+        let texts = [self.answers_text(), self.retreats_text(), self.players.text(), self.stages_text()];
+        [texts.join("\n"), self.broken_text()].join("\n")
     }
 
     /// A row for each outcome, a column for each call; `.` where a call cannot give it.
