@@ -90,6 +90,14 @@ const BREAKS: [(&str, Break); 61] = [
     ("routes: each next to the last over an unblocked side", route_apart),
 ];
 
+/// The lines about the desk's length and its players.
+pub const DESK_LINES: [&str; 4] = [
+    "contents: no tail, nothing missing",
+    "desk: 56 or 60 bytes",
+    "desk: players 0..3",
+    "desk: force 3 shares no player",
+];
+
 pub fn break_names() -> Vec<&'static str> {
     BYTE_BREAKS.iter().map(|(name, _)| *name).chain(BREAKS.iter().map(|(name, _)| *name)).collect()
 }

@@ -1,6 +1,7 @@
 //! Crowded roads: a group owes among its own force, so that pushes decide.
 
 use super::chance::Chance;
+use super::neutrals::{add_neutrals, any_force, other_force};
 use super::retreat_orders::{any_series, beside};
 use super::scene::{retreat_scene, set_side, takes, unit_of};
 use super::staged::{give_role, write_routes};
@@ -124,7 +125,7 @@ fn zone_decides(mut way: Way, series: &[Step]) -> bool {
 /// A position and the hex where the group owes.
 fn attempt(chance: &mut Chance, owed: u8, wanted: Wanted) -> (Position, usize) {
     let mut position = retreat_scene(chance, (3, 10), owed);
-    let (force, start) = (chance.byte(0, 3), chance.below(position.map.hexes.len()));
+    let (force, start) = (any_force(chance, &position.desk), chance.below(position.map.hexes.len()));
     open(chance, &mut position, start);
     let weights = if wanted == Wanted::Behind { [1, 2, 6, 1] } else { [3, 2, 1, 3] };
     let held = match chance.weighted(&weights) {
@@ -140,6 +141,9 @@ fn attempt(chance: &mut Chance, owed: u8, wanted: Wanted) -> (Position, usize) {
     let all_owe = wanted != Wanted::Behind && chance.percent(55);
     group(chance, &mut position, force, start, all_owe);
     enemies(chance, &mut position, force, start);
+    if chance.percent(75) {
+        add_neutrals(chance, &mut position);
+    }
     others_that_owe(chance, &mut position, force, start);
     (position, start)
 }
@@ -191,7 +195,7 @@ fn lane(chance: &mut Chance, position: &mut Position, start: usize) -> Vec<usize
 }
 
 /// Hexes on end, the first ones each further from the start; no hex comes twice.
-fn lane_hexes(chance: &mut Chance, position: &Position, start: usize, length: usize) -> Vec<usize> {
+pub fn lane_hexes(chance: &mut Chance, position: &Position, start: usize, length: usize) -> Vec<usize> {
     let distances = position.grid().distances(start);
     let mut lane = vec![start];
     while lane.len() < length {
@@ -286,9 +290,9 @@ pub fn group(chance: &mut Chance, position: &mut Position, force: u8, start: usi
     }
 }
 
-/// Some Enemies, about half of them beside the group; some may advance.
+/// Some Enemies, about half of them beside the group; some may advance. Now and then they are neutral to it.
 fn enemies(chance: &mut Chance, position: &mut Position, force: u8, start: usize) {
-    let enemy = (force + chance.byte(1, 3)) % 4;
+    let enemy = other_force(chance, &position.desk, force);
     let hexes: Vec<usize> = (0..position.map.hexes.len()).collect();
     let near: Vec<usize> = position.grid().neighbours(start).into_iter().flatten().collect();
     for _ in 0..chance.pick(&[0, 1, 1, 2, 3]) {

@@ -2,6 +2,7 @@
 
 use super::chance::Chance;
 use super::crowds::{add, close, group, open, others_that_owe, stack};
+use super::neutrals::{any_force, neutral_of, other_force};
 use super::part_route_orders::curls;
 use super::scene::{retreat_scene, set_side};
 use super::staged::give_role;
@@ -68,8 +69,8 @@ fn only_supply_units_owe(position: &mut Position, start: usize) {
 /// A position and the hex where the group owes: a pocket around it, whose rim is barred in several ways.
 fn attempt(chance: &mut Chance, wanted: Wanted) -> (Position, usize) {
     let mut position = retreat_scene(chance, (2, 6), wanted.owed as u8);
-    let (force, start) = (chance.byte(0, 3), chance.below(position.map.hexes.len()));
-    let enemy = (force + chance.byte(1, 3)) % 4;
+    let (force, start) = (any_force(chance, &position.desk), chance.below(position.map.hexes.len()));
+    let enemy = other_force(chance, &position.desk, force);
     open(chance, &mut position, start);
     victors(chance, &mut position, start, enemy);
     let pocket = pocket(chance, &mut position, start, wanted);
@@ -147,14 +148,20 @@ fn rim(position: &Position, pocket: &[usize]) -> Vec<usize> {
     outside.filter(beside).collect()
 }
 
-/// Keep the group out of a hex of the rim: by its ground, its sides, own units, Enemies, or a zone. Some stay open.
+/// Keep the group out of a hex of the rim: by its ground, its sides, own units, Enemies, a zone, or neutrals.
+/// Some stay open.
 fn bar(chance: &mut Chance, position: &mut Position, pocket: &[usize], hex: usize, force: u8, enemy: u8) {
-    match chance.weighted(&[4, 4, 4, 2, 4, 1]) {
+    let neutral = neutral_of(chance, &position.desk, force);
+    match chance.weighted(&[4, 4, 4, 2, 4, 1, 4]) {
         0 => close(chance, position, hex),
         1 => block(position, pocket, hex),
         2 => stack(chance, position, hex, force, 60),
         3 => drop(add(chance, position, hex, enemy, true)),
         4 => cover(chance, position, pocket, hex, enemy),
+        6 => match neutral {
+            Some(neutral) => stack(chance, position, hex, neutral, 10),
+            None => close(chance, position, hex),
+        },
         _ => (),
     }
 }

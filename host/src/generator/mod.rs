@@ -4,6 +4,7 @@ pub mod breaks;
 pub mod chance;
 pub mod crowds;
 pub mod dead_ends;
+pub mod neutrals;
 pub mod orders;
 pub mod part_route_orders;
 pub mod retreat_orders;
@@ -28,7 +29,7 @@ pub fn record(seed: u64, count: u64, calls: &[Call]) -> Vec<u8> {
 
 /// One story, chosen by weight; `turn` numbers the broken positions.
 fn story(writer: &mut Writer, turn: &mut usize) {
-    match writer.chance.weighted(&[140, 260, 240, 130, 12, 15, 520, 180, 12, 6, 6, 1, 50, 375, 150]) {
+    match writer.chance.weighted(&[130, 230, 250, 140, 12, 15, 420, 150, 12, 6, 6, 1, 50, 400, 180, 120, 70, 200, 70]) {
         0 => stories::soup(writer),
         1 => stories::movement(writer),
         2 => stories::battle(writer),
@@ -46,6 +47,10 @@ fn story(writer: &mut Writer, turn: &mut usize) {
         11 => stories::endless(writer),
         12 => stories::special_losses(writer),
         13 => stories::crowded(writer),
-        _ => stories::trapped(writer),
+        14 => stories::trapped(writer),
+        15 => stories::supply_line(writer),
+        16 => stories::broken_desk(writer),
+        17 => stories::in_the_way(writer),
+        _ => stories::roads_held(writer),
     }
 }

@@ -142,31 +142,39 @@ pub fn movers(position: &Position) -> Vec<usize> {
     })
 }
 
-/// A mover of the phasing force and a walk, most often within the rules.
+/// A mover of the phasing force and a walk, most often within the rules; now and then the mover is neutral to the force.
 fn plausible_move(chance: &mut Chance, position: &Position) -> Order {
-    let movers = movers(position);
+    let neutrals =
+        units_where(position, |unit| unit.on_map() && position.desk.neutral(unit.force(), position.desk.force));
+    let movers = if chance.percent(4) && !neutrals.is_empty() { neutrals } else { movers(position) };
     let Some(unit) = chance.pick_any(&movers) else { return random(chance, position, Call::Move) };
     let near = position.grid().neighbours(usize::from(position.units[unit].hex)).into_iter().flatten();
-    let full: Vec<usize> = near.filter(|&hex| position.units_on(hex).len() == 3).collect();
+    let force = position.units[unit].force();
+    let is_full = |hex: &usize| position.units_on(*hex).len() == 3 && !position.enemy_on(*hex, force);
+    let full: Vec<usize> = near.filter(is_full).collect();
     let path = match chance.pick_any(&full) {
         Some(hex) if chance.percent(30) => vec![hex as u16],
+        _ if chance.percent(20) => road_to_a_neutral(chance, position, unit),
         _ => walk(chance, position, unit),
     };
     Order::Move { unit: unit as u16, path }
 }
 
-/// A walk step by step; it mostly stops in Enemy zones and at the end of the allowance.
+/// A walk step by step; it mostly stops in Enemy zones and at the end of the allowance. Some walks mind no neutrals, and
+/// some end by a step into one, whatever it costs.
 fn walk(chance: &mut Chance, position: &Position, unit: usize) -> Vec<u16> {
     let mover = &position.units[unit];
     let zones = enemy_zones(position, mover.force());
     let wanted = if chance.percent(8) { 30 } else { chance.from_to(1, 6) };
-    let careful = chance.percent(75);
+    let (careful, minds_neutrals) = (chance.percent(75), chance.percent(75));
     let mut here = usize::from(mover.hex);
     let mut left = allowance(mover);
     let mut path = Vec::new();
     while path.len() < wanted {
         let near: Vec<usize> = position.grid().neighbours(here).into_iter().flatten().collect();
-        let fine = |next: &usize| is_way(position, here, *next) && !position.enemy_on(*next, mover.force());
+        let neutral = |hex: usize| minds_neutrals && position.neutral_on(hex, mover.force());
+        let barred = |hex: usize| position.enemy_on(hex, mover.force()) || neutral(hex);
+        let fine = |next: &usize| is_way(position, here, *next) && !barred(*next);
         let good: Vec<usize> =
             near.iter().copied().filter(|next| fine(next) && step_cost(position, here, *next) <= left).collect();
         let choices = if careful || chance.percent(60) { &good } else { &near };
@@ -178,10 +186,78 @@ fn walk(chance: &mut Chance, position: &Position, unit: usize) -> Vec<u16> {
             break;
         }
     }
+    if path.len() < 29 && chance.percent(20) {
+        path.extend(neutral_beside(chance, position, here, mover.force()));
+    }
     if path.is_empty() {
         path.push(chance.pick_any(&position.grid().neighbours(here)).flatten().unwrap_or(here) as u16);
     }
     path
+}
+
+/// A move into a neutral, if one can be reached.
+pub fn into_a_neutral(chance: &mut Chance, position: &Position) -> Order {
+    match chance.pick_any(&movers(position)) {
+        Some(unit) => Order::Move { unit: unit as u16, path: road_to_a_neutral(chance, position, unit) },
+        None => random(chance, position, Call::Move),
+    }
+}
+
+/// A road to a neutral, and now and then a step on; a walk where none can be reached.
+fn road_to_a_neutral(chance: &mut Chance, position: &Position, unit: usize) -> Vec<u16> {
+    let mover = &position.units[unit];
+    let roads = roads_to_neutrals(chance, position, mover);
+    let road = &roads[chance.below(roads.len())..];
+    match road.first() {
+        Some(road) => {
+            let here = *road.last().unwrap_or(&usize::from(mover.hex));
+            let road = road.iter().map(|&hex| hex as u16);
+            road.chain(neutral_beside(chance, position, here, mover.force())).take(30).collect()
+        }
+        None => walk(chance, position, unit),
+    }
+}
+
+/// Roads to hexes beside a neutral, each the shortest that keeps out of zones, after a few steps by chance.
+fn roads_to_neutrals(chance: &mut Chance, position: &Position, mover: &Unit) -> Vec<Vec<usize>> {
+    let zones = enemy_zones(position, mover.force());
+    let taken = |hex: usize| position.enemy_on(hex, mover.force()) || position.neutral_on(hex, mover.force());
+    let ways = |hex: usize| {
+        let near = position.grid().neighbours(hex).into_iter().flatten();
+        near.filter(|&next| is_way(position, hex, next) && !zones[next] && !taken(next)).collect::<Vec<usize>>()
+    };
+    let mut here = usize::from(mover.hex);
+    let mut first = Vec::new();
+    for _ in 0..chance.below(4) {
+        let Some(next) = chance.pick_any(&ways(here)) else { break };
+        first.push(next);
+        here = next;
+    }
+    let mut reached = vec![here];
+    let mut roads = vec![first];
+    let mut at = 0;
+    while at < reached.len() {
+        for next in ways(reached[at]) {
+            if !reached.contains(&next) {
+                reached.push(next);
+                roads.push([roads[at].as_slice(), &[next]].concat());
+            }
+        }
+        at += 1;
+    }
+    let beside = |hex: usize| position.grid().neighbours(hex).into_iter().flatten();
+    let is_beside = |hex: usize| beside(hex).any(|near| position.neutral_on(near, mover.force()));
+    reached.into_iter().zip(roads).filter(|(hex, _)| is_beside(*hex)).map(|(_, road)| road).collect()
+}
+
+/// A step into a neutral beside the hex, if there is one, and now and then a step on, into an Enemy if one is there.
+fn neutral_beside(chance: &mut Chance, position: &Position, here: usize, force: u8) -> Vec<u16> {
+    let near = |hex: usize| position.grid().neighbours(hex).into_iter().flatten().collect::<Vec<usize>>();
+    let neutrals: Vec<usize> = near(here).into_iter().filter(|&hex| position.neutral_on(hex, force)).collect();
+    let Some(neutral) = chance.pick_any(&neutrals) else { return Vec::new() };
+    let enemies: Vec<usize> = near(neutral).into_iter().filter(|&hex| position.enemy_on(hex, force)).collect();
+    let beyond = chance.pick_any(&enemies).or(chance.pick_any(&near(neutral))).filter(|_| chance.percent(40));
+    [neutral].into_iter().chain(beyond).map(|hex| hex as u16).collect()
 }
 
 /// The phasing units that could attack a hex.
@@ -195,19 +271,30 @@ fn attackers_of(position: &Position, target: usize) -> Vec<usize> {
     })
 }
 
-/// The hexes that could be attacked; one that holds several units comes several times.
-pub fn targets(position: &Position) -> Vec<usize> {
-    let enemies = units_where(position, |unit| unit.on_map() && unit.force() != position.desk.force);
-    let hexes = enemies.into_iter().map(|unit| usize::from(position.units[unit].hex));
+/// The hexes that could be attacked if those who answer the question, asked of their force and the phasing one, could
+/// be; one that holds several units comes several times.
+pub fn targets(position: &Position, question: impl Fn(u8, u8) -> bool) -> Vec<usize> {
+    let attacked = units_where(position, |unit| unit.on_map() && question(unit.force(), position.desk.force));
+    let hexes = attacked.into_iter().map(|unit| usize::from(position.units[unit].hex));
     let fresh = |hex: &usize| position.units_on(*hex).into_iter().all(|unit| !position.units[unit].has(FOUGHT));
     hexes.filter(|hex| fresh(hex) && !attackers_of(position, *hex).is_empty()).collect()
 }
 
-/// A target with Enemies beside units that may attack, and some of these.
+/// A target with Enemies, now and then with neutrals, beside units that may attack, and some of these.
 fn plausible_attack(chance: &mut Chance, position: &Position) -> Order {
     let die = chance.from_to(1, 6) as u16;
-    let Some(target) = chance.pick_any(&targets(position)) else { return random(chance, position, Call::Attack) };
+    let enemies = targets(position, |one, other| position.desk.enemy(one, other));
+    let neutrals = targets(position, |one, other| position.desk.neutral(one, other));
+    let choices = if enemies.is_empty() || chance.percent(8) && !neutrals.is_empty() { neutrals } else { enemies };
+    let Some(target) = chance.pick_any(&choices) else { return random(chance, position, Call::Attack) };
     let mut list = attackers_of(position, target);
+    if chance.percent(4) {
+        list.extend(units_where(position, |unit| {
+            position.desk.neutral(unit.force(), position.desk.force)
+                && unit.on_map()
+                && position.joined(usize::from(unit.hex), target)
+        }));
+    }
     chance.shuffle(&mut list);
     let most = list.len().min(18);
     list.truncate(if chance.percent(40) { most } else { chance.from_to(1, most) });

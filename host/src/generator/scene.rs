@@ -1,6 +1,7 @@
 //! Accepted positions in the quiet stage: chart, results, map, units and desk by chance.
 
 use super::chance::Chance;
+use super::neutrals::{any_force, any_pair, enemy_of, players};
 use crate::position::*;
 use crate::unit_type;
 
@@ -36,7 +37,7 @@ pub fn large_size(chance: &mut Chance) -> (u8, u8) {
 /// A map of a given size with some units.
 pub fn scene(chance: &mut Chance, size: (u8, u8), units: usize) -> Position {
     let mut position = empty_scene(chance, size);
-    let forces = forces(chance);
+    let forces = forces(chance, &position.desk);
     for _ in 0..units {
         add_unit(chance, &mut position, &forces);
     }
@@ -154,18 +155,23 @@ fn sides(chance: &mut Chance, ground: Ground, position: &Position, hex: usize) -
     sides
 }
 
-/// Any turn, force and phase; now and then the very last phase.
+/// Any turn, force, phase and players; now and then the very last phase.
 fn desk(chance: &mut Chance) -> Desk {
     let turn = chance.byte_at_limits(1, 60);
     let last_turn = if chance.percent(40) { turn } else { chance.byte_at_limits(turn, 60) };
     let last = chance.percent(10);
-    let force = if last { 3 } else { chance.byte(0, 3) };
+    let desk = Desk { turn, last_turn, players: players(chance), ..Desk::plain() };
+    let force = if last { 3 } else { any_force(chance, &desk) };
     let phase = if last { 2 } else { chance.byte(0, 2) };
-    Desk { turn, last_turn, force, phase, ..Desk::plain() }
+    Desk { force, phase, ..desk }
 }
 
-/// Two forces as a rule, sometimes all.
-fn forces(chance: &mut Chance) -> Vec<u8> {
+/// Two forces as a rule, sometimes all; where players are shared mostly two that share one, and an Enemy.
+fn forces(chance: &mut Chance, desk: &Desk) -> Vec<u8> {
+    if let Some((one, other)) = any_pair(chance, desk).filter(|_| chance.percent(80)) {
+        let enemy = enemy_of(chance, desk, one);
+        return if chance.percent(85) { vec![one, other, enemy] } else { vec![one, other] };
+    }
     let mut forces = vec![0, 1, 2, 3];
     chance.shuffle(&mut forces);
     forces.truncate(chance.pick(&[1, 2, 2, 2, 3, 4]));
@@ -208,7 +214,9 @@ fn likely_hex(chance: &mut Chance, position: &Position) -> usize {
 
 /// Is there ground for a unit of the force, and room for one more?
 pub fn takes(position: &Position, hex: usize, force: u8) -> bool {
-    position.bears_units(hex) && !position.enemy_on(hex, force) && position.units_on(hex).len() < 3
+    let there = position.units_on(hex);
+    let own = there.iter().all(|&unit| position.units[unit].force() == force);
+    position.bears_units(hex) && own && there.len() < 3
 }
 
 /// A unit of a force with any type it may have, often at the limits of its numbers.

@@ -1,6 +1,7 @@
 //! Positions in the middle of a combat: stages 1 to 3 with roles and routes set validly.
 
 use super::chance::Chance;
+use super::neutrals::other_force;
 use super::scene::{results, set_side, takes, unit_of};
 use crate::grid::DIRECTIONS;
 use crate::position::*;
@@ -180,10 +181,11 @@ fn route_start(chance: &mut Chance, position: &Position) -> Option<usize> {
     }
 }
 
-/// A battle about to be fought: a target in the middle, its Enemies in the hexes around it.
+/// A battle about to be fought: a target in the middle, its Enemies in the hexes around it. Now and then they are
+/// neutral to it.
 pub fn add_battle(chance: &mut Chance, position: &mut Position, crowded: bool) {
     let phasing = position.desk.force;
-    let enemy = (phasing + chance.byte(1, 3)) % 4;
+    let enemy = other_force(chance, &position.desk, phasing);
     let target = middle(position);
     let defenders = if crowded { 3 } else { chance.from_to(1, 3) };
     for _ in 0..defenders {

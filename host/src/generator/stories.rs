@@ -1,9 +1,10 @@
 //! Stories: a position and several calls on it.
 
-use super::breaks::{break_names, broken_bytes, changed_byte};
+use super::breaks::{break_names, broken_bytes, changed_byte, DESK_LINES};
 use super::chance::Chance;
-use super::crowds::crowded_road;
+use super::crowds::{add, crowded_road};
 use super::dead_ends::dead_end;
+use super::neutrals::{self, add_neutrals, hold_routes};
 use super::orders::{self, targets};
 use super::scene::{add_unit, empty_scene, few_units, large_size, scene, small_size};
 use super::staged::{add_battle, add_rivers, enter_special_losses, enter_stage};
@@ -11,6 +12,7 @@ use super::writer::{Aim, Writer};
 use crate::contents::written;
 use crate::order::{Answer, Call};
 use crate::position::*;
+use crate::unit_type::SUPPLY_UNIT;
 
 /// A small position of any kind: any phase, any stage.
 pub fn any_position(chance: &mut Chance) -> Position {
@@ -21,6 +23,9 @@ pub fn any_position(chance: &mut Chance) -> Position {
     if stage != QUIET {
         enter_stage(chance, &mut position, stage);
     }
+    if chance.percent(60) {
+        add_neutrals(chance, &mut position);
+    }
     position
 }
 
@@ -28,7 +33,7 @@ pub fn any_position(chance: &mut Chance) -> Position {
 fn some_calls(writer: &mut Writer, count: usize) {
     for _ in 0..count {
         let call = writer.likely_call();
-        let aim = [Aim::Rare, Aim::Accepted, Aim::Any][writer.chance.weighted(&[55, 30, 15])];
+        let aim = [Aim::Rare, Aim::Accepted, Aim::Any, Aim::Neutral][writer.chance.weighted(&[40, 25, 10, 25])];
         writer.order(call, aim);
         noise(writer);
     }
@@ -49,10 +54,25 @@ pub fn movement(writer: &mut Writer) {
     let units = chance.from_to(4, 12);
     let mut position = scene(chance, size, units);
     position.desk.phase = chance.pick(&[LAND_MOVEMENT, LAND_MOVEMENT, MECHANISED]);
+    if chance.percent(75) {
+        add_neutrals(chance, &mut position);
+    }
     make_someone_phasing(chance, &mut position);
+    if chance.percent(30) {
+        fill_beside_a_mover(chance, &mut position);
+    }
     writer.set_position(&written(&position));
     let count = writer.chance.from_to(3, 8);
     some_calls(writer, count);
+}
+
+/// As many as can stand on a hex beside a mover.
+fn fill_beside_a_mover(chance: &mut Chance, position: &mut Position) {
+    let movers = orders::movers(position);
+    let Some(unit) = chance.pick_any(&movers).map(|mover| position.units[mover]) else { return };
+    let near: Vec<usize> = position.grid().neighbours(usize::from(unit.hex)).into_iter().flatten().collect();
+    let Some(hex) = chance.pick_any(&near) else { return };
+    while add(chance, position, hex, unit.force(), false).is_some() {}
 }
 
 /// The phasing force is one that has units on the map, if any has.
@@ -75,6 +95,9 @@ pub fn battle(writer: &mut Writer) {
     for _ in 0..chance.below(4) {
         add_unit(chance, &mut position, &[0, 1, 2, 3]);
     }
+    if chance.percent(75) {
+        add_neutrals(chance, &mut position);
+    }
     writer.set_position(&written(&position));
     for _ in 0..writer.chance.from_to(1, 3) {
         fight_out(writer);
@@ -83,7 +106,9 @@ pub fn battle(writer: &mut Writer) {
 
 /// An attack, refused orders in between, and calls until it is quiet again.
 fn fight_out(writer: &mut Writer) {
-    let can_attack = writer.position().is_some_and(|position| !targets(&position).is_empty());
+    let can_attack = writer
+        .position()
+        .is_some_and(|position| !targets(&position, |one, other| position.desk.enemy(one, other)).is_empty());
     if !can_attack || !writer.exists(Call::Attack) {
         return some_calls(writer, 1);
     }
@@ -97,7 +122,7 @@ fn fight_out(writer: &mut Writer) {
         if is_quiet(writer) {
             return;
         }
-        let aim = [Aim::Rare, Aim::Accepted][writer.chance.below(2)];
+        let aim = [Aim::Rare, Aim::Accepted, Aim::Neutral][writer.chance.weighted(&[40, 45, 15])];
         let call = writer.likely_call();
         writer.order(call, aim);
         noise(writer);
@@ -116,6 +141,10 @@ pub fn staged(writer: &mut Writer) {
     let mut position = scene(chance, size, units);
     let stage = chance.byte(1, 3);
     enter_stage(chance, &mut position, stage);
+    if chance.percent(75) {
+        hold_routes(chance, &mut position);
+        add_neutrals(chance, &mut position);
+    }
     if chance.percent(50) {
         make_someone_phasing(chance, &mut position);
     }
@@ -154,7 +183,7 @@ fn retreat_all(writer: &mut Writer) {
         for _ in 0..writer.chance.from_to(0, 3) {
             nearly_legal(writer);
         }
-        let aim = [Aim::Accepted, Aim::Rare][writer.chance.weighted(&[85, 15])];
+        let aim = [Aim::Accepted, Aim::Rare, Aim::Neutral][writer.chance.weighted(&[65, 10, 25])];
         writer.order(Call::Retreat, aim);
         noise(writer);
         if !is_in_stage(writer, RETREATS) {
@@ -172,6 +201,62 @@ fn nearly_legal(writer: &mut Writer) {
 
 fn is_in_stage(writer: &Writer, stage: u8) -> bool {
     writer.position().is_some_and(|position| position.desk.stage == stage)
+}
+
+/// Movers with a long way to go, and neutrals in it.
+pub fn in_the_way(writer: &mut Writer) {
+    let chance = &mut writer.chance;
+    let size = (chance.byte(4, 8), chance.byte(3, 8));
+    let units = chance.from_to(3, 9);
+    let mut position = scene(chance, size, units);
+    position.desk.phase = LAND_MOVEMENT;
+    make_someone_phasing(chance, &mut position);
+    add_neutrals(chance, &mut position);
+    for unit in position.units.iter_mut().filter(|unit| unit.kind != SUPPLY_UNIT) {
+        unit.allowance = chance.byte(6, 30);
+        unit.marks &= !MOVED;
+    }
+    writer.set_position(&written(&position));
+    for _ in 0..writer.chance.from_to(2, 5) {
+        match writer.position().filter(|_| writer.exists(Call::Move)) {
+            Some(position) if writer.chance.percent(50) => {
+                let order = orders::into_a_neutral(&mut writer.chance, &position);
+                writer.call(&order);
+            }
+            Some(_) => drop(writer.order(Call::Move, Aim::Neutral)),
+            None => some_calls(writer, 1),
+        }
+    }
+}
+
+/// Victors with routes before them that neutrals hold.
+pub fn roads_held(writer: &mut Writer) {
+    let chance = &mut writer.chance;
+    let size = (chance.byte(3, 6), chance.byte(3, 6));
+    let units = chance.from_to(3, 8);
+    let mut position = scene(chance, size, units);
+    enter_stage(chance, &mut position, ADVANCES);
+    hold_routes(chance, &mut position);
+    writer.set_position(&written(&position));
+    for _ in 0..writer.chance.from_to(2, 4) {
+        if writer.exists(Call::Advance) && is_in_stage(writer, ADVANCES) {
+            writer.order(Call::Advance, Aim::Neutral);
+        }
+    }
+    some_calls(writer, 1);
+}
+
+/// A supply line with neutrals about it: supply, and what hangs on it.
+pub fn supply_line(writer: &mut Writer) {
+    let position = neutrals::supply_line(&mut writer.chance);
+    writer.set_position(&written(&position));
+    for _ in 0..writer.chance.from_to(1, 4) {
+        let call = writer.chance.pick(&[Call::Supply, Call::Supply, Call::Attack, Call::End, Call::End]);
+        if writer.exists(call) {
+            writer.order(call, Aim::Neutral);
+        }
+    }
+    some_calls(writer, 1);
 }
 
 /// P.A.L. losses with special infantry, phasing or not.
@@ -229,6 +314,17 @@ pub fn broken(writer: &mut Writer, turn: usize) {
             writer.set_position(&bytes);
             return any_calls(writer, 1);
         }
+    }
+}
+
+/// A desk broken in its length or its players.
+pub fn broken_desk(writer: &mut Writer) {
+    let position = any_position(&mut writer.chance);
+    let name = writer.chance.pick(&DESK_LINES);
+    let line = break_names().iter().position(|one| *one == name);
+    if let Some(bytes) = line.and_then(|line| broken_bytes(&mut writer.chance, &position, line)) {
+        writer.set_position(&bytes);
+        any_calls(writer, 1);
     }
 }
 

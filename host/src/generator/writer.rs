@@ -4,6 +4,7 @@ use super::chance::Chance;
 use super::orders;
 use crate::acceptance::accepted;
 use crate::order::{Answer, Call, Order};
+use crate::player_cases::{if_away, if_enemy, Ruled};
 use crate::position::*;
 use crate::record::{hex_digits, order_text};
 use crate::retreat_cases::cases_of;
@@ -24,6 +25,8 @@ pub enum Aim {
     Rare,
     /// An order that is accepted.
     Accepted,
+    /// An order that neutrals decide, of these the answer that has come up least.
+    Neutral,
     /// Whatever comes.
     Any,
 }
@@ -196,8 +199,15 @@ impl Writer {
         match aim {
             Aim::Rare => rarity(self.count_of(order, &answer), &answer),
             Aim::Accepted => u64::from(matches!(answer, Answer::Refused(_))),
+            Aim::Neutral if self.neutrals_decide(order) => rarity(self.count_of(order, &answer), &answer),
+            Aim::Neutral => u64::MAX,
             Aim::Any => 0,
         }
+    }
+
+    /// Would the order be ruled otherwise if neutrals were Enemy, or away?
+    fn neutrals_decide(&self, order: &Order) -> bool {
+        [if_enemy(&self.table, order), if_away(&self.table, order)].into_iter().any(|ruled| ruled != Ruled::Alike)
     }
 
     /// How often the answer has come up, of a refused retreat the case.
@@ -237,7 +247,7 @@ fn call_weights(position: &Position) -> [usize; 8] {
     let desk = &position.desk;
     match desk.stage {
         QUIET if desk.phase == COMBAT => {
-            let attack = if orders::targets(position).is_empty() { 8 } else { 70 };
+            let attack = if orders::targets(position, |one, other| one != other).is_empty() { 8 } else { 70 };
             [10, 2, 12, attack, 2, 2, 2, 2]
         }
         QUIET => {
