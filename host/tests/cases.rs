@@ -1,11 +1,14 @@
-//! Which cases of a retreat are counted.
+//! Which cases of a retreat are counted, and what players and neutrals do.
 
 mod common;
 use common::crowds::*;
 use common::*;
 use host::contents::written;
 use host::counting::Counting;
+use host::order::Call;
 use host::part_route_cases::Sent;
+use host::player_cases::DESKS;
+use host::player_tally::PlayerTally;
 use host::position::*;
 use host::record::{hex_digits, read, Line};
 use host::retreat_cases::{cases_of, Case};
@@ -116,6 +119,75 @@ fn what_is_not_judged_so_far_is_no_case() {
     assert_eq!(cases(&row(3, 1, &[1]), "retreat 0 1 / 3"), []);
     assert_eq!(cases(&combat(3, 1, US), "retreat 0 1"), []);
     assert_eq!(cases(&row(3, 1, &[1]), "end"), []);
+}
+
+/// What is counted of players when these lines are played on a position.
+fn players(position: &Position, lines: &str) -> PlayerTally {
+    let record = format!("position {}\n{lines}", hex_digits(&written(position)));
+    Counting::of(record.as_bytes()).tally.players
+}
+
+/// S.A.U. infantry 0 on the first of six hexes, E.S.C. infantry 1 on the third, US militia 2 on the fourth; forces 0 and
+/// 1 have one player.
+fn shared_road() -> Position {
+    let mut position = Position::plain(6, 1);
+    stand(&mut position, SAU, INFANTRY, 0, 3);
+    stand(&mut position, ESC, INFANTRY, 2, 3);
+    stand(&mut position, US, MILITIA, 3, 3);
+    position.desk.players = Some([1, 1, 0, 2]);
+    position
+}
+
+#[test]
+fn calls_are_counted_by_the_desk() {
+    let on = |players: Option<[u8; 4]>| {
+        let mut position = shared_road();
+        position.desk.players = players;
+        let tally = players_rows(&position);
+        tally.into_iter().filter(|(_, count)| *count > 0).map(|(name, _)| name).collect::<Vec<&str>>()
+    };
+    assert_eq!(on(None), ["an old desk"]);
+    assert_eq!(on(Some([3, 0, 1, 2])), ["four players"]);
+    let neutrals = "  with neutrals to each other on the map";
+    assert_eq!(on(Some([1, 1, 0, 2])), ["shared players", "  forces 0 and 1 share", neutrals]);
+    assert_eq!(on(Some([1, 0, 1, 2])), ["shared players", "  forces 0 and 2 share"]);
+    assert_eq!(on(Some([0, 1, 1, 2])), ["shared players", "  forces 1 and 2 share"]);
+    assert_eq!(on(Some([1, 1, 1, 2])), ["shared players", "  forces 0, 1 and 2 share", neutrals]);
+    assert_eq!(on(Some([1, 1, 1, 1])), Vec::<&str>::new());
+}
+
+/// The count of each row of the desks after two calls.
+fn players_rows(position: &Position) -> Vec<(&'static str, u64)> {
+    let tally = players(position, "close\nclose");
+    let rows: Vec<(&str, u64)> = DESKS.iter().map(|(name, _)| (*name, tally.on_desk(name))).collect();
+    assert!(rows.iter().all(|(_, count)| [0, 2].contains(count)));
+    rows
+}
+
+#[test]
+fn an_18_is_counted_by_its_place_and_what_else_is_due() {
+    let mut position = shared_road();
+    position.units[0].marks = SUPPLIED;
+    let tally = players(&position, "move 0 1 2\nmove 0 1 2 3\nmove 0 1 3");
+    assert_eq!([0, 1, 2, 3].map(|place| tally.at_place(place)), [0, 0, 2, 0]);
+    assert_eq!(tally.with_more_due(), [0, 1]);
+    position.units[0].allowance = 1;
+    assert_eq!(players(&position, "move 0 1 2").with_more_due(), [1, 0]);
+}
+
+#[test]
+fn calls_that_neutrals_decide_are_counted() {
+    let tally = players(&shared_road(), "move 0 1 2\nmove 0 1\nmove 0 5\nclose");
+    // The first is 9 if they are Enemy and ok if they are away; the second is ok in any case.
+    assert_eq!((tally.if_enemy(Call::Move), tally.if_away(Call::Move)), ([1, 0], [1, 0]));
+    assert_eq!((tally.if_enemy(Call::Close), tally.if_away(Call::Close)), ([0, 0], [0, 0]));
+    let mut position = shared_road();
+    position.map.hexes[0].flags = PORT;
+    let tally = players(&position, "supply 0\nsupply 1\nsupply 3");
+    assert_eq!((tally.if_enemy(Call::Supply), tally.if_away(Call::Supply)), ([0, 1], [0, 0]));
+    // With four players nothing is decided by neutrals.
+    position.desk.players = Some([0, 1, 2, 3]);
+    assert_eq!(players(&position, "supply 0\nmove 0 1 2").if_enemy(Call::Supply), [0, 0]);
 }
 
 #[test]

@@ -3,14 +3,16 @@
 use host::acceptance::{accepted, line_names};
 use host::contents::written;
 use host::counting::Counting;
-use host::generator::breaks::{break_names, broken_bytes, changed_byte};
+use host::generator::breaks::{break_names, broken_bytes, changed_byte, PLAYER_LINES};
 use host::generator::chance::Chance;
 use host::generator::crowds::crowded_road;
 use host::generator::dead_ends::dead_end;
+use host::generator::neutrals::supply_line;
 use host::generator::record;
 use host::generator::stories::any_position;
-use host::order::{call_list, CALLS};
+use host::order::{call_list, Call, CALLS};
 use host::part_route_cases::Sent;
+use host::player_cases::DESKS;
 use host::position::RETREATS;
 use host::retreat_cases::{Case, CASES};
 use host::tally::Tally;
@@ -97,6 +99,86 @@ fn in_a_record_of_10000_calls_each_case_of_a_part_route_comes_up() {
     let [_, two, three] = tally.retreats(Case::Doomed(Sent::Curls { longer: true }));
     assert!(two.min(three) > 0);
     assert!(tally.followed() >= 20);
+}
+
+#[test]
+fn at_least_half_of_the_calls_stand_on_shared_players() {
+    for (seed, count) in [(16, 100), (17, 300), (18, 1000), (19, 5000)] {
+        let tally = tally_of(&record(seed, count, &CALLS));
+        assert!(2 * tally.players.on_desk("shared players") >= tally.calls(), "seed {seed}");
+    }
+}
+
+#[test]
+fn every_desk_comes_up_in_a_record_of_5000_calls() {
+    let tally = tally_of(&record(19, 5000, &CALLS));
+    let on_desk = |name: &str| tally.players.on_desk(name);
+    assert!(on_desk("an old desk") >= 500);
+    for (name, _) in DESKS {
+        assert!(on_desk(name) >= 250, "{name}");
+    }
+    let all: u64 = ["an old desk", "four players", "shared players"].map(on_desk).iter().sum();
+    assert!(all < tally.calls());
+}
+
+#[test]
+fn in_a_record_of_10000_calls_18_comes_at_many_places_and_neutrals_decide() {
+    let players = tally_of(&record(20, 10000, &CALLS)).players;
+    for place in 1..=5 {
+        assert!(players.at_place(place) >= 5, "place {place}");
+    }
+    assert!((1..=30).map(|place| players.at_place(place)).sum::<u64>() >= 120);
+    assert!(players.with_more_due().iter().all(|&count| count >= 5));
+    for (call, least) in
+        [(Call::Supply, 50), (Call::Move, 200), (Call::End, 8), (Call::Attack, 80), (Call::Retreat, 80)]
+    {
+        assert!(players.if_enemy(call).iter().sum::<u64>() >= least, "{}", call.name());
+    }
+    for (call, least) in [(Call::Move, 120), (Call::Retreat, 80), (Call::Advance, 30)] {
+        assert!(players.if_away(call)[0] >= least, "{}", call.name());
+    }
+    // Neutrals make no difference to supply, and an advance asks no more of Enemies than of them.
+    assert_eq!(players.if_away(Call::Supply), [0, 0]);
+    assert_eq!(players.if_enemy(Call::Advance), [0, 0]);
+}
+
+#[test]
+fn supply_lines_are_accepted() {
+    let mut chance = Chance::new(24);
+    for _ in 0..300 {
+        assert_eq!(accepted(&written(&supply_line(&mut chance))).err(), None);
+    }
+}
+
+#[test]
+fn desks_are_broken_at_each_length_and_in_each_force() {
+    let mut chance = Chance::new(25);
+    let (mut lengths, mut said, mut sharing, mut players) = (Vec::new(), Vec::new(), Vec::new(), Vec::new());
+    for _ in 0..2000 {
+        let position = any_position(&mut chance);
+        for name in PLAYER_LINES {
+            let line = break_names().iter().position(|one| *one == name).expect(name);
+            let Some(bytes) = broken_bytes(&mut chance, &position, line) else { continue };
+            let end = |at: usize| usize::from(u16::from_le_bytes([bytes[at], bytes[at + 1]]));
+            match name {
+                "desk: 56 or 60 bytes" => lengths.push(end(18)),
+                "contents: no tail, nothing missing" => said.push((bytes.len() - end(16), end(18))),
+                "desk: force 3 shares no player" => {
+                    let last = bytes.len() - 4;
+                    sharing.extend((0..3).filter(|&force| bytes[last + force] == bytes[last + 3]));
+                }
+                "desk: players 0..3" => players.extend(bytes[bytes.len() - 4..].to_vec()),
+                _ => (),
+            }
+        }
+    }
+    assert!([55, 57, 58, 59, 61, 64].iter().all(|length| lengths.contains(length)));
+    assert!([(56, 60), (60, 56)].iter().all(|pair| said.contains(pair)));
+    for length in [55, 57, 58, 59, 61, 64] {
+        assert!([(56, length), (length, 56), (60, length), (length, 60)].iter().all(|pair| said.contains(pair)));
+    }
+    assert!((0..3).all(|force| sharing.contains(&force)));
+    assert!(players.contains(&4) && players.contains(&255));
 }
 
 #[test]

@@ -1,6 +1,7 @@
 //! Positions broken in one fact: for each line of acceptance a way to break it.
 
 use super::chance::Chance;
+use super::neutrals::neutral_of;
 use super::scene::unit_of;
 use super::staged::write_routes;
 use crate::contents::written;
@@ -21,7 +22,7 @@ const BYTE_BREAKS: [(&str, ByteBreak); 8] = [
     ("results: length by the column count", |c, b| resize_body(c, b, 1)),
     ("map: length by width and height", |c, b| resize_body(c, b, 2)),
     ("units: length by the count", |c, b| resize_body(c, b, 3)),
-    ("desk: 56 or 60 bytes", resize_desk),
+    ("desk: 56 or 60 bytes", wrong_desk),
 ];
 
 /// The ways to break the numbers, by the names of the lines.
@@ -90,12 +91,15 @@ const BREAKS: [(&str, Break); 61] = [
     ("routes: each next to the last over an unblocked side", route_apart),
 ];
 
-/// The lines about the desk's length and its players.
-pub const DESK_LINES: [&str; 4] = [
+/// The lines about the desk's length and its players, and those that neutrals break as Enemies do.
+pub const PLAYER_LINES: [&str; 7] = [
     "contents: no tail, nothing missing",
     "desk: 56 or 60 bytes",
     "desk: players 0..3",
     "desk: force 3 shares no player",
+    "mapped units: one force in a hex",
+    "roles: role 1 of one force",
+    "roles: role 2 of one force",
 ];
 
 pub fn break_names() -> Vec<&'static str> {
@@ -231,8 +235,13 @@ fn shift_a_body(chance: &mut Chance, bytes: &mut [u8]) {
     set_number(bytes, at, moved);
 }
 
-/// A tail, or something missing; now and then the four players come or go and the contents do not say so.
+/// Lengths near those that a desk may have.
+const NEAR_LENGTHS: [u16; 6] = [55, 57, 58, 59, 61, 64];
+
+/// A tail, or something missing; half the time at the desk, of which the contents say another length than it has.
 fn lengthen_or_shorten(chance: &mut Chance, bytes: &mut Vec<u8>) {
+    let right = chance.pick(&[56, 60]);
+    let other = if chance.percent(50) { 116 - right } else { chance.pick(&NEAR_LENGTHS) };
     match chance.below(4) {
         0 => {
             let tail = chance.from_to(1, 9);
@@ -242,17 +251,25 @@ fn lengthen_or_shorten(chance: &mut Chance, bytes: &mut Vec<u8>) {
             let lost = chance.from_to(1, 56);
             bytes.truncate(bytes.len() - lost);
         }
-        _ if number(bytes, 18) == 56 => bytes.extend(chance.pick(&[[0, 1, 2, 3], [0, 0, 0, 1], [0; 4]])),
-        _ => bytes.truncate(bytes.len() - 4),
+        2 => resize_desk(bytes, right, other),
+        _ => resize_desk(bytes, other, right),
     }
 }
 
-/// A desk of a length near the two that are right, with the contents telling the truth.
-fn resize_desk(chance: &mut Chance, bytes: &mut Vec<u8>) {
-    let length = chance.pick(&[0, 52, 54, 55, 55, 57, 57, 58, 58, 59, 59, 61, 61, 62, 64, 64, 112, 120]);
-    let desk = usize::from(number(bytes, 16));
-    bytes.resize(desk + usize::from(length), chance.pick(&[0, 0, 3, 255]));
-    set_number(bytes, 18, length);
+/// A desk of a wrong length, most often near a right one, with the contents telling the truth.
+fn wrong_desk(chance: &mut Chance, bytes: &mut Vec<u8>) {
+    let far = chance.pick(&[0, 28, 52, 54, 62, 112, 116, 120]);
+    let length = if chance.percent(15) { far } else { chance.pick(&NEAR_LENGTHS) };
+    resize_desk(bytes, length, length);
+}
+
+/// Cut or lengthen the desk, and let the contents say this; any four bytes on end of those added are four players.
+fn resize_desk(bytes: &mut Vec<u8>, length: u16, said: u16) {
+    let end = usize::from(number(bytes, 16) + length);
+    bytes.truncate(end);
+    let missing = end - bytes.len();
+    bytes.extend([0, 1, 2, 3].into_iter().cycle().take(missing));
+    set_number(bytes, 18, said);
 }
 
 /// A body longer or shorter than its counts say, with the contents telling the truth.
@@ -397,10 +414,11 @@ fn fourth_in_a_hex(chance: &mut Chance, position: &mut Position) -> Option<()> {
     Some(())
 }
 
-/// Another force beside a unit, where fewer than three stand.
+/// Another force beside a unit, where fewer than three stand; a neutral one, if there is any.
 fn second_force_in_a_hex(chance: &mut Chance, position: &mut Position) -> Option<()> {
     let unit = *unit_where(chance, position, |unit| unit.on_map())?;
-    let force = (unit.force() + chance.byte(1, 3)) % 4;
+    let any = (unit.force() + chance.byte(1, 3)) % 4;
+    let force = neutral_of(chance, &position.desk, unit.force()).unwrap_or(any);
     let other = unit_of(chance, force, Some(unit.hex));
     (position.units_on(usize::from(unit.hex)).len() < 3).then(|| position.units.push(other))
 }
@@ -425,7 +443,8 @@ fn players(position: &mut Position) -> &mut [u8; 4] {
 }
 
 fn player_above_3(chance: &mut Chance, position: &mut Position) -> Option<()> {
-    set(&mut players(position)[chance.below(4)], above(chance, 3))
+    let player = chance.pick(&[4, 4, 5, 128, 255, 255]);
+    set(&mut players(position)[chance.below(4)], player)
 }
 
 /// Force 3 gets the player of another force, or all four forces have one player.
@@ -439,10 +458,13 @@ fn force_3_shares(chance: &mut Chance, position: &mut Position) -> Option<()> {
     Some(())
 }
 
-/// A unit of one more force gets a role that another force has.
+/// A unit of one more force gets a role that another force has; of a neutral one, if there is any.
 fn role_in_other_force(chance: &mut Chance, position: &mut Position, role: u8) -> Option<()> {
     let holder = position.units[*position.units_with_role(role).first()?].force();
-    let unit = unit_where(chance, position, |unit| unit.on_map() && unit.role == 0 && unit.force() != holder)?;
+    let neutrals = position.desk.neutrals_of(holder);
+    let free = |unit: &Unit| unit.on_map() && unit.role == 0 && unit.force() != holder;
+    let any_neutral = position.units.iter().any(|unit| free(unit) && neutrals.contains(&unit.force()));
+    let unit = unit_where(chance, position, |unit| free(unit) && (!any_neutral || neutrals.contains(&unit.force())))?;
     unit.marks |= TRIED;
     set(&mut unit.role, role)
 }

@@ -29,7 +29,8 @@ pub fn record(seed: u64, count: u64, calls: &[Call]) -> Vec<u8> {
 
 /// One story, chosen by weight; `turn` numbers the broken positions.
 fn story(writer: &mut Writer, turn: &mut usize) {
-    match writer.chance.weighted(&[130, 230, 250, 140, 12, 15, 420, 150, 12, 6, 6, 1, 50, 400, 180, 120, 70, 200, 70]) {
+    match writer.chance.weighted(&[130, 230, 250, 140, 12, 15, 420, 150, 12, 6, 6, 1, 60, 400, 180, 140, 100, 220, 70])
+    {
         0 => stories::soup(writer),
         1 => stories::movement(writer),
         2 => stories::battle(writer),
@@ -49,7 +50,7 @@ fn story(writer: &mut Writer, turn: &mut usize) {
         13 => stories::crowded(writer),
         14 => stories::trapped(writer),
         15 => stories::supply_line(writer),
-        16 => stories::broken_desk(writer),
+        16 => stories::broken_players(writer),
         17 => stories::in_the_way(writer),
         _ => stories::roads_held(writer),
     }

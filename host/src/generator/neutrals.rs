@@ -2,24 +2,34 @@
 
 use super::chance::Chance;
 use super::crowds::{add, close, lane_hexes, open};
-use super::scene::{empty_scene, set_side, takes};
+use super::scene::{empty_scene, results, set_side, takes};
 use crate::player_cases::neutral_pairs;
 use crate::position::*;
-use crate::unit_type::INFANTRY;
+use crate::unit_type::{INFANTRY, MILITIA};
 
 /// The players of a desk: none named, four of them, or fewer because two or three of the forces 0 to 2 share one.
 pub fn players(chance: &mut Chance) -> Option<[u8; 4]> {
+    match chance.weighted(&[20, 12, 68]) {
+        0 => None,
+        1 => Some(four_players(chance)),
+        _ => Some(shared_players(chance)),
+    }
+}
+
+/// Four players; often each force's number is its own.
+fn four_players(chance: &mut Chance) -> [u8; 4] {
     let mut numbers = [0, 1, 2, 3];
     if chance.percent(75) {
         chance.shuffle(&mut numbers);
     }
-    let [a, b, c, _] = numbers;
-    let shared = [[a, a, a, b], [a, a, b, c], [a, b, a, c], [a, b, b, c]];
-    match chance.weighted(&[20, 12, 68]) {
-        0 => None,
-        1 => Some(numbers),
-        _ => Some(shared[chance.weighted(&[34, 22, 22, 22])]),
-    }
+    numbers
+}
+
+/// Two or three of the forces 0 to 2 share a player.
+pub fn shared_players(chance: &mut Chance) -> [u8; 4] {
+    let [a, b, c, _] = four_players(chance);
+    let ways = [[a, a, a, b], [a, a, b, c], [a, b, a, c], [a, b, b, c]];
+    ways[chance.weighted(&[34, 22, 22, 22])]
 }
 
 /// Two forces neutral to each other, if there are any.
@@ -112,7 +122,10 @@ pub fn supply_line(chance: &mut Chance) -> Position {
     end_of_line(chance, &mut position, start, force);
     let end = lane[lane.len() - 1];
     add(chance, &mut position, end, force, false);
-    if chance.percent(60) {
+    let attacks = chance.percent(45);
+    if attacks {
+        post_target(chance, &mut position, &lane, force);
+    } else if chance.percent(70) {
         post_enemy(chance, &mut position, &lane, force);
     }
     let held = chance.pick(&[20, 40]);
@@ -125,6 +138,9 @@ pub fn supply_line(chance: &mut Chance) -> Position {
     }
     position.desk.phase = chance.pick(&[COMBAT, COMBAT, COMBAT, MECHANISED]);
     position.desk.force = chance.pick(&[force, force, force, neutral, 3]);
+    if attacks {
+        (position.desk.phase, position.desk.force) = (COMBAT, force);
+    }
     position
 }
 
@@ -163,6 +179,24 @@ fn end_of_line(chance: &mut Chance, position: &mut Position, hex: usize, force: 
     if let Some(holder) = holder {
         add(chance, position, hex, holder, by_supply_unit);
     }
+}
+
+/// An Enemy beside the lane's end that casts no zone and is about as strong as who stands there; many columns, so that
+/// supply shows in the odds.
+fn post_target(chance: &mut Chance, position: &mut Position, lane: &[usize], force: u8) {
+    let end = lane[lane.len() - 1];
+    let beside = any_near(chance, position, end);
+    let Some(direction) = position.grid().direction_to(end, beside).filter(|_| !lane.contains(&beside)) else { return };
+    let enemy = enemy_of(chance, &position.desk, force);
+    open(chance, position, beside);
+    set_side(position, end, direction, PLAIN);
+    let posted = add(chance, position, beside, enemy, true);
+    posted.into_iter().filter(|_| enemy == 3).for_each(|unit| position.units[unit].kind = MILITIA);
+    for unit in &mut position.units {
+        unit.strength = chance.byte(4, 12);
+        unit.marks &= !FOUGHT;
+    }
+    position.results = results(chance, 12);
 }
 
 /// An Enemy beside the lane, most often one that casts a zone.

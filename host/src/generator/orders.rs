@@ -250,10 +250,12 @@ fn roads_to_neutrals(chance: &mut Chance, position: &Position, mover: &Unit) -> 
     reached.into_iter().zip(roads).filter(|(hex, _)| is_beside(*hex)).map(|(_, road)| road).collect()
 }
 
-/// A step into a neutral beside the hex, if there is one, and now and then a step on, into an Enemy if one is there.
+/// A step into a neutral beside the hex, if there is one, and now and then a step on, into an Enemy if one is there. A
+/// few times the neutral is anywhere.
 fn neutral_beside(chance: &mut Chance, position: &Position, here: usize, force: u8) -> Vec<u16> {
     let near = |hex: usize| position.grid().neighbours(hex).into_iter().flatten().collect::<Vec<usize>>();
-    let neutrals: Vec<usize> = near(here).into_iter().filter(|&hex| position.neutral_on(hex, force)).collect();
+    let hexes = if chance.percent(8) { (0..position.map.hexes.len()).collect() } else { near(here) };
+    let neutrals: Vec<usize> = hexes.into_iter().filter(|&hex| position.neutral_on(hex, force)).collect();
     let Some(neutral) = chance.pick_any(&neutrals) else { return Vec::new() };
     let enemies: Vec<usize> = near(neutral).into_iter().filter(|&hex| position.enemy_on(hex, force)).collect();
     let beyond = chance.pick_any(&enemies).or(chance.pick_any(&near(neutral))).filter(|_| chance.percent(40));

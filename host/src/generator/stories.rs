@@ -1,10 +1,10 @@
 //! Stories: a position and several calls on it.
 
-use super::breaks::{break_names, broken_bytes, changed_byte, DESK_LINES};
+use super::breaks::{break_names, broken_bytes, changed_byte, PLAYER_LINES};
 use super::chance::Chance;
 use super::crowds::{add, crowded_road};
 use super::dead_ends::dead_end;
-use super::neutrals::{self, add_neutrals, hold_routes};
+use super::neutrals::{self, add_neutrals, hold_routes, neutral_of};
 use super::orders::{self, targets};
 use super::scene::{add_unit, empty_scene, few_units, large_size, scene, small_size};
 use super::staged::{add_battle, add_rivers, enter_special_losses, enter_stage};
@@ -219,7 +219,7 @@ pub fn in_the_way(writer: &mut Writer) {
     writer.set_position(&written(&position));
     for _ in 0..writer.chance.from_to(2, 5) {
         match writer.position().filter(|_| writer.exists(Call::Move)) {
-            Some(position) if writer.chance.percent(50) => {
+            Some(position) if writer.chance.percent(60) => {
                 let order = orders::into_a_neutral(&mut writer.chance, &position);
                 writer.call(&order);
             }
@@ -251,7 +251,7 @@ pub fn supply_line(writer: &mut Writer) {
     let position = neutrals::supply_line(&mut writer.chance);
     writer.set_position(&written(&position));
     for _ in 0..writer.chance.from_to(1, 4) {
-        let call = writer.chance.pick(&[Call::Supply, Call::Supply, Call::Attack, Call::End, Call::End]);
+        let call = writer.chance.pick(&[Call::Supply, Call::Supply, Call::Attack, Call::Attack, Call::End, Call::End]);
         if writer.exists(call) {
             writer.order(call, Aim::Neutral);
         }
@@ -259,13 +259,14 @@ pub fn supply_line(writer: &mut Writer) {
     some_calls(writer, 1);
 }
 
-/// P.A.L. losses with special infantry, phasing or not.
+/// P.A.L. losses with special infantry; P.A.L. is phasing or not, or a force neutral to it is.
 pub fn special_losses(writer: &mut Writer) {
     let chance = &mut writer.chance;
     let (size, units) = ((chance.byte(2, 4), chance.byte(2, 4)), chance.from_to(1, 8));
     let mut position = scene(chance, size, units);
     enter_special_losses(chance, &mut position);
-    position.desk.force = chance.pick(&[2, 2, 2, 0, 1, 3]);
+    let neutral = neutral_of(chance, &position.desk, 2).filter(|_| chance.percent(60));
+    position.desk.force = neutral.unwrap_or(chance.pick(&[2, 2, 2, 0, 1, 3]));
     writer.set_position(&written(&position));
     let count = writer.chance.from_to(3, 6);
     some_calls(writer, count);
@@ -307,7 +308,11 @@ pub fn phases(writer: &mut Writer) {
 
 /// A position broken in one line; the lines are taken in turn.
 pub fn broken(writer: &mut Writer, turn: usize) {
-    let line = turn % break_names().len();
+    broken_in(writer, turn % break_names().len());
+}
+
+/// A position broken in the line of this number.
+fn broken_in(writer: &mut Writer, line: usize) {
     for _ in 0..80 {
         let position = any_position(&mut writer.chance);
         if let Some(bytes) = broken_bytes(&mut writer.chance, &position, line) {
@@ -317,14 +322,11 @@ pub fn broken(writer: &mut Writer, turn: usize) {
     }
 }
 
-/// A desk broken in its length or its players.
-pub fn broken_desk(writer: &mut Writer) {
-    let position = any_position(&mut writer.chance);
-    let name = writer.chance.pick(&DESK_LINES);
-    let line = break_names().iter().position(|one| *one == name);
-    if let Some(bytes) = line.and_then(|line| broken_bytes(&mut writer.chance, &position, line)) {
-        writer.set_position(&bytes);
-        any_calls(writer, 1);
+/// A position broken in its desk's length, in its players or by neutrals.
+pub fn broken_players(writer: &mut Writer) {
+    let name = PLAYER_LINES[writer.chance.weighted(&[4, 4, 2, 3, 2, 1, 1])];
+    if let Some(line) = break_names().iter().position(|one| *one == name) {
+        broken_in(writer, line);
     }
 }
 

@@ -1,8 +1,10 @@
 //! The record as it is being written, played along so that orders can be chosen by what they would bring.
 
 use super::chance::Chance;
+use super::neutrals::shared_players;
 use super::orders;
 use crate::acceptance::accepted;
+use crate::contents::written;
 use crate::order::{Answer, Call, Order};
 use crate::player_cases::{if_away, if_enemy, Ruled};
 use crate::position::*;
@@ -11,10 +13,15 @@ use crate::retreat_cases::cases_of;
 use crate::table::{Reply, Table};
 use crate::tally::Tally;
 
+/// No story has more calls on one position.
+const LONGEST_STORY: u64 = 60;
+
 pub struct Writer {
     pub chance: Chance,
     table: Table,
     tally: Tally,
+    /// How many calls stood on positions with shared players.
+    shared_calls: u64,
     text: Vec<u8>,
 }
 
@@ -33,7 +40,8 @@ pub enum Aim {
 
 impl Writer {
     pub fn new(seed: u64, calls: &[Call]) -> Writer {
-        Writer { chance: Chance::new(seed), table: Table::new(calls), tally: Tally::default(), text: Vec::new() }
+        let (chance, table) = (Chance::new(seed), Table::new(calls));
+        Writer { chance, table, tally: Tally::default(), shared_calls: 0, text: Vec::new() }
     }
 
     /// How many call lines have been written.
@@ -61,13 +69,15 @@ impl Writer {
         let reply = self.table.play(line);
         if let Reply::Answered(call, answer) = &reply {
             self.tally.count(*call, answer);
+            self.shared_calls += u64::from(self.position().is_some_and(|position| position.desk.shares_players()));
         }
         reply
     }
 
     /// A position line, its digits now and then in upper case.
     pub fn set_position(&mut self, bytes: &[u8]) {
-        let mut digits = hex_digits(bytes);
+        let bytes = self.seated(bytes);
+        let mut digits = hex_digits(&bytes);
         if self.chance.percent(4) {
             digits = digits.to_uppercase();
         }
@@ -77,6 +87,18 @@ impl Writer {
         self.line(format!("position {digits}").as_bytes());
         if self.chance.percent(2) {
             self.line(b"lent");
+        }
+    }
+
+    /// The position; an accepted one gets shared players where fewer than half of the calls might else stand on such.
+    fn seated(&mut self, bytes: &[u8]) -> Vec<u8> {
+        let enough = 2 * self.shared_calls >= self.calls() + LONGEST_STORY;
+        match accepted(bytes) {
+            Ok(mut position) if !enough && !position.desk.shares_players() => {
+                position.desk.players = Some(shared_players(&mut self.chance));
+                written(&position)
+            }
+            _ => bytes.to_vec(),
         }
     }
 
