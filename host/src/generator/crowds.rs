@@ -47,7 +47,7 @@ pub fn crowded_road(chance: &mut Chance) -> Position {
         Wanted::TrappedBySupplyUnits,
         Wanted::Anything,
     ];
-    let wanted = KINDS[chance.weighted(&[15, 20, 22, 10, 10, 10, 10, 5, 12, 6, 10])];
+    let wanted = KINDS[chance.weighted(&[15, 20, 22, 10, 10, 10, 10, 5, 20, 6, 10])];
     let owed = match wanted {
         Wanted::Behind | Wanted::Choice => chance.pick(&[2, 2, 2, 3]),
         Wanted::Back => chance.byte(2, 3),

@@ -42,6 +42,7 @@ pub fn dead_end(chance: &mut Chance) -> Position {
     let (mut position, start) = found;
     if chance.percent(8) {
         only_supply_units_owe(&mut position, start);
+        position.desk.owed_retreat = chance.byte(1, 3);
     }
     position
 }

@@ -4,6 +4,8 @@ pub mod breaks;
 pub mod chance;
 pub mod crowds;
 pub mod dead_ends;
+pub mod neutral_orders;
+pub mod neutral_stories;
 pub mod neutrals;
 pub mod orders;
 pub mod part_route_orders;
@@ -49,9 +51,9 @@ fn story(writer: &mut Writer, turn: &mut usize) {
         12 => stories::special_losses(writer),
         13 => stories::crowded(writer),
         14 => stories::trapped(writer),
-        15 => stories::supply_line(writer),
-        16 => stories::broken_players(writer),
-        17 => stories::in_the_way(writer),
-        _ => stories::roads_held(writer),
+        15 => neutral_stories::supply_line(writer),
+        16 => neutral_stories::broken_players(writer),
+        17 => neutral_stories::in_the_way(writer),
+        _ => neutral_stories::roads_held(writer),
     }
 }

@@ -1,6 +1,7 @@
 //! Orders: plausible ones by looking at the position, and ways to spoil them.
 
 use super::chance::Chance;
+use super::neutral_orders::{neutral_beside, road_to_a_neutral};
 use super::retreat_orders::{nearly_legal_retreat, plausible_retreat};
 use crate::movement::{allowance, is_way, step_cost};
 use crate::order::{Call, Order};
@@ -154,8 +155,10 @@ fn plausible_move(chance: &mut Chance, position: &Position) -> Order {
     let full: Vec<usize> = near.filter(is_full).collect();
     let path = match chance.pick_any(&full) {
         Some(hex) if chance.percent(30) => vec![hex as u16],
-        _ if chance.percent(20) => road_to_a_neutral(chance, position, unit),
-        _ => walk(chance, position, unit),
+        _ => {
+            let road = road_to_a_neutral(chance, position, &position.units[unit]).filter(|_| chance.percent(20));
+            road.unwrap_or_else(|| walk(chance, position, unit))
+        }
     };
     Order::Move { unit: unit as u16, path }
 }
@@ -198,68 +201,13 @@ fn walk(chance: &mut Chance, position: &Position, unit: usize) -> Vec<u16> {
 /// A move into a neutral, if one can be reached.
 pub fn into_a_neutral(chance: &mut Chance, position: &Position) -> Order {
     match chance.pick_any(&movers(position)) {
-        Some(unit) => Order::Move { unit: unit as u16, path: road_to_a_neutral(chance, position, unit) },
+        Some(unit) => {
+            let road = road_to_a_neutral(chance, position, &position.units[unit]);
+            let path = road.unwrap_or_else(|| walk(chance, position, unit));
+            Order::Move { unit: unit as u16, path }
+        }
         None => random(chance, position, Call::Move),
     }
-}
-
-/// A road to a neutral, and now and then a step on; a walk where none can be reached.
-fn road_to_a_neutral(chance: &mut Chance, position: &Position, unit: usize) -> Vec<u16> {
-    let mover = &position.units[unit];
-    let roads = roads_to_neutrals(chance, position, mover);
-    let road = &roads[chance.below(roads.len())..];
-    match road.first() {
-        Some(road) => {
-            let here = *road.last().unwrap_or(&usize::from(mover.hex));
-            let road = road.iter().map(|&hex| hex as u16);
-            road.chain(neutral_beside(chance, position, here, mover.force())).take(30).collect()
-        }
-        None => walk(chance, position, unit),
-    }
-}
-
-/// Roads to hexes beside a neutral, each the shortest that keeps out of zones, after a few steps by chance.
-fn roads_to_neutrals(chance: &mut Chance, position: &Position, mover: &Unit) -> Vec<Vec<usize>> {
-    let zones = enemy_zones(position, mover.force());
-    let taken = |hex: usize| position.enemy_on(hex, mover.force()) || position.neutral_on(hex, mover.force());
-    let ways = |hex: usize| {
-        let near = position.grid().neighbours(hex).into_iter().flatten();
-        near.filter(|&next| is_way(position, hex, next) && !zones[next] && !taken(next)).collect::<Vec<usize>>()
-    };
-    let mut here = usize::from(mover.hex);
-    let mut first = Vec::new();
-    for _ in 0..chance.below(4) {
-        let Some(next) = chance.pick_any(&ways(here)) else { break };
-        first.push(next);
-        here = next;
-    }
-    let mut reached = vec![here];
-    let mut roads = vec![first];
-    let mut at = 0;
-    while at < reached.len() {
-        for next in ways(reached[at]) {
-            if !reached.contains(&next) {
-                reached.push(next);
-                roads.push([roads[at].as_slice(), &[next]].concat());
-            }
-        }
-        at += 1;
-    }
-    let beside = |hex: usize| position.grid().neighbours(hex).into_iter().flatten();
-    let is_beside = |hex: usize| beside(hex).any(|near| position.neutral_on(near, mover.force()));
-    reached.into_iter().zip(roads).filter(|(hex, _)| is_beside(*hex)).map(|(_, road)| road).collect()
-}
-
-/// A step into a neutral beside the hex, if there is one, and now and then a step on, into an Enemy if one is there. A
-/// few times the neutral is anywhere.
-fn neutral_beside(chance: &mut Chance, position: &Position, here: usize, force: u8) -> Vec<u16> {
-    let near = |hex: usize| position.grid().neighbours(hex).into_iter().flatten().collect::<Vec<usize>>();
-    let hexes = if chance.percent(8) { (0..position.map.hexes.len()).collect() } else { near(here) };
-    let neutrals: Vec<usize> = hexes.into_iter().filter(|&hex| position.neutral_on(hex, force)).collect();
-    let Some(neutral) = chance.pick_any(&neutrals) else { return Vec::new() };
-    let enemies: Vec<usize> = near(neutral).into_iter().filter(|&hex| position.enemy_on(hex, force)).collect();
-    let beyond = chance.pick_any(&enemies).or(chance.pick_any(&near(neutral))).filter(|_| chance.percent(40));
-    [neutral].into_iter().chain(beyond).map(|hex| hex as u16).collect()
 }
 
 /// The phasing units that could attack a hex.

@@ -1,10 +1,10 @@
 //! Stories: a position and several calls on it.
 
-use super::breaks::{break_names, broken_bytes, changed_byte, PLAYER_LINES};
+use super::breaks::{break_names, broken_bytes, changed_byte};
 use super::chance::Chance;
 use super::crowds::{add, crowded_road};
 use super::dead_ends::dead_end;
-use super::neutrals::{self, add_neutrals, hold_routes, neutral_of};
+use super::neutrals::{add_neutrals, hold_routes, neutral_of};
 use super::orders::{self, targets};
 use super::scene::{add_unit, empty_scene, few_units, large_size, scene, small_size};
 use super::staged::{add_battle, add_rivers, enter_special_losses, enter_stage};
@@ -12,7 +12,6 @@ use super::writer::{Aim, Writer};
 use crate::contents::written;
 use crate::order::{Answer, Call};
 use crate::position::*;
-use crate::unit_type::SUPPLY_UNIT;
 
 /// A small position of any kind: any phase, any stage.
 pub fn any_position(chance: &mut Chance) -> Position {
@@ -30,7 +29,7 @@ pub fn any_position(chance: &mut Chance) -> Position {
 }
 
 /// Some calls, most of them fit for the stage, most of them aimed at rare answers.
-fn some_calls(writer: &mut Writer, count: usize) {
+pub fn some_calls(writer: &mut Writer, count: usize) {
     for _ in 0..count {
         let call = writer.likely_call();
         let aim = [Aim::Rare, Aim::Accepted, Aim::Any, Aim::Neutral][writer.chance.weighted(&[40, 25, 10, 25])];
@@ -76,7 +75,7 @@ fn fill_beside_a_mover(chance: &mut Chance, position: &mut Position) {
 }
 
 /// The phasing force is one that has units on the map, if any has.
-fn make_someone_phasing(chance: &mut Chance, position: &mut Position) {
+pub fn make_someone_phasing(chance: &mut Chance, position: &mut Position) {
     let forces: Vec<u8> = position.units.iter().filter(|unit| unit.on_map()).map(|unit| unit.force()).collect();
     position.desk.force = chance.pick_any(&forces).unwrap_or(position.desk.force);
 }
@@ -199,64 +198,8 @@ fn nearly_legal(writer: &mut Writer) {
     }
 }
 
-fn is_in_stage(writer: &Writer, stage: u8) -> bool {
+pub fn is_in_stage(writer: &Writer, stage: u8) -> bool {
     writer.position().is_some_and(|position| position.desk.stage == stage)
-}
-
-/// Movers with a long way to go, and neutrals in it.
-pub fn in_the_way(writer: &mut Writer) {
-    let chance = &mut writer.chance;
-    let size = (chance.byte(4, 8), chance.byte(3, 8));
-    let units = chance.from_to(3, 9);
-    let mut position = scene(chance, size, units);
-    position.desk.phase = LAND_MOVEMENT;
-    make_someone_phasing(chance, &mut position);
-    add_neutrals(chance, &mut position);
-    for unit in position.units.iter_mut().filter(|unit| unit.kind != SUPPLY_UNIT) {
-        unit.allowance = chance.byte(6, 30);
-        unit.marks &= !MOVED;
-    }
-    writer.set_position(&written(&position));
-    for _ in 0..writer.chance.from_to(2, 5) {
-        match writer.position().filter(|_| writer.exists(Call::Move)) {
-            Some(position) if writer.chance.percent(60) => {
-                let order = orders::into_a_neutral(&mut writer.chance, &position);
-                writer.call(&order);
-            }
-            Some(_) => drop(writer.order(Call::Move, Aim::Neutral)),
-            None => some_calls(writer, 1),
-        }
-    }
-}
-
-/// Victors with routes before them that neutrals hold.
-pub fn roads_held(writer: &mut Writer) {
-    let chance = &mut writer.chance;
-    let size = (chance.byte(3, 6), chance.byte(3, 6));
-    let units = chance.from_to(3, 8);
-    let mut position = scene(chance, size, units);
-    enter_stage(chance, &mut position, ADVANCES);
-    hold_routes(chance, &mut position);
-    writer.set_position(&written(&position));
-    for _ in 0..writer.chance.from_to(2, 4) {
-        if writer.exists(Call::Advance) && is_in_stage(writer, ADVANCES) {
-            writer.order(Call::Advance, Aim::Neutral);
-        }
-    }
-    some_calls(writer, 1);
-}
-
-/// A supply line with neutrals about it: supply, and what hangs on it.
-pub fn supply_line(writer: &mut Writer) {
-    let position = neutrals::supply_line(&mut writer.chance);
-    writer.set_position(&written(&position));
-    for _ in 0..writer.chance.from_to(1, 4) {
-        let call = writer.chance.pick(&[Call::Supply, Call::Supply, Call::Attack, Call::Attack, Call::End, Call::End]);
-        if writer.exists(call) {
-            writer.order(call, Aim::Neutral);
-        }
-    }
-    some_calls(writer, 1);
 }
 
 /// P.A.L. losses with special infantry; P.A.L. is phasing or not, or a force neutral to it is.
@@ -312,21 +255,13 @@ pub fn broken(writer: &mut Writer, turn: usize) {
 }
 
 /// A position broken in the line of this number.
-fn broken_in(writer: &mut Writer, line: usize) {
+pub fn broken_in(writer: &mut Writer, line: usize) {
     for _ in 0..80 {
         let position = any_position(&mut writer.chance);
         if let Some(bytes) = broken_bytes(&mut writer.chance, &position, line) {
             writer.set_position(&bytes);
             return any_calls(writer, 1);
         }
-    }
-}
-
-/// A position broken in its desk's length, in its players or by neutrals.
-pub fn broken_players(writer: &mut Writer) {
-    let name = PLAYER_LINES[writer.chance.weighted(&[4, 4, 2, 3, 2, 1, 1])];
-    if let Some(line) = break_names().iter().position(|one| *one == name) {
-        broken_in(writer, line);
     }
 }
 
