@@ -31,7 +31,7 @@ pub fn record(seed: u64, count: u64, calls: &[Call]) -> Vec<u8> {
 
 /// One story, chosen by weight; `turn` numbers the broken positions.
 fn story(writer: &mut Writer, turn: &mut usize) {
-    match writer.chance.weighted(&[130, 230, 250, 140, 12, 15, 420, 150, 12, 6, 6, 1, 60, 400, 180, 140, 100, 220, 70])
+    match writer.chance.weighted(&[130, 230, 250, 140, 12, 15, 420, 150, 12, 6, 6, 1, 80, 400, 180, 140, 110, 220, 70])
     {
         0 => stories::soup(writer),
         1 => stories::movement(writer),

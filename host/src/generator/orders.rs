@@ -258,8 +258,11 @@ fn plausible_losses(chance: &mut Chance, position: &Position) -> Order {
         return random(chance, position, Call::Losses);
     }
     chance.shuffle(&mut owing);
-    if chance.percent(40) {
-        owing.sort_by_key(|&unit| position.units[unit].kind != unit_type::SPECIAL_INFANTRY);
+    let is_special = |unit: &usize| position.units[*unit].kind == unit_type::SPECIAL_INFANTRY;
+    match chance.below(5) {
+        0 | 1 => owing.sort_by_key(|unit| !is_special(unit)),
+        2 => owing.sort_by_key(is_special),
+        _ => (),
     }
     let mut total = 0;
     let mut enough = 0;
