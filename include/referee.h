@@ -1,7 +1,11 @@
 /* The referee of Invasion: America as a C library: link libreferee.a, made by `rt staticlib referee`.
  *
- * A position is the bytes that the rules lay out. Nothing is set up and nothing is kept between calls. Every call takes anything:
- * any bytes, any length, a null pointer with length 0. Lent regions must not overlap. No call uses more than 2,048 bytes of stack.
+ * A position is the bytes that the rules lay out. Its desk has 56 bytes, or 60 if it names the player of each force in the last four:
+ * bytes 56 to 59 are the players of force 0, 1, 2 and 3, each 0 to 3, and force 3's is no other's. On a desk of 56 bytes each force has
+ * its own player. Forces of two players are Enemy, two forces of one player are neutral to each other.
+ *
+ * Nothing is set up and nothing is kept between calls. Every call takes anything: any bytes, any length, a null pointer with length 0.
+ * Lent regions must not overlap. No call uses more than 2,048 bytes of stack.
  *
  * The answer's low byte is the refusal's number, 0 if the call is accepted. Of a refusal bits 8 to 23 are the place in the list or
  * path, counted from 1, and 0 if there is none. Of an accepted attack bits 8 to 15 are the column, counted from 1, and bits 16 to 23
@@ -28,8 +32,8 @@ uint64_t ia_supply(const uint8_t *pos, size_t pos_len, uint32_t nationality, uin
 /* A unit goes along a path of 1 to 30 hexes. Accepted: its hex and its moved mark change, nothing else.
  * Refusals in order: 1; 3 the path's length; 3 no such unit; 3 at the first number that is no hex, with its place; 2 wrong stage
  * or phase; 4 destroyed or not of the phasing force; 5 its type or its moved mark; then at each step with its place 9 the step
- * leaves an Enemy zone that the path entered, 7 no such step, 8 Enemy there, 10 over allowance; last 11 three others where the
- * path ends, with the last place. */
+ * leaves an Enemy zone that the path entered, 7 no such step, 8 Enemy there, 18 a neutral force there, 10 over allowance; last 11
+ * three others where the path ends, with the last place. */
 uint64_t ia_move(uint8_t *pos, size_t pos_len, uint32_t unit, const uint16_t *path, size_t path_len);
 
 /* The phase ends: moved and fought are cleared on all units, the clock moves on, and on entering phase 0 or 2 the mapped units of
@@ -68,7 +72,8 @@ uint64_t ia_retreat(uint8_t *pos, size_t pos_len, uint32_t hex, const uint16_t *
  * special infantry of the phasing force is passed over. */
 uint64_t ia_losses(uint8_t *pos, size_t pos_len, const uint16_t *units, size_t units_len);
 
-/* In stage 3 a unit that may advance goes to a hex of a route that starts beside it, with no Enemy from its start to that hex.
+/* In stage 3 a unit that may advance goes to a hex of a route that starts beside it, with no Enemy and no neutral force
+ * from its start to that hex.
  * Refusals in order: 1; 3 no such unit; 3 no such hex; 2 wrong stage; 4 it may not advance; 5 a supply unit; 7 no route; 11 three
  * others there. */
 uint64_t ia_advance(uint8_t *pos, size_t pos_len, uint32_t unit, uint32_t hex);

@@ -1,4 +1,4 @@
-//! The sample game: the story that the proved program tells, held against this referee's answers.
+//! The sample games: the story that the proved program tells, held against this referee's answers.
 
 use host::record::{read, Line};
 use host::table::Table;
@@ -23,14 +23,19 @@ fn tells(told: &str, answer: &str) -> bool {
     told.strip_prefix(answer).is_some_and(|words| words.is_empty() || words.starts_with("  "))
 }
 
+/// The samples, one after the other.
+fn samples() -> String {
+    text("examples/game.record") + &text("examples/two_players.record")
+}
+
 #[test]
-fn the_sample_game_is_what_first_game_plays() {
-    assert_eq!(text("examples/game.record"), text("crates/first_game/stdin"));
+fn the_samples_are_what_first_game_plays() {
+    assert_eq!(samples(), text("crates/first_game/stdin"));
 }
 
 #[test]
 fn every_answer_of_the_story_is_this_referees() {
-    let (record, story) = (text("examples/game.record"), text("crates/first_game/stdout"));
+    let (record, story) = (samples(), text("crates/first_game/stdout"));
     let mut told = story.lines();
     let mut table = Table::with_all_calls();
     let mut compared = 0;
@@ -46,5 +51,5 @@ fn every_answer_of_the_story_is_this_referees() {
             compared += 1;
         }
     }
-    assert!(compared > 50);
+    assert!(compared > 60);
 }

@@ -1,4 +1,4 @@
-// Plays the sample game of examples/.
+// Plays the samples of examples/, one after the other.
 fn main() {
     record::play();
 }

@@ -1,4 +1,4 @@
-// The desk in words: turn, force, phase and stage, the routes that are written, and the odds of a column.
+// The desk in words: turn, force, phase and stage, the players, the routes that are written, and the odds of a column.
 ghost use Rattle.position.specs.Board.{board};
 ghost use Rattle.position.specs.Laid.{Laid};
 ghost use Rattle.story.specs.Look.{DeskOf, OddsOf};
@@ -135,6 +135,27 @@ fn routes(out: &mut Output, full: usize, p: &[u8], v: View) -> usize
     f
 }
 
+// The player of force `f`, with its name.
+fn seat(out: &mut Output, full: usize, before: &[u8], f: usize, player: usize) -> usize {
+    let h = page::text(out, full, before);
+    let k = names::force(out, h, f);
+    page::word(out, k, b" ", player)
+}
+
+// The player of each force, if the desk names them.
+fn players(out: &mut Output, full: usize, p: &[u8], v: View) -> usize
+    requires { ⌜ Laid (now p) v ⌝ }
+{
+    if v.named == 0 {
+        return full;
+    }
+    let f = seat(out, full, b"players: ", 0, read::player(p, v, 0));
+    let h = seat(out, f, b", ", 1, read::player(p, v, 1));
+    let k = seat(out, h, b", ", 2, read::player(p, v, 2));
+    let m = seat(out, k, b", ", 3, read::player(p, v, 3));
+    page::line(out, m)
+}
+
 pub fn lines(out: &mut Output, full: usize, p: &[u8], v: View) -> usize
     requires { ⌜ Laid (now p) v ⌝ }
 {
@@ -142,5 +163,6 @@ pub fn lines(out: &mut Output, full: usize, p: &[u8], v: View) -> usize
     let f = time(out, full, d);
     let h = stage(out, f, d);
     let k = page::line(out, h);
-    routes(out, k, p, v)
+    let m = players(out, k, p, v);
+    routes(out, m, p, v)
 }

@@ -162,6 +162,7 @@ fn plain(out: &mut Output, full: usize, n: usize) -> usize {
             full,
             b"only pushes serve, and route or pushes are not legal",
         ),
+        18 => page::text(out, full, b"meets a neutral force"),
         _ => page::text(out, full, b"it is the last phase of the last turn"),
     }
 }
