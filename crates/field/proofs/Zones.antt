@@ -2,7 +2,7 @@
 -- Assumes nothing.
 use Prim.Native.Nat.{ℕ, _+_, _≤_, _<_}
 use mathlib.Core.Path.{_≡_, refl, sym, ap, _∙_}
-use mathlib.Core.Bool.{Bool, true, false, not, _&&_}
+use mathlib.Core.Bool.{Bool, true, false, not, _&&_, and-false}
 use native.Mathlib.Omega.{arith}
 use lib.Dec.{ltb, eqb}
 use borrow.Author.Tests.{ltb-true, lt-ltb, eq-eqb, ne-eqb, eqb-true, eqb-false, not-true, not-false}
@@ -13,7 +13,7 @@ use Rattle.position.specs.Board.{Board, forceOf, enemy, neutral, relates}
 use Rattle.position.specs.declared.forces.Relation.{Relation}
 use Rattle.position.specs.declared.forces.Relation.the-variants.{Enemy, Neutral}
 use Rattle.position.specs.Ground.{beside, side}
-use Rattle.position.proofs.Tallies.{both-yes, not-both, either, any-zero, any-miss, any-some, any-true, any-false}
+use Rattle.position.proofs.Tallies.{both-yes, not-both, either, any-zero, any-miss, any-some, any-true, any-false, any-never}
 use Rattle.field.specs.Scene.{Scene, scene, forceIn}
 use Rattle.field.specs.Zone.{
   standsOn,
@@ -185,6 +185,11 @@ module _ (s : Scene) (f h : ℕ) where
   from-zone z =
       let e = enemy-casts s f h (z .force) (z .against) ∙ from-casts s (z .force) h (z .from) in
       any-true (enemyCasts s f h) 4 (z .force) (z .among) e
+
+-- where no force is neutral no hex holds one
+pub holds-no-neutral : (s : Scene) (f h : ℕ) → ((g : ℕ) → s .neutral f g ≡ false) → holdsNeutral s f h ≡ false
+unfolding holdsNeutral neutralOn
+holds-no-neutral s f h e = any-never (neutralOn s f h) (s .count) (λ u l. simp (e (forceIn s u), and-false))
 
 -- no force is Enemy to itself
 pub enemy-other : (b : Board) (f g : ℕ) → enemy b f g ≡ true → g ≡ f → ⊥

@@ -44,10 +44,13 @@ pub fn holds_enemy(p: &[u8], v: View, f: usize, h: usize) -> bool
     holds_related(p, v, Relation::Enemy, f, h)
 }
 
-// Whether it holds a force that is neutral to force `f`.
+// Whether it holds a force that is neutral to force `f`. None is where the desk names no players, and nobody has to be looked at.
 pub fn holds_neutral(p: &[u8], v: View, f: usize, h: usize) -> bool
     requires { ⌜ Laid (now p) v ⌝ }
     ensures { λ r. ⌜ r ≡ holdsNeutral (scene (board (now (p .entry)))) f h ⌝ }
 {
+    if v.named == 0 {
+        return false;
+    }
     holds_related(p, v, Relation::Neutral, f, h)
 }

@@ -75,15 +75,24 @@ spelled (suc (suc zero)) l = refl
 spelled (suc (suc (suc zero))) l = refl
 spelled (suc (suc (suc (suc f)))) l = absurd (omega arith)
 
+-- A desk that names no players has four: every other force is Enemy, and none is neutral.
+module _ (p : List ℕ) (none : named p ≡ 0) where
+  own-player : (f : ℕ) → player p f ≡ f
+  own-player f = player-out p f (omega (arith, none))
+
+  pub none-neutral : (f g : ℕ) → neutral (board p) f g ≡ false
+  unfolding neutral
+  none-neutral f g = ap₂ (λ (x y : ℕ). not (eqb f g) && eqb x y) (own-player f) (own-player g) ∙ not-and (eqb f g)
+    where
+      not-and : (t : Bool) → (not t && t) ≡ false
+      not-and true = refl
+      not-and false = refl
+
 -- what the desk's length says
 module _ (p : List ℕ) (short : extent p 4 ≡ 56) where
   none-named : named p ≡ 0
   unfolding named
   none-named = simp (ne-eqb (extent p 4) 60 (λ e. omega arith))
-
-  -- "read with four players"
-  old-player : (f : ℕ) → player p f ≡ f
-  old-player f = player-out p f (omega (arith, none-named))
 
   long-said : 20 ≤ length p → extent (withPlayers p) 4 ≡ 60
   unfolding extent word
@@ -178,7 +187,7 @@ module _ {p : List ℕ} (o : Old p) where
         results = results-same bodies i;
         map = ground-same bodies i;
         units = units-from p q (count-same bodies) unit-byte i;
-        desk = desk-from p q desk-byte (λ f. player-with f ∙ sym (old-player p (o .short) f)) i;
+        desk = desk-from p q desk-byte (λ f. player-with f ∙ sym (own-player p (none-named p (o .short)) f)) i;
       }
 
   -- and a byte written to one is written to the other
@@ -251,16 +260,11 @@ pub turned-with : {p q : List ℕ} → Lengthened p q → (u : ℕ) → Lengthen
 unfolding turned setMarks
 turned-with {p} {q} s u = rw (twin-players .shows s u) (written s u 6 (with tried (marks p u)) (omega arith))
 
--- on a desk of the old length every other force is Enemy, and none is neutral
+-- who is Enemy and who neutral on a desk of the old length
 module _ (p : List ℕ) (short : extent p 4 ≡ 56) (f g : ℕ) where
   pub old-enemy : enemy (board p) f g ≡ not (eqb f g)
   unfolding enemy
-  old-enemy = ap₂ (λ (x y : ℕ). not (eqb x y)) (old-player p short f) (old-player p short g)
+  old-enemy = let own = own-player p (none-named p short) in ap₂ (λ (x y : ℕ). not (eqb x y)) (own f) (own g)
 
   pub old-neutral : neutral (board p) f g ≡ false
-  unfolding neutral
-  old-neutral = ap₂ (λ (x y : ℕ). not (eqb f g) && eqb x y) (old-player p short f) (old-player p short g) ∙ not-and (eqb f g)
-    where
-      not-and : (t : Bool) → (not t && t) ≡ false
-      not-and true = refl
-      not-and false = refl
+  old-neutral = none-neutral p (none-named p short) f g
