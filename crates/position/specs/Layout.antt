@@ -234,7 +234,7 @@ unfoldable pub clearRoutes : List ℕ → ℕ → List ℕ
 clearRoutes p zero = p
 clearRoutes p (suc n) = setRoute (clearRoutes p n) n 65535 65535 65535 65535
 
--- the view v is the position's: its counts, and where its units and its desk begin
+-- the view v is the position's: its counts, where its units and its desk begin, and how many players it names
 pub record ViewOf (p : List ℕ) (v : View) : Type 0 where
   pub width : v .width ≡ width p
   pub height : v .height ≡ height p
