@@ -7,14 +7,34 @@ use mathlib.Core.List.{List}
 use mathlib.Core.Bool.{Bool, true, false, cond}
 use native.Mathlib.Omega.{arith}
 use native.Mathlib.Decide.{decLt}
-use lib.ListN.{length}
 use lib.Dec.{ltb}
 use borrow.Author.Tests.{ltb-true}
 use Rattle.position.specs.Layout.{
   byte,
   word,
-  offset,
-  extent,
+  deskBody,
+  extentAt,
+  chartAt,
+  terrainSize,
+  chartRows,
+  costField,
+  multipleField,
+  resultsAt,
+  resultsHead,
+  columnSize,
+  attackField,
+  defenceField,
+  codesField,
+  mapHead,
+  widthField,
+  heightField,
+  hexSize,
+  terrainField,
+  surfaceField,
+  flagsField,
+  countryField,
+  sidesField,
+  unitsHead,
   columns,
   mapAt,
   width,
@@ -22,68 +42,56 @@ use Rattle.position.specs.Layout.{
   hexes,
   unitsAt,
   count,
-  deskLength,
-  deskAt,
-  unitAt,
   cell,
+  chartByte,
   columnByte,
   code,
   hexByte,
 }
 use Rattle.position.specs.Board.{Chart, Results, Map, chart, results, ground}
-use Rattle.position.specs.Shape.{Entry, Shaped}
 use Rattle.position.proofs.Cells.{inside, cell-in, cell-out}
+use Rattle.position.proofs.Counts.{Counts, word-of, hexes-same}
 
 pub record Bodies (p q : List ℕ) : Type 0 where
-  pub contents : (i : ℕ) → i < 18 → byte q i ≡ byte p i
-  pub same : (i : ℕ) → 20 ≤ i → i < unitsAt p + 2 → byte q i ≡ byte p i
+  pub contents : (i : ℕ) → i < extentAt deskBody → byte q i ≡ byte p i
+  pub same : (i : ℕ) → chartAt ≤ i → i < unitsAt p + unitsHead → byte q i ≡ byte p i
 
 module _ {p q : List ℕ} (f : Bodies p q) where
-  pub columns-same : columns q ≡ columns p
+  columns-same : columns q ≡ columns p
   unfolding columns unitsAt mapAt
-  columns-same = f .same 56 (omega arith) (omega arith)
+  columns-same = f .same resultsAt (omega arith) (omega arith)
 
-  pub mapAt-same : mapAt q ≡ mapAt p
+  map-starts : mapAt q ≡ mapAt p
   unfolding mapAt
-  mapAt-same = omega (arith, columns-same)
+  map-starts = omega (arith, columns-same)
 
-  pub width-same : width q ≡ width p
+  width-same : width q ≡ width p
   unfolding width unitsAt mapAt
-  width-same = ap (byte q) mapAt-same ∙ f .same (mapAt p) (omega arith) (omega arith)
+  width-same = ap (λ (i : ℕ). byte q (i + widthField)) map-starts ∙ f .same (mapAt p + widthField) (omega arith) (omega arith)
 
-  pub height-same : height q ≡ height p
+  height-same : height q ≡ height p
   unfolding height unitsAt mapAt
-  height-same = ap (λ (i : ℕ). byte q (i + 1)) mapAt-same ∙ f .same (mapAt p + 1) (omega arith) (omega arith)
+  height-same = ap (λ (i : ℕ). byte q (i + heightField)) map-starts ∙ f .same (mapAt p + heightField) (omega arith) (omega arith)
 
-  pub hexes-same : hexes q ≡ hexes p
-  unfolding hexes
-  hexes-same = ap₂ _*_ width-same height-same
+  units-start : unitsAt q ≡ unitsAt p
+  unfolding unitsAt hexes
+  units-start = ap₂ (λ (i n : ℕ). i + mapHead + hexSize * n) map-starts (ap₂ _*_ width-same height-same)
 
-  pub unitsAt-same : unitsAt q ≡ unitsAt p
-  unfolding unitsAt
-  unitsAt-same = omega (arith, mapAt-same, hexes-same)
-
-  word-of : (i : ℕ) → byte q i ≡ byte p i → byte q (i + 1) ≡ byte p (i + 1) → word q i ≡ word p i
-  unfolding word
-  word-of i d e = ap₂ (λ (a b : ℕ). a + 256 * b) d e
-
-  pub count-same : count q ≡ count p
+  pub bodies-counts : Counts p q
   unfolding count unitsAt mapAt
-  count-same =
-      ap (word q) unitsAt-same
-      ∙ word-of (unitsAt p) (f .same (unitsAt p) (omega arith) (omega arith)) (f .same (unitsAt p + 1) (omega arith) (omega arith))
-
-  pub deskAt-same : deskAt q ≡ deskAt p
-  unfolding deskAt
-  deskAt-same = omega (arith, unitsAt-same, count-same)
-
-  pub unitAt-same : (u : ℕ) → unitAt q u ≡ unitAt p u
-  unfolding unitAt
-  unitAt-same u = omega (arith, unitsAt-same)
+  bodies-counts =
+      record {
+        columns = columns-same;
+        width = width-same;
+        height = height-same;
+        count =
+            ap (word q) units-start
+            ∙ word-of p q (unitsAt p) (f .same (unitsAt p) (omega arith) (omega arith)) (f .same (unitsAt p + 1) (omega arith) (omega arith));
+      }
 
   -- the cells of a table that ends before the units' records
   cell-same :
-      (start size n : ℕ) → 20 ≤ start → start + size * n ≤ unitsAt p + 2 → (g : ℕ) → g < size
+      (start size n : ℕ) → chartAt ≤ start → start + size * n ≤ unitsAt p + unitsHead → (g : ℕ) → g < size
       → (k : ℕ) → cell q start size n k g ≡ cell p start size n k g
   cell-same start size n b l g m k = at (decLt k n)
     where
@@ -94,26 +102,30 @@ module _ {p q : List ℕ} (f : Bodies p q) where
           ∙ sym (cell-in p start size n k g h)
       at (no h) = cell-out q start size n k g (omega arith) ∙ sym (cell-out p start size n k g (omega arith))
 
-  pub chart-same : chart q ≡ chart p
+  chartByte-same : (g : ℕ) → g < terrainSize → (t : ℕ) → chartByte q t g ≡ chartByte p t g
   unfolding unitsAt mapAt
+  chartByte-same g l t = cell-same chartAt terrainSize chartRows (omega arith) (omega arith) g l t
+
+  pub chart-same : chart q ≡ chart p
   chart-same =
       λ i.
       record {
-        cost = fun-ext (cell-same 20 2 18 (omega arith) (omega arith) 0 (omega arith)) i;
-        multiple = fun-ext (cell-same 20 2 18 (omega arith) (omega arith) 1 (omega arith)) i;
+        cost = fun-ext (chartByte-same costField (omega arith)) i;
+        multiple = fun-ext (chartByte-same multipleField (omega arith)) i;
       }
 
-  columnByte-same : (g : ℕ) → g < 8 → (c : ℕ) → columnByte q c g ≡ columnByte p c g
+  columnByte-same : (g : ℕ) → g < columnSize → (c : ℕ) → columnByte q c g ≡ columnByte p c g
   unfolding columnByte unitsAt mapAt
   columnByte-same g l c =
-      ap (λ (n : ℕ). cell q 57 8 n c g) columns-same ∙ cell-same 57 8 (columns p) (omega arith) (omega arith) g l c
+      ap (λ (n : ℕ). cell q (resultsAt + resultsHead) columnSize n c g) columns-same
+      ∙ cell-same (resultsAt + resultsHead) columnSize (columns p) (omega arith) (omega arith) g l c
 
   code-same : (c die : ℕ) → code q c die ≡ code p c die
   unfolding code
   code-same c die = ap (λ x. cond (ltb 0 die) x 0) (at (ltb die 7) refl)
     where
-      at : (t : Bool) → ltb die 7 ≡ t → cond t (columnByte q c (die + 1)) 0 ≡ cond t (columnByte p c (die + 1)) 0
-      at true e = let l = ltb-true die 7 e in columnByte-same (die + 1) (omega arith) c
+      at : (t : Bool) → ltb die 7 ≡ t → cond t (columnByte q c (codesField + die)) 0 ≡ cond t (columnByte p c (codesField + die)) 0
+      at true e = let l = ltb-true die 7 e in columnByte-same (codesField + die) (omega arith) c
       at false e = refl
 
   pub results-same : results q ≡ results p
@@ -121,15 +133,16 @@ module _ {p q : List ℕ} (f : Bodies p q) where
       λ i.
       record {
         columns = columns-same i;
-        attack = fun-ext (columnByte-same 0 (omega arith)) i;
-        defence = fun-ext (columnByte-same 1 (omega arith)) i;
+        attack = fun-ext (columnByte-same attackField (omega arith)) i;
+        defence = fun-ext (columnByte-same defenceField (omega arith)) i;
         code = fun-ext (λ c. fun-ext (code-same c)) i;
       }
 
-  hexByte-same : (g : ℕ) → g < 5 → (h : ℕ) → hexByte q h g ≡ hexByte p h g
+  hexByte-same : (g : ℕ) → g < hexSize → (h : ℕ) → hexByte q h g ≡ hexByte p h g
   unfolding hexByte unitsAt mapAt
   hexByte-same g l h =
-      ap₂ (λ (a n : ℕ). cell q (a + 2) 5 n h g) mapAt-same hexes-same ∙ cell-same (mapAt p + 2) 5 (hexes p) (omega arith) (omega arith) g l h
+      ap₂ (λ (a n : ℕ). cell q (a + mapHead) hexSize n h g) map-starts (hexes-same bodies-counts)
+      ∙ cell-same (mapAt p + mapHead) hexSize (hexes p) (omega arith) (omega arith) g l h
 
   pub ground-same : ground q ≡ ground p
   ground-same =
@@ -137,40 +150,10 @@ module _ {p q : List ℕ} (f : Bodies p q) where
       record {
         width = width-same i;
         height = height-same i;
-        hexes = hexes-same i;
-        terrain = fun-ext (hexByte-same 0 (omega arith)) i;
-        surface = fun-ext (hexByte-same 1 (omega arith)) i;
-        flags = fun-ext (hexByte-same 2 (omega arith)) i;
-        country = fun-ext (hexByte-same 3 (omega arith)) i;
-        sides = fun-ext (hexByte-same 4 (omega arith)) i;
-      }
-
-  entry-same : (k : ℕ) → k < 4 → {at at′ long long′ : ℕ} → at′ ≡ at → long′ ≡ long → Entry p k at long → Entry q k at′ long′
-  unfolding offset extent
-  entry-same k l e g n =
-      let c : (i : ℕ) → i < 17 → word q i ≡ word p i = λ i m. word-of i (f .contents i (omega arith)) (f .contents (i + 1) (omega arith)) in
-      record {
-        offset = c (4 * k) (omega arith) ∙ n .offset ∙ sym e;
-        extent = c (4 * k + 2) (omega arith) ∙ n .extent ∙ sym g;
-      }
-
-  -- the bodies lie as they should, if the desk's length is said and kept
-  pub shaped-same : extent q 4 ≡ deskLength q → length q ≡ deskAt q + deskLength q → Shaped p → Shaped q
-  unfolding offset
-  shaped-same d w s =
-      record {
-        chart = entry-same 0 (omega arith) refl refl (s .chart);
-        results = entry-same 1 (omega arith) refl (omega (arith, columns-same)) (s .results);
-        columns = omega (arith, columns-same, s .columns);
-        map = entry-same 2 (omega arith) mapAt-same (omega (arith, hexes-same)) (s .map);
-        width = omega (arith, width-same, s .width);
-        height = omega (arith, height-same, s .height);
-        units = entry-same 3 (omega arith) unitsAt-same (omega (arith, count-same)) (s .units);
-        count = omega (arith, count-same, s .count);
-        desk =
-            record {
-              offset = word-of 16 (f .contents 16 (omega arith)) (f .contents 17 (omega arith)) ∙ s .desk .offset ∙ sym deskAt-same;
-              extent = d;
-            };
-        whole = w;
+        hexes = hexes-same bodies-counts i;
+        terrain = fun-ext (hexByte-same terrainField (omega arith)) i;
+        surface = fun-ext (hexByte-same surfaceField (omega arith)) i;
+        flags = fun-ext (hexByte-same flagsField (omega arith)) i;
+        country = fun-ext (hexByte-same countryField (omega arith)) i;
+        sides = fun-ext (hexByte-same sidesField (omega arith)) i;
       }

@@ -10,21 +10,21 @@ use lib.Dec.{ltb}
 use borrow.Author.Tests.{lt-ltb, le-ltb}
 use Rattle.position.specs.declared.View.{View}
 use Rattle.position.specs.Bits.{has, with, tried, faced}
-use Rattle.position.specs.Layout.{count, hexes, unitByte, strength, marks, setUnit, setDesk, setHex, setMarks, setRole, setClock, setStage, setRoute, clearRoutes}
+use Rattle.position.specs.Layout.{hexField, strengthField, marksField, roleField, routeCount, count, hexes, unitByte, strength, marks, setUnit, setDesk, setHex, setMarks, setRole, setClock, setStage, setRoute, clearRoutes}
 use Rattle.position.specs.Board.{Board, Units, board, units, desk, nowhere}
 use Rattle.position.specs.Shape.{Shaped}
 use Rattle.position.specs.Laid.{Laid}
 use Rattle.position.specs.Change.{Change, make, makes, turned, source}
 use Rattle.position.specs.Change.Change.{placed, destroyed, marked, assigned, timed, staged, routed, unrouted}
 use Rattle.position.specs.Effect.{withHex, withMarks, withRole, withShown, withUnits, withDesk, change, changes, turnedUp}
-use Rattle.position.proofs.Front.{Front, front-refl, front-trans, shaped-kept, laid-kept, count-kept}
-use Rattle.position.proofs.Writes.{front-unit, unit-unit}
-use Rattle.position.proofs.Effects.{board-units, board-desk, units-role, units-faced, units-turned, units-hex, front-hex, desk-behind, faced-face}
-use Rattle.position.proofs.DeskEffects.{Desked, clock-desked, desk-clock, stage-desked, desk-stage, route-desked, desk-route, cleared-desked, desk-cleared}
+use Rattle.position.proofs.Front.{Front, Behind, front-refl, front-trans, behind-front, behind-trans, shaped-kept, laid-kept}
+use Rattle.position.proofs.Writes.{behind-unit, front-unit, unit-unit}
+use Rattle.position.proofs.Effects.{board-units, board-desk, units-role, units-faced, units-turned, units-hex, behind-hex, desk-behind, faced-face}
+use Rattle.position.proofs.DeskEffects.{Desked, desked-front, clock-desked, desk-clock, stage-desked, desk-stage, route-desked, desk-route, cleared-desked, desk-cleared}
 
 -- what a write to the units leaves: the front, the desk, and every strength
 record Unit-written (p q : List ℕ) (s : Units) : Type 0 where
-  front : Front p q
+  behind : Behind p q
   units : units q ≡ s
   desk : desk q ≡ desk p
   strengths : (w : ℕ) → strength q w ≡ strength p w
@@ -32,35 +32,35 @@ record Unit-written (p q : List ℕ) (s : Units) : Type 0 where
 hex-written : {p : List ℕ} → Shaped p → (u h : ℕ) → Unit-written p (setHex p u h) (withHex (units p) u h)
 unfolding setHex
 hex-written {p} s u h =
-    let q = setUnit p u 2 (h % 256) in
+    let q = setUnit p u hexField (h % 256) in
     record {
-      front = front-hex s u h;
+      behind = behind-hex s u h;
       units = units-hex s u h;
-      desk = desk-behind q u 3 (h / 256) (omega arith) ∙ desk-behind p u 2 (h % 256) (omega arith);
+      desk = desk-behind q u (hexField + 1) (h / 256) (omega arith) ∙ desk-behind p u hexField (h % 256) (omega arith);
       strengths =
           λ w.
-          unit-unit q u 3 (h / 256) (omega arith) w 4 (omega arith) (λ e g. omega arith)
-          ∙ unit-unit p u 2 (h % 256) (omega arith) w 4 (omega arith) (λ e g. omega arith);
+          unit-unit q u (hexField + 1) (h / 256) (omega arith) w strengthField (omega arith) (λ e g. omega arith)
+          ∙ unit-unit p u hexField (h % 256) (omega arith) w strengthField (omega arith) (λ e g. omega arith);
     }
 
 faced-written : {p : List ℕ} → Shaped p → (u m : ℕ) → has tried m ≡ has tried (marks p u) → Unit-written p (setMarks p u m) (withMarks (units p) u m)
 unfolding setMarks
 faced-written {p} s u m e =
     record {
-      front = front-unit p u 6 m;
+      behind = behind-unit p u marksField m;
       units = units-faced s u m e;
-      desk = desk-behind p u 6 m (omega arith);
-      strengths = λ w. unit-unit p u 6 m (omega arith) w 4 (omega arith) (λ e g. omega arith);
+      desk = desk-behind p u marksField m (omega arith);
+      strengths = λ w. unit-unit p u marksField m (omega arith) w strengthField (omega arith) (λ e g. omega arith);
     }
 
 role-written : {p : List ℕ} → Shaped p → (u r : ℕ) → Unit-written p (setRole p u r) (withRole (units p) u r)
 unfolding setRole
 role-written {p} s u r =
     record {
-      front = front-unit p u 7 r;
+      behind = behind-unit p u roleField r;
       units = units-role s u r;
-      desk = desk-behind p u 7 r (omega arith);
-      strengths = λ w. unit-unit p u 7 r (omega arith) w 4 (omega arith) (λ e g. omega arith);
+      desk = desk-behind p u roleField r (omega arith);
+      strengths = λ w. unit-unit p u roleField r (omega arith) w strengthField (omega arith) (λ e g. omega arith);
     }
 
 -- what stays and what is new after a change
@@ -70,12 +70,13 @@ pub record Made (p q : List ℕ) (b : Board) : Type 0 where
   pub strengths : (w : ℕ) → strength q w ≡ strength p w
 
 made-units : {p q : List ℕ} {s : Units} → Unit-written p q s → Made p q (withUnits (board p) s)
-made-units w = record { front = w .front; board = board-units (w .front) (w .units) (w .desk); strengths = w .strengths }
+made-units w =
+    record { front = behind-front (w .behind); board = board-units (w .behind) (w .units) (w .desk); strengths = w .strengths }
 
 written-then : {p q r : List ℕ} {s : Units} (g : Units → Units) → Unit-written p q s → Unit-written q r (g (units q)) → Unit-written p r (g s)
 written-then g a b =
     record {
-      front = front-trans (a .front) (b .front);
+      behind = behind-trans (a .behind) (b .behind);
       units = b .units ∙ ap g (a .units);
       desk = b .desk ∙ a .desk;
       strengths = λ w. b .strengths w ∙ a .strengths w;
@@ -86,16 +87,16 @@ unfolding make
 destroyed-written {p} s u =
     let m = faced (marks p u) 0 in
     let a = hex-written s u nowhere in
-    let s₁ = shaped-kept (a .front) s in
+    let s₁ = shaped-kept (behind-front (a .behind)) s in
     let e : has tried m ≡ has tried (marks (setHex p u nowhere) u) =
     faced-face (marks p u) 0 ∙ ap (has tried) (ap (λ (x : Units). x .marks u) (sym (a .units)))
     in
     let b = faced-written s₁ u m e in
     written-then (λ (x : Units). withRole x u 0) (written-then (λ (x : Units). withMarks x u m) a b)
-    (role-written (shaped-kept (b .front) s₁) u 0)
+    (role-written (shaped-kept (behind-front (b .behind)) s₁) u 0)
 
 made-desk : {p q : List ℕ} → Desked p q → Made p q (withDesk (board p) (desk q))
-made-desk k = record { front = k .front; board = board-desk (k .front) (k .units) refl; strengths = k .strengths }
+made-desk k = record { front = desked-front k; board = board-desk (k .behind) (k .units) refl; strengths = k .strengths }
 
 -- the desk as it is told
 told : {p q : List ℕ} {b c : Board} → b ≡ c → Made p q b → Made p q c
@@ -114,7 +115,7 @@ made s (assigned u r) = made-units (role-written s u r)
 made {p} s (timed t f ph) = told (ap (withDesk (board p)) (desk-clock p t f ph s)) (made-desk (clock-desked p t f ph))
 made {p} s (staged st n x) = told (ap (withDesk (board p)) (desk-stage p st n x s)) (made-desk (stage-desked p st n x))
 made {p} s (routed r a b c d) = told (ap (withDesk (board p)) (desk-route s r a b c d)) (made-desk (route-desked s r a b c d))
-made {p} s unrouted = told (ap (withDesk (board p)) (desk-cleared s)) (made-desk (cleared-desked s 6))
+made {p} s unrouted = told (ap (withDesk (board p)) (desk-cleared s)) (made-desk (cleared-desked s routeCount))
 
 -- what turning over leaves and shows
 pub turned-made : {p : List ℕ} → Shaped p → (u : ℕ) → Made p (turned p u) (turnedUp (board p) u (strength p u))
@@ -122,9 +123,9 @@ unfolding turned turnedUp setMarks
 turned-made {p} s u =
     let m = with tried (marks p u) in
     record {
-      front = front-unit p u 6 m;
-      board = board-units (front-unit p u 6 m) (units-turned s u) (desk-behind p u 6 m (omega arith));
-      strengths = λ w. unit-unit p u 6 m (omega arith) w 4 (omega arith) (λ e g. omega arith);
+      front = front-unit p u marksField m;
+      board = board-units (behind-unit p u marksField m) (units-turned s u) (desk-behind p u marksField m (omega arith));
+      strengths = λ w. unit-unit p u marksField m (omega arith) w strengthField (omega arith) (λ e g. omega arith);
     }
 
 -- the layout stays, whatever changes

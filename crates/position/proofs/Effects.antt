@@ -21,6 +21,25 @@ use Rattle.position.specs.Layout.{
   need,
   route,
   routeField,
+  unitSize,
+  nationalityField,
+  kindField,
+  hexField,
+  strengthField,
+  allowanceField,
+  marksField,
+  roleField,
+  turnField,
+  lastTurnField,
+  forceField,
+  phaseField,
+  stageField,
+  owedField,
+  needField,
+  routesField,
+  routeCount,
+  routeHexes,
+  routesEnd,
   playersField,
   named,
   player,
@@ -41,8 +60,9 @@ use Rattle.position.specs.Change.{Change, make, makes, turned}
 use Rattle.position.specs.Change.Change.{placed, destroyed, marked, assigned, timed, staged, routed, unrouted}
 use Rattle.position.specs.Effect.{upd, withHex, withMarks, withRole, withShown, withClock, withStage, withRoutes, ofFour, reroute, unfilled, withUnits, withDesk, change, changes, turnedUp}
 use Rattle.position.proofs.Tables.{hex-in, route-in, route-past, route-over, set-unit-out}
-use Rattle.position.proofs.Front.{Front, front-trans, front-refl, shaped-kept, chart-kept, results-kept, ground-kept, count-kept, hexes-kept, named-kept}
-use Rattle.position.proofs.Writes.{front-unit, front-desk, unit-unit, unit-same, desk-unit, unit-desk, desk-desk, desk-same}
+use Rattle.position.proofs.Front.{Front, Behind, behind-bodies, behind-front, behind-trans, shaped-kept, count-kept, named-kept}
+use Rattle.position.proofs.Bodies.{chart-same, results-same, ground-same}
+use Rattle.position.proofs.Writes.{behind-unit, front-unit, front-desk, unit-unit, unit-same, desk-unit, unit-desk, desk-desk, desk-same}
 
 -- a table after one number of it was written
 pub upd-is : (n : ℕ) (f g : ℕ → ℕ) (u x : ℕ) → (u < n → g u ≡ x) → ((k : ℕ) → (u < n → k ≡ u → ⊥) → g k ≡ f k) → g ≡ upd n f u x
@@ -55,7 +75,7 @@ upd-is n f g u x here else = fun-ext (λ k. at k (decLt u n) (ℕ-discrete k u))
     at k (no m) d = else k (λ l. absurd (m l)) ∙ simp (le-ltb u n (omega arith))
 
 -- the bytes of units after a write to one of them
-module _ {p : List ℕ} (s : Shaped p) (u f x : ℕ) (l : f < 8) where
+module _ {p : List ℕ} (s : Shaped p) (u f x : ℕ) (l : f < unitSize) where
   pub field-set : (λ (w : ℕ). unitByte (setUnit p u f x) w f) ≡ upd (count p) (λ (w : ℕ). unitByte p w f) u x
   field-set =
       upd-is (count p) (λ (w : ℕ). unitByte p w f) (λ (w : ℕ). unitByte (setUnit p u f x) w f) u x (unit-same p u f x l s) (λ k n. other k n (decLt u (count p)))
@@ -64,11 +84,11 @@ module _ {p : List ℕ} (s : Shaped p) (u f x : ℕ) (l : f < 8) where
       other k n (yes m) = unit-unit p u f x l k f l (λ e h. n m e)
       other k n (no m) = ap (λ (q : List ℕ). unitByte q k f) (set-unit-out p u f x (omega arith))
 
-  pub field-kept : (g : ℕ) → g < 8 → (g ≡ f → ⊥) → (w : ℕ) → unitByte (setUnit p u f x) w g ≡ unitByte p w g
+  pub field-kept : (g : ℕ) → g < unitSize → (g ≡ f → ⊥) → (w : ℕ) → unitByte (setUnit p u f x) w g ≡ unitByte p w g
   field-kept g m n w = unit-unit p u f x l w g m (λ e h. n h)
 
 -- numbers that stand in more than one byte, from their bytes
-pub hex-from : (p q : List ℕ) (w : ℕ) → count q ≡ count p → unitByte q w 2 ≡ unitByte p w 2 → unitByte q w 3 ≡ unitByte p w 3 → hex q w ≡ hex p w
+pub hex-from : (p q : List ℕ) (w : ℕ) → count q ≡ count p → unitByte q w hexField ≡ unitByte p w hexField → unitByte q w (hexField + 1) ≡ unitByte p w (hexField + 1) → hex q w ≡ hex p w
 unfolding hex
 hex-from p q w e a b = rw (e, a, b)
 
@@ -84,14 +104,14 @@ pub shown-from : (p q : List ℕ) (w : ℕ) → has tried (marks q w) ≡ has tr
 unfolding shown
 shown-from p q w e a = ap₂ (λ (t : Bool) (x : ℕ). cond t x 0) e a
 
-pub need-from : (p q : List ℕ) → deskByte q 6 ≡ deskByte p 6 → deskByte q 7 ≡ deskByte p 7 → need q ≡ need p
+pub need-from : (p q : List ℕ) → deskByte q needField ≡ deskByte p needField → deskByte q (needField + 1) ≡ deskByte p (needField + 1) → need q ≡ need p
 unfolding need
 need-from p q a b = ap₂ (λ (x y : ℕ). x + 256 * y) a b
 
-pub route-from : (p q : List ℕ) → ((k : ℕ) → 8 ≤ k → k < 56 → deskByte q k ≡ deskByte p k) → (r j : ℕ) → route q r j ≡ route p r j
-route-from p q h r j = at (decLt r 6) (decLt j 4)
+pub route-from : (p q : List ℕ) → ((k : ℕ) → routesField ≤ k → k < routesEnd → deskByte q k ≡ deskByte p k) → (r j : ℕ) → route q r j ≡ route p r j
+route-from p q h r j = at (decLt r routeCount) (decLt j routeHexes)
   where
-    at : Dec (r < 6) → Dec (j < 4) → route q r j ≡ route p r j
+    at : Dec (r < routeCount) → Dec (j < routeHexes) → route q r j ≡ route p r j
     at (yes l) (yes m) =
         route-in q r j l m
         ∙ ap₂ (λ (a b : ℕ). a + 256 * b) (h (routeField r j) (omega arith) (omega arith)) (h (routeField r j + 1) (omega arith) (omega arith))
@@ -100,65 +120,70 @@ route-from p q h r j = at (decLt r 6) (decLt j 4)
     at (no l) m = route-past q r j (omega arith) ∙ sym (route-past p r j (omega arith))
 
 -- the players, which stand behind all that a call writes
-pub player-from : {p q : List ℕ} → Front p q → ((k : ℕ) → 56 ≤ k → deskByte q k ≡ deskByte p k) → (f : ℕ) → player q f ≡ player p f
+pub player-from : {p q : List ℕ} → Front p q → ((k : ℕ) → playersField ≤ k → deskByte q k ≡ deskByte p k) → (f : ℕ) → player q f ≡ player p f
 unfolding player
 player-from s h f = rw (named-kept s, h (playersField + f) (omega arith)) refl
 
 -- units and desk, from their bytes
-pub units-from : (p q : List ℕ) → count q ≡ count p → ((w g : ℕ) → g < 8 → unitByte q w g ≡ unitByte p w g) → units q ≡ units p
+pub units-from : (p q : List ℕ) → count q ≡ count p → ((w g : ℕ) → g < unitSize → unitByte q w g ≡ unitByte p w g) → units q ≡ units p
 units-from p q e h =
     λ i.
     record {
       count = e i;
-      nationality = fun-ext (λ w. h w 0 (omega arith)) i;
-      kind = fun-ext (λ w. h w 1 (omega arith)) i;
-      hex = fun-ext (λ w. hex-from p q w e (h w 2 (omega arith)) (h w 3 (omega arith))) i;
-      shown = fun-ext (λ w. shown-from p q w (ap (has tried) (h w 6 (omega arith))) (h w 4 (omega arith))) i;
-      allowance = fun-ext (λ w. h w 5 (omega arith)) i;
-      marks = fun-ext (λ w. h w 6 (omega arith)) i;
-      role = fun-ext (λ w. h w 7 (omega arith)) i;
+      nationality = fun-ext (λ w. h w nationalityField (omega arith)) i;
+      kind = fun-ext (λ w. h w kindField (omega arith)) i;
+      hex = fun-ext (λ w. hex-from p q w e (h w hexField (omega arith)) (h w (hexField + 1) (omega arith))) i;
+      shown = fun-ext (λ w. shown-from p q w (ap (has tried) (h w marksField (omega arith))) (h w strengthField (omega arith))) i;
+      allowance = fun-ext (λ w. h w allowanceField (omega arith)) i;
+      marks = fun-ext (λ w. h w marksField (omega arith)) i;
+      role = fun-ext (λ w. h w roleField (omega arith)) i;
     }
 
-pub desk-from : (p q : List ℕ) → ((k : ℕ) → k < 56 → deskByte q k ≡ deskByte p k) → ((f : ℕ) → player q f ≡ player p f) → desk q ≡ desk p
+pub desk-from : (p q : List ℕ) → ((k : ℕ) → k < playersField → deskByte q k ≡ deskByte p k) → ((f : ℕ) → player q f ≡ player p f) → desk q ≡ desk p
 desk-from p q h g =
     λ i.
     record {
-      turn = h 0 (omega arith) i;
-      lastTurn = h 1 (omega arith) i;
-      force = h 2 (omega arith) i;
-      phase = h 3 (omega arith) i;
-      stage = h 4 (omega arith) i;
-      owed = h 5 (omega arith) i;
-      need = need-from p q (h 6 (omega arith)) (h 7 (omega arith)) i;
+      turn = h turnField (omega arith) i;
+      lastTurn = h lastTurnField (omega arith) i;
+      force = h forceField (omega arith) i;
+      phase = h phaseField (omega arith) i;
+      stage = h stageField (omega arith) i;
+      owed = h owedField (omega arith) i;
+      need = need-from p q (h needField (omega arith)) (h (needField + 1) (omega arith)) i;
       route = fun-ext (λ r. fun-ext (route-from p q (λ k _ l. h k l) r)) i;
       player = fun-ext g i;
     }
 
 -- the board, from its parts: a write behind the front leaves the rest
-pub board-units : {p q : List ℕ} {s : Units} → Front p q → units q ≡ s → desk q ≡ desk p → board q ≡ withUnits (board p) s
-board-units f e d = λ i. record { chart = chart-kept f i; results = results-kept f i; map = ground-kept f i; units = e i; desk = d i }
+board-behind : {p q : List ℕ} {s : Units} {d : Desk} → Behind p q → units q ≡ s → desk q ≡ d → board q ≡ withDesk (withUnits (board p) s) d
+board-behind f e g =
+    let b = behind-bodies f in
+    λ i. record { chart = chart-same b i; results = results-same b i; map = ground-same b i; units = e i; desk = g i }
 
-pub board-desk : {p q : List ℕ} {d : Desk} → Front p q → units q ≡ units p → desk q ≡ d → board q ≡ withDesk (board p) d
-board-desk f e g = λ i. record { chart = chart-kept f i; results = results-kept f i; map = ground-kept f i; units = e i; desk = g i }
+pub board-units : {p q : List ℕ} {s : Units} → Behind p q → units q ≡ s → desk q ≡ desk p → board q ≡ withUnits (board p) s
+board-units f e d = board-behind f e d
+
+pub board-desk : {p q : List ℕ} {d : Desk} → Behind p q → units q ≡ units p → desk q ≡ d → board q ≡ withDesk (board p) d
+board-desk f e g = board-behind f e g
 
 -- a unit's role
 module _ {p : List ℕ} (s : Shaped p) (u x : ℕ) where
   pub units-role : units (setRole p u x) ≡ withRole (units p) u x
   unfolding setRole
   units-role =
-      let k = field-kept s u 7 x (omega arith) in
-      let q = setUnit p u 7 x in
-      let e = count-kept (front-unit p u 7 x) in
+      let k = field-kept s u roleField x (omega arith) in
+      let q = setUnit p u roleField x in
+      let e = count-kept (front-unit p u roleField x) in
       λ i.
       record {
         count = e i;
-        nationality = fun-ext (k 0 (omega arith) (omega arith)) i;
-        kind = fun-ext (k 1 (omega arith) (omega arith)) i;
-        hex = fun-ext (λ w. hex-from p q w e (k 2 (omega arith) (omega arith) w) (k 3 (omega arith) (omega arith) w)) i;
-        shown = fun-ext (λ w. shown-from p q w (ap (has tried) (k 6 (omega arith) (omega arith) w)) (k 4 (omega arith) (omega arith) w)) i;
-        allowance = fun-ext (k 5 (omega arith) (omega arith)) i;
-        marks = fun-ext (k 6 (omega arith) (omega arith)) i;
-        role = field-set s u 7 x (omega arith) i;
+        nationality = fun-ext (k nationalityField (omega arith) (omega arith)) i;
+        kind = fun-ext (k kindField (omega arith) (omega arith)) i;
+        hex = fun-ext (λ w. hex-from p q w e (k hexField (omega arith) (omega arith) w) (k (hexField + 1) (omega arith) (omega arith) w)) i;
+        shown = fun-ext (λ w. shown-from p q w (ap (has tried) (k marksField (omega arith) (omega arith) w)) (k strengthField (omega arith) (omega arith) w)) i;
+        allowance = fun-ext (k allowanceField (omega arith) (omega arith)) i;
+        marks = fun-ext (k marksField (omega arith) (omega arith)) i;
+        role = field-set s u roleField x (omega arith) i;
       }
 
   -- its marks, given what is then shown
@@ -174,19 +199,19 @@ module _ {p : List ℕ} (s : Shaped p) (u x : ℕ) where
   }
   unfolding setMarks
   units-marks f h =
-      let k = field-kept s u 6 x (omega arith) in
-      let q = setUnit p u 6 x in
-      let e = count-kept (front-unit p u 6 x) in
+      let k = field-kept s u marksField x (omega arith) in
+      let q = setUnit p u marksField x in
+      let e = count-kept (front-unit p u marksField x) in
       λ i.
       record {
         count = e i;
-        nationality = fun-ext (k 0 (omega arith) (omega arith)) i;
-        kind = fun-ext (k 1 (omega arith) (omega arith)) i;
-        hex = fun-ext (λ w. hex-from p q w e (k 2 (omega arith) (omega arith) w) (k 3 (omega arith) (omega arith) w)) i;
+        nationality = fun-ext (k nationalityField (omega arith) (omega arith)) i;
+        kind = fun-ext (k kindField (omega arith) (omega arith)) i;
+        hex = fun-ext (λ w. hex-from p q w e (k hexField (omega arith) (omega arith) w) (k (hexField + 1) (omega arith) (omega arith) w)) i;
         shown = fun-ext h i;
-        allowance = fun-ext (k 5 (omega arith) (omega arith)) i;
-        marks = field-set s u 6 x (omega arith) i;
-        role = fun-ext (k 7 (omega arith) (omega arith)) i;
+        allowance = fun-ext (k allowanceField (omega arith) (omega arith)) i;
+        marks = field-set s u marksField x (omega arith) i;
+        role = fun-ext (k roleField (omega arith) (omega arith)) i;
       }
 
 -- a table after a write: there, and elsewhere
@@ -224,11 +249,11 @@ turned-face m = let e : (m % 1 + 1 + m / (2 * 1) * (2 * 1)) / 1 % 2 ≡ 1 = omeg
 module _ {p : List ℕ} (s : Shaped p) (u : ℕ) where
   pub marks-set : (m w : ℕ) → marks (setMarks p u m) w ≡ upd (count p) (marks p) u m w
   unfolding setMarks
-  marks-set m w = ap (λ (f : ℕ → ℕ). f w) (field-set s u 6 m (omega arith))
+  marks-set m w = ap (λ (f : ℕ → ℕ). f w) (field-set s u marksField m (omega arith))
 
   strength-set : (m w : ℕ) → strength (setMarks p u m) w ≡ strength p w
   unfolding setMarks
-  strength-set m w = field-kept s u 6 m (omega arith) 4 (omega arith) (omega arith) w
+  strength-set m w = field-kept s u marksField m (omega arith) strengthField (omega arith) (omega arith) w
 
   -- marks that show the same face leave what is shown
   pub units-faced : (m : ℕ) → has tried m ≡ has tried (marks p u) → units (setMarks p u m) ≡ withMarks (units p) u m
@@ -263,65 +288,68 @@ module _ {p : List ℕ} (s : Shaped p) (u : ℕ) where
 -- where a unit stands
 module _ {p : List ℕ} (s : Shaped p) (u h : ℕ) where
   abbrev half : List ℕ
-  half = setUnit p u 2 (h % 256)
+  half = setUnit p u hexField (h % 256)
 
   half-shaped : Shaped half
-  half-shaped = shaped-kept (front-unit p u 2 (h % 256)) s
+  half-shaped = shaped-kept (front-unit p u hexField (h % 256)) s
 
-  byte-kept : (g : ℕ) → g < 8 → (g ≡ 2 → ⊥) → (g ≡ 3 → ⊥) → (w : ℕ) → unitByte (setUnit half u 3 (h / 256)) w g ≡ unitByte p w g
+  byte-kept : (g : ℕ) → g < unitSize → (g ≡ hexField → ⊥) → (g ≡ hexField + 1 → ⊥) → (w : ℕ) → unitByte (setUnit half u (hexField + 1) (h / 256)) w g ≡ unitByte p w g
   byte-kept g l m n w =
-      field-kept half-shaped u 3 (h / 256) (omega arith) g l n w ∙ field-kept s u 2 (h % 256) (omega arith) g l m w
+      field-kept half-shaped u (hexField + 1) (h / 256) (omega arith) g l n w ∙ field-kept s u hexField (h % 256) (omega arith) g l m w
+
+  pub behind-hex : Behind p (setHex p u h)
+  unfolding setHex
+  behind-hex = behind-trans (behind-unit p u hexField (h % 256)) (behind-unit half u (hexField + 1) (h / 256))
 
   pub front-hex : Front p (setHex p u h)
-  unfolding setHex
-  front-hex = front-trans (front-unit p u 2 (h % 256)) (front-unit half u 3 (h / 256))
+  front-hex = behind-front behind-hex
 
-  hex-here : u < count p → hex (setUnit half u 3 (h / 256)) u ≡ h
+  hex-here : u < count p → hex (setUnit half u (hexField + 1) (h / 256)) u ≡ h
   hex-here l =
-      let q = setUnit half u 3 (h / 256) in
-      let m = count-kept (front-unit p u 2 (h % 256)) in
-      let n = count-kept (front-unit half u 3 (h / 256)) in
-      let low = field-kept half-shaped u 3 (h / 256) (omega arith) 2 (omega arith) (omega arith) u ∙ unit-same p u 2 (h % 256) (omega arith) s l in
-      let high = unit-same half u 3 (h / 256) (omega arith) half-shaped (omega arith) in
+      let q = setUnit half u (hexField + 1) (h / 256) in
+      let m = count-kept (front-unit p u hexField (h % 256)) in
+      let n = count-kept (front-unit half u (hexField + 1) (h / 256)) in
+      let low = field-kept half-shaped u (hexField + 1) (h / 256) (omega arith) hexField (omega arith) (omega arith) u ∙ unit-same p u hexField (h % 256) (omega arith) s l in
+      let high = unit-same half u (hexField + 1) (h / 256) (omega arith) half-shaped (omega arith) in
       hex-in q u (omega arith) ∙ omega (arith, low, high)
 
-  hex-else : (w : ℕ) → (u < count p → w ≡ u → ⊥) → hex (setUnit half u 3 (h / 256)) w ≡ hex p w
+  hex-else : (w : ℕ) → (u < count p → w ≡ u → ⊥) → hex (setUnit half u (hexField + 1) (h / 256)) w ≡ hex p w
   hex-else w d = at (decLt u (count p))
     where
-      at : Dec (u < count p) → hex (setUnit half u 3 (h / 256)) w ≡ hex p w
+      at : Dec (u < count p) → hex (setUnit half u (hexField + 1) (h / 256)) w ≡ hex p w
       at (yes l) =
-          hex-from p (setUnit half u 3 (h / 256)) w (count-kept (front-unit half u 3 (h / 256)) ∙ count-kept (front-unit p u 2 (h % 256)))
-          (unit-unit half u 3 (h / 256) (omega arith) w 2 (omega arith) (λ e g. d l e) ∙ unit-unit p u 2 (h % 256) (omega arith) w 2 (omega arith) (λ e g. d l e))
-          (unit-unit half u 3 (h / 256) (omega arith) w 3 (omega arith) (λ e g. d l e) ∙ unit-unit p u 2 (h % 256) (omega arith) w 3 (omega arith) (λ e g. d l e))
+          hex-from p (setUnit half u (hexField + 1) (h / 256)) w (count-kept (front-unit half u (hexField + 1) (h / 256)) ∙ count-kept (front-unit p u hexField (h % 256)))
+          (unit-unit half u (hexField + 1) (h / 256) (omega arith) w hexField (omega arith) (λ e g. d l e) ∙ unit-unit p u hexField (h % 256) (omega arith) w hexField (omega arith) (λ e g. d l e))
+          (unit-unit half u (hexField + 1) (h / 256) (omega arith) w (hexField + 1) (omega arith) (λ e g. d l e) ∙ unit-unit p u hexField (h % 256) (omega arith) w (hexField + 1) (omega arith) (λ e g. d l e))
       at (no n) =
           ap (λ (q : List ℕ). hex q w)
-          (set-unit-out half u 3 (h / 256) (omega (arith, count-kept (front-unit p u 2 (h % 256)))) ∙ set-unit-out p u 2 (h % 256) (omega arith))
+          (set-unit-out half u (hexField + 1) (h / 256) (omega (arith, count-kept (front-unit p u hexField (h % 256)))) ∙ set-unit-out p u hexField (h % 256) (omega arith))
 
   pub units-hex : units (setHex p u h) ≡ withHex (units p) u h
   unfolding setHex
   units-hex =
       let k = byte-kept in
-      let q = setUnit half u 3 (h / 256) in
-      let e = count-kept (front-unit half u 3 (h / 256)) ∙ count-kept (front-unit p u 2 (h % 256)) in
+      let q = setUnit half u (hexField + 1) (h / 256) in
+      let e = count-kept (front-unit half u (hexField + 1) (h / 256)) ∙ count-kept (front-unit p u hexField (h % 256)) in
       λ i.
       record {
         count = e i;
-        nationality = fun-ext (k 0 (omega arith) (omega arith) (omega arith)) i;
-        kind = fun-ext (k 1 (omega arith) (omega arith) (omega arith)) i;
+        nationality = fun-ext (k nationalityField (omega arith) (omega arith) (omega arith)) i;
+        kind = fun-ext (k kindField (omega arith) (omega arith) (omega arith)) i;
         hex = upd-is (count p) (hex p) (hex q) u h hex-here hex-else i;
         shown =
             fun-ext
             (λ w.
-            shown-from p q w (ap (has tried) (k 6 (omega arith) (omega arith) (omega arith) w))
-            (k 4 (omega arith) (omega arith) (omega arith) w))
+            shown-from p q w (ap (has tried) (k marksField (omega arith) (omega arith) (omega arith) w))
+            (k strengthField (omega arith) (omega arith) (omega arith) w))
             i;
-        allowance = fun-ext (k 5 (omega arith) (omega arith) (omega arith)) i;
-        marks = fun-ext (k 6 (omega arith) (omega arith) (omega arith)) i;
-        role = fun-ext (k 7 (omega arith) (omega arith) (omega arith)) i;
+        allowance = fun-ext (k allowanceField (omega arith) (omega arith) (omega arith)) i;
+        marks = fun-ext (k marksField (omega arith) (omega arith) (omega arith)) i;
+        role = fun-ext (k roleField (omega arith) (omega arith) (omega arith)) i;
       }
 
 -- a unit's bytes leave the desk, and the desk's bytes leave the units
-pub desk-behind : (p : List ℕ) (u f x : ℕ) → f < 8 → desk (setUnit p u f x) ≡ desk p
+pub desk-behind : (p : List ℕ) (u f x : ℕ) → f < unitSize → desk (setUnit p u f x) ≡ desk p
 desk-behind p u f x l =
     let h = desk-unit p u f x l in
     desk-from p (setUnit p u f x) (λ k _. h k) (player-from (front-unit p u f x) (λ k _. h k))
@@ -330,7 +358,7 @@ pub units-before : (p : List ℕ) (f x : ℕ) → units (setDesk p f x) ≡ unit
 units-before p f x = units-from p (setDesk p f x) (count-kept (front-desk p f x)) (unit-desk p f x)
 
 -- the desk's bytes after one was written
-pub desk-at : {p : List ℕ} → Shaped p → (f x : ℕ) → f < 56 → (k : ℕ) → deskByte (setDesk p f x) k ≡ cond (eqb k f) x (deskByte p k)
+pub desk-at : {p : List ℕ} → Shaped p → (f x : ℕ) → f < playersField → (k : ℕ) → deskByte (setDesk p f x) k ≡ cond (eqb k f) x (deskByte p k)
 desk-at {p} s f x l k = at (ℕ-discrete k f)
   where
     at : Dec (k ≡ f) → deskByte (setDesk p f x) k ≡ cond (eqb k f) x (deskByte p k)

@@ -14,6 +14,13 @@ use Rattle.position.specs.Bits.{with, tried}
 use Rattle.position.specs.Layout.{
   byte,
   word,
+  deskBody,
+  extentAt,
+  unitsHead,
+  unitSize,
+  marksField,
+  forces,
+  chartAt,
   extent,
   mapAt,
   hexes,
@@ -39,7 +46,8 @@ use Rattle.position.specs.Board.{Board, board, units, desk, enemy, neutr
 use Rattle.position.specs.Shape.{Shaped}
 use Rattle.position.specs.Change.{turned}
 use Rattle.position.proofs.Tables.{player-in, player-out, set-unit-in, set-unit-out}
-use Rattle.position.proofs.Bodies.{Bodies, hexes-same, count-same, deskAt-same, unitAt-same, chart-same, results-same, ground-same, shaped-same}
+use Rattle.position.proofs.Counts.{Counts, hexes-same, deskAt-same, unitAt-same, shaped-same}
+use Rattle.position.proofs.Bodies.{Bodies, bodies-counts, chart-same, results-same, ground-same}
 use Rattle.position.proofs.Front.{Front, shaped-kept, extent-kept}
 use Rattle.position.proofs.Writes.{unit-there, desk-there, front-unit, front-desk}
 use Rattle.position.proofs.Effects.{units-from, desk-from}
@@ -47,28 +55,29 @@ use Rattle.position.proofs.Twins.{Twin}
 
 -- the bytes of the longer position
 module _ (p : List ℕ) where
-  pub with-length : length (withPlayers p) ≡ length p + 4
+  pub with-length : length (withPlayers p) ≡ length p + forces
   unfolding withPlayers
-  with-length = length-append (set p 18 60) (0 ∷ 1 ∷ 2 ∷ 3 ∷ []) ∙ omega (arith, length-set p 18 60)
+  with-length = length-append (set p (extentAt deskBody) (playersField + forces)) (0 ∷ 1 ∷ 2 ∷ 3 ∷ []) ∙ omega (arith, length-set p (extentAt deskBody) (playersField + forces))
 
-  with-byte : (i : ℕ) → i < length p → (i ≡ 18 → ⊥) → byte (withPlayers p) i ≡ byte p i
+  with-byte : (i : ℕ) → i < length p → (i ≡ extentAt deskBody → ⊥) → byte (withPlayers p) i ≡ byte p i
   unfolding withPlayers
   with-byte i l n =
-      List·getD-append (set p 18 60) (0 ∷ 1 ∷ 2 ∷ 3 ∷ []) 0 i (omega (arith, length-set p 18 60)) ∙ getD-set-other p 18 i 60 0 n
+      List·getD-append (set p (extentAt deskBody) (playersField + forces)) (0 ∷ 1 ∷ 2 ∷ 3 ∷ []) 0 i (omega (arith, length-set p (extentAt deskBody) (playersField + forces))) ∙ getD-set-other p (extentAt deskBody) i (playersField + forces) 0 n
 
-  with-entry : 18 < length p → byte (withPlayers p) 18 ≡ 60
+  with-entry : extentAt deskBody < length p → byte (withPlayers p) (extentAt deskBody) ≡ playersField + forces
   unfolding withPlayers
   with-entry l =
-      List·getD-append (set p 18 60) (0 ∷ 1 ∷ 2 ∷ 3 ∷ []) 0 18 (omega (arith, length-set p 18 60)) ∙ getD-set-same p 18 60 0 l
+      List·getD-append (set p (extentAt deskBody) (playersField + forces)) (0 ∷ 1 ∷ 2 ∷ 3 ∷ []) 0 (extentAt deskBody) (omega (arith, length-set p (extentAt deskBody) (playersField + forces)))
+      ∙ getD-set-same p (extentAt deskBody) (playersField + forces) 0 l
 
   with-tail : (f : ℕ) → byte (withPlayers p) (length p + f) ≡ byte (0 ∷ 1 ∷ 2 ∷ 3 ∷ []) f
   unfolding withPlayers
   with-tail f =
-      ap (λ (n : ℕ). byte (set p 18 60 ++ (0 ∷ 1 ∷ 2 ∷ 3 ∷ [])) (n + f)) (sym (length-set p 18 60))
-      ∙ getD-append-add (set p 18 60) (0 ∷ 1 ∷ 2 ∷ 3 ∷ []) f 0
+      ap (λ (n : ℕ). byte (set p (extentAt deskBody) (playersField + forces) ++ (0 ∷ 1 ∷ 2 ∷ 3 ∷ [])) (n + f)) (sym (length-set p (extentAt deskBody) (playersField + forces)))
+      ∙ getD-append-add (set p (extentAt deskBody) (playersField + forces)) (0 ∷ 1 ∷ 2 ∷ 3 ∷ []) f 0
 
 -- the four players by name
-spelled : (f : ℕ) → f < 4 → byte (0 ∷ 1 ∷ 2 ∷ 3 ∷ []) f ≡ f
+spelled : (f : ℕ) → f < forces → byte (0 ∷ 1 ∷ 2 ∷ 3 ∷ []) f ≡ f
 spelled zero l = refl
 spelled (suc zero) l = refl
 spelled (suc (suc zero)) l = refl
@@ -89,25 +98,25 @@ module _ (p : List ℕ) (none : named p ≡ 0) where
       not-and false = refl
 
 -- what the desk's length says
-module _ (p : List ℕ) (short : extent p 4 ≡ 56) where
+module _ (p : List ℕ) (short : extent p deskBody ≡ playersField) where
   none-named : named p ≡ 0
   unfolding named
-  none-named = simp (ne-eqb (extent p 4) 60 (λ e. omega arith))
+  none-named = simp (ne-eqb (extent p deskBody) (playersField + forces) (λ e. omega arith))
 
-  long-said : 20 ≤ length p → extent (withPlayers p) 4 ≡ 60
+  long-said : chartAt ≤ length p → extent (withPlayers p) deskBody ≡ playersField + forces
   unfolding extent word
   long-said l =
-      let e = with-byte p 19 (omega arith) (λ z. omega arith) in
+      let e = with-byte p (extentAt deskBody + 1) (omega arith) (λ z. omega arith) in
       let h = with-entry p (omega arith) in
       let s = short in
       omega (arith, e, h, s)
 
-  all-named : 20 ≤ length p → named (withPlayers p) ≡ 4
+  all-named : chartAt ≤ length p → named (withPlayers p) ≡ forces
   unfolding named
-  all-named l = simp (eq-eqb (extent (withPlayers p) 4) 60 (long-said l))
+  all-named l = simp (eq-eqb (extent (withPlayers p) deskBody) (playersField + forces) (long-said l))
 
 -- the same bodies before the units' records, both ways
-bodies-with : (p : List ℕ) → unitsAt p + 2 ≤ length p → Bodies p (withPlayers p)
+bodies-with : (p : List ℕ) → unitsAt p + unitsHead ≤ length p → Bodies p (withPlayers p)
 unfolding unitsAt mapAt
 bodies-with p l =
     record {
@@ -115,7 +124,7 @@ bodies-with p l =
       same = λ i m n. with-byte p i (omega arith) (λ e. omega arith);
     }
 
-bodies-without : (p : List ℕ) → unitsAt (withPlayers p) + 2 ≤ length p → Bodies (withPlayers p) p
+bodies-without : (p : List ℕ) → unitsAt (withPlayers p) + unitsHead ≤ length p → Bodies (withPlayers p) p
 unfolding unitsAt mapAt
 bodies-without p l =
     record {
@@ -126,17 +135,17 @@ bodies-without p l =
 -- a position whose bodies lie as they should, on a desk of the old length
 pub record Old (p : List ℕ) : Type 0 where
   pub shaped : Shaped p
-  pub short : extent p 4 ≡ 56
+  pub short : extent p deskBody ≡ playersField
 
 pub old-kept : {p q : List ℕ} → Front p q → Old p → Old q
 old-kept f o = record { shaped = shaped-kept f (o .shaped); short = extent-kept f ∙ o .short }
 
 module _ {p : List ℕ} (o : Old p) where
   -- where it ends
-  ends : length p ≡ deskAt p + 56
+  ends : length p ≡ deskAt p + playersField
   ends = omega (arith, o .shaped .whole, none-named p (o .short))
 
-  long : 20 ≤ length p
+  long : chartAt ≤ length p
   unfolding deskAt unitsAt mapAt
   long = omega (arith, ends)
 
@@ -144,35 +153,38 @@ module _ {p : List ℕ} (o : Old p) where
   unfolding deskAt
   bodies = bodies-with p (omega (arith, ends))
 
+  counts : Counts p (withPlayers p)
+  counts = bodies-counts bodies
+
   pub shaped-with : Shaped (withPlayers p)
   shaped-with =
-      shaped-same bodies (omega (arith, long-said p (o .short) long, all-named p (o .short) long))
-      (omega (arith, with-length p, ends, deskAt-same bodies, all-named p (o .short) long))
+      shaped-same counts (bodies .contents) (omega (arith, long-said p (o .short) long, all-named p (o .short) long))
+      (omega (arith, with-length p, ends, deskAt-same counts, all-named p (o .short) long))
       (o .shaped)
 
-  unit-byte : (w g : ℕ) → g < 8 → unitByte (withPlayers p) w g ≡ unitByte p w g
+  unit-byte : (w g : ℕ) → g < unitSize → unitByte (withPlayers p) w g ≡ unitByte p w g
   unfolding unitAt deskAt unitsAt mapAt
-  unit-byte w g l = unit-there bodies w g (λ m. with-byte p (unitAt p w + g) (omega (arith, ends)) (λ e. omega arith))
+  unit-byte w g l = unit-there counts w g (λ m. with-byte p (unitAt p w + g) (omega (arith, ends)) (λ e. omega arith))
 
   pub strength-with : (w : ℕ) → strength (withPlayers p) w ≡ strength p w
   strength-with w = unit-byte w strengthField (omega arith)
 
-  desk-byte : (k : ℕ) → k < 56 → deskByte (withPlayers p) k ≡ deskByte p k
+  desk-byte : (k : ℕ) → k < playersField → deskByte (withPlayers p) k ≡ deskByte p k
   unfolding deskAt unitsAt mapAt
-  desk-byte k l = desk-there bodies k (with-byte p (deskAt p + k) (omega (arith, ends)) (λ e. omega arith))
+  desk-byte k l = desk-there counts k (with-byte p (deskAt p + k) (omega (arith, ends)) (λ e. omega arith))
 
   -- the players named are those that the old desk is read with
   player-with : (f : ℕ) → player (withPlayers p) f ≡ f
   unfolding deskByte
-  player-with f = at (decLt f 4)
+  player-with f = at (decLt f forces)
     where
-      n : named (withPlayers p) ≡ 4
+      n : named (withPlayers p) ≡ forces
       n = all-named p (o .short) long
 
-      at : Dec (f < 4) → player (withPlayers p) f ≡ f
+      at : Dec (f < forces) → player (withPlayers p) f ≡ f
       at (yes l) =
           player-in (withPlayers p) f (omega (arith, n))
-          ∙ ap (byte (withPlayers p)) (omega (arith, deskAt-same bodies, ends))
+          ∙ ap (byte (withPlayers p)) (omega (arith, deskAt-same counts, ends))
           ∙ with-tail p f
           ∙ spelled f l
       at (no m) = player-out (withPlayers p) f (omega (arith, n))
@@ -186,44 +198,45 @@ module _ {p : List ℕ} (o : Old p) where
         chart = chart-same bodies i;
         results = results-same bodies i;
         map = ground-same bodies i;
-        units = units-from p q (count-same bodies) unit-byte i;
+        units = units-from p q (counts .count) unit-byte i;
         desk = desk-from p q desk-byte (λ f. player-with f ∙ sym (own-player p (none-named p (o .short)) f)) i;
       }
 
   -- and a byte written to one is written to the other
-  with-set : (i x : ℕ) → i < length p → (i ≡ 18 → ⊥) → set (withPlayers p) i x ≡ withPlayers (set p i x)
+  with-set : (i x : ℕ) → i < length p → (i ≡ extentAt deskBody → ⊥) → set (withPlayers p) i x ≡ withPlayers (set p i x)
   unfolding withPlayers
   with-set i x l n =
-      set-append-left (set p 18 60) (0 ∷ 1 ∷ 2 ∷ 3 ∷ []) i x (omega (arith, length-set p 18 60))
-      ∙ ap (λ (r : List ℕ). r ++ (0 ∷ 1 ∷ 2 ∷ 3 ∷ [])) (set-comm p 18 i 60 x (λ e. n (sym e)))
+      set-append-left (set p (extentAt deskBody) (playersField + forces)) (0 ∷ 1 ∷ 2 ∷ 3 ∷ []) i x (omega (arith, length-set p (extentAt deskBody) (playersField + forces)))
+      ∙ ap (λ (r : List ℕ). r ++ (0 ∷ 1 ∷ 2 ∷ 3 ∷ [])) (set-comm p (extentAt deskBody) i (playersField + forces) x (λ e. n (sym e)))
 
-  unit-with : (u f x : ℕ) → f < 8 → setUnit (withPlayers p) u f x ≡ withPlayers (setUnit p u f x)
+  unit-with : (u f x : ℕ) → f < unitSize → setUnit (withPlayers p) u f x ≡ withPlayers (setUnit p u f x)
   unfolding unitAt deskAt unitsAt mapAt
   unit-with u f x l = at (decLt u (count p))
     where
       at : Dec (u < count p) → setUnit (withPlayers p) u f x ≡ withPlayers (setUnit p u f x)
       at (yes m) =
-          set-unit-in (withPlayers p) u f x (omega (arith, count-same bodies))
-          ∙ ap (λ (i : ℕ). set (withPlayers p) (i + f) x) (unitAt-same bodies u)
+          set-unit-in (withPlayers p) u f x (omega (arith, counts .count))
+          ∙ ap (λ (i : ℕ). set (withPlayers p) (i + f) x) (unitAt-same counts u)
           ∙ with-set (unitAt p u + f) x (omega (arith, ends)) (λ e. omega arith)
           ∙ ap withPlayers (sym (set-unit-in p u f x m))
       at (no m) =
-          set-unit-out (withPlayers p) u f x (omega (arith, count-same bodies)) ∙ ap withPlayers (sym (set-unit-out p u f x (omega arith)))
+          set-unit-out (withPlayers p) u f x (omega (arith, counts .count)) ∙ ap withPlayers (sym (set-unit-out p u f x (omega arith)))
 
-  desk-with : (f x : ℕ) → f < 56 → setDesk (withPlayers p) f x ≡ withPlayers (setDesk p f x)
+  desk-with : (f x : ℕ) → f < playersField → setDesk (withPlayers p) f x ≡ withPlayers (setDesk p f x)
   unfolding setDesk deskAt unitsAt mapAt
   desk-with f x l =
-      ap (λ (i : ℕ). set (withPlayers p) (i + f) x) (deskAt-same bodies)
+      ap (λ (i : ℕ). set (withPlayers p) (i + f) x) (deskAt-same counts)
       ∙ with-set (deskAt p + f) x (omega (arith, ends)) (λ e. omega arith)
 
 -- a longer position whose bodies lie as they should comes from one whose do
-pub shaped-without : (p : List ℕ) → extent p 4 ≡ 56 → Shaped (withPlayers p) → Shaped p
+pub shaped-without : (p : List ℕ) → extent p deskBody ≡ playersField → Shaped (withPlayers p) → Shaped p
 unfolding deskAt unitsAt mapAt
 shaped-without p short s =
     let b = bodies-without p (omega (arith, s .whole, with-length p)) in
+    let c = bodies-counts b in
     let n = all-named p short (omega (arith, s .whole, with-length p)) in
-    let d = deskAt-same b in
-    shaped-same b (omega (arith, short, none-named p short))
+    let d = deskAt-same c in
+    shaped-same c (b .contents) (omega (arith, short, none-named p short))
     (omega (arith, s .whole, with-length p, n, d, none-named p short))
     s
 
@@ -232,7 +245,7 @@ pub record Lengthened (p q : List ℕ) : Type 0 where
   pub old : Old p
   pub is : q ≡ withPlayers p
 
-written : {p q : List ℕ} → Lengthened p q → (u f x : ℕ) → f < 8 → Lengthened (setUnit p u f x) (setUnit q u f x)
+written : {p q : List ℕ} → Lengthened p q → (u f x : ℕ) → f < unitSize → Lengthened (setUnit p u f x) (setUnit q u f x)
 written s u f x l =
     record {
       old = old-kept (front-unit _ u f x) (s .old);
@@ -243,10 +256,10 @@ pub twin-players : Twin Lengthened
 unfolding setMarks
 twin-players =
     record {
-      area = λ s. ap hexes (s .is) ∙ hexes-same (bodies (s .old));
-      shows = λ s u. ap (λ (r : List ℕ). marks r u) (s .is) ∙ unit-byte (s .old) u 6 (omega arith);
+      area = λ s. ap hexes (s .is) ∙ hexes-same (counts (s .old));
+      shows = λ s u. ap (λ (r : List ℕ). marks r u) (s .is) ∙ unit-byte (s .old) u marksField (omega arith);
       field = λ s u f x l _. written s u f x l;
-      face = λ s u m _. written s u 6 m (omega arith);
+      face = λ s u m _. written s u marksField m (omega arith);
       desk =
           λ s f x l.
           record {
@@ -258,10 +271,10 @@ twin-players =
 -- a unit turned over in both
 pub turned-with : {p q : List ℕ} → Lengthened p q → (u : ℕ) → Lengthened (turned p u) (turned q u)
 unfolding turned setMarks
-turned-with {p} {q} s u = rw (twin-players .shows s u) (written s u 6 (with tried (marks p u)) (omega arith))
+turned-with {p} {q} s u = rw (twin-players .shows s u) (written s u marksField (with tried (marks p u)) (omega arith))
 
 -- who is Enemy and who neutral on a desk of the old length
-module _ (p : List ℕ) (short : extent p 4 ≡ 56) (f g : ℕ) where
+module _ (p : List ℕ) (short : extent p deskBody ≡ playersField) (f g : ℕ) where
   pub old-enemy : enemy (board p) f g ≡ not (eqb f g)
   unfolding enemy
   old-enemy = let own = own-player p (none-named p short) in ap₂ (λ (x y : ℕ). not (eqb x y)) (own f) (own g)

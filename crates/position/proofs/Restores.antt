@@ -9,7 +9,7 @@ use lib.ListN.{set}
 use lib.Seq.{set-set, set-getD, set-comm}
 use borrow.Author.Tests.{lt-ltb, le-ltb}
 use Rattle.position.specs.Bits.{faced}
-use Rattle.position.specs.Layout.{byte, count, hexes, unitAt, unitByte, hex, marks, role, setUnit, setHex, setMarks, setRole}
+use Rattle.position.specs.Layout.{hexField, marksField, roleField, byte, count, hexes, unitAt, unitByte, hex, marks, role, setUnit, setHex, setMarks, setRole}
 use Rattle.position.specs.Shape.{Shaped}
 use Rattle.position.specs.Change.{make}
 use Rattle.position.specs.Change.Change.{placed, marked, assigned}
@@ -63,7 +63,7 @@ unit-restored p u f x = unit-again p u f x (unitByte p u f) ∙ unit-idle p u f
 -- a role given back
 pub role-restored : (p : List ℕ) (u r : ℕ) → make (make p (assigned u r)) (assigned u (role p u)) ≡ p
 unfolding make setRole
-role-restored p u r = unit-restored p u 7 r
+role-restored p u r = unit-restored p u roleField r
 
 -- marks given back
 pub marks-restored : {p : List ℕ} → Shaped p → (u m : ℕ) → u < count p → make (make p (marked u m)) (marked u (marks p u)) ≡ p
@@ -71,27 +71,27 @@ unfolding make setMarks faced
 marks-restored {p} s u m l =
     let old = marks p u in
     let x = m / 2 * 2 + old % 2 in
-    let now : unitByte (setUnit p u 6 x) u 6 ≡ x = unit-same p u 6 x (omega arith) s l in
-    ap (setUnit (setUnit p u 6 x) u 6) (omega (arith, now)) ∙ unit-restored p u 6 x
+    let now : unitByte (setUnit p u marksField x) u marksField ≡ x = unit-same p u marksField x (omega arith) s l in
+    ap (setUnit (setUnit p u marksField x) u marksField) (omega (arith, now)) ∙ unit-restored p u marksField x
 
 -- a unit put back where it stood on the map; a byte is below 256
 hex-again : (p : List ℕ) (u h k : ℕ) → setHex (setHex p u h) u k ≡ setHex p u k
 unfolding setHex
 hex-again p u h k =
-    ap (λ (q : List ℕ). setUnit q u 3 (k / 256))
-    (unit-swap (setUnit p u 2 (h % 256)) u 3 2 (h / 256) (k % 256) (λ e. omega arith)
-    ∙ ap (λ (q : List ℕ). setUnit q u 3 (h / 256)) (unit-again p u 2 (h % 256) (k % 256)))
-    ∙ unit-again (setUnit p u 2 (k % 256)) u 3 (h / 256) (k / 256)
+    ap (λ (q : List ℕ). setUnit q u (hexField + 1) (k / 256))
+    (unit-swap (setUnit p u hexField (h % 256)) u (hexField + 1) hexField (h / 256) (k % 256) (λ e. omega arith)
+    ∙ ap (λ (q : List ℕ). setUnit q u (hexField + 1) (h / 256)) (unit-again p u hexField (h % 256) (k % 256)))
+    ∙ unit-again (setUnit p u hexField (k % 256)) u (hexField + 1) (h / 256) (k / 256)
 
-hex-idle : (p : List ℕ) (u : ℕ) → u < count p → unitByte p u 2 < 256 → setHex p u (hex p u) ≡ p
+hex-idle : (p : List ℕ) (u : ℕ) → u < count p → unitByte p u hexField < 256 → setHex p u (hex p u) ≡ p
 unfolding setHex
 hex-idle p u l b =
     let k = hex-in p u l in
-    let low : hex p u % 256 ≡ unitByte p u 2 = omega arith in
-    let high : hex p u / 256 ≡ unitByte p u 3 = omega arith in
-    ap₂ (λ (q : List ℕ) (x : ℕ). setUnit q u 3 x) (ap (setUnit p u 2) low ∙ unit-idle p u 2) high ∙ unit-idle p u 3
+    let low : hex p u % 256 ≡ unitByte p u hexField = omega arith in
+    let high : hex p u / 256 ≡ unitByte p u (hexField + 1) = omega arith in
+    ap₂ (λ (q : List ℕ) (x : ℕ). setUnit q u (hexField + 1) x) (ap (setUnit p u hexField) low ∙ unit-idle p u hexField) high ∙ unit-idle p u (hexField + 1)
 
-pub hex-restored : {p : List ℕ} → Shaped p → (u h : ℕ) → u < count p → unitByte p u 2 < 256 → hex p u < hexes p → make (make p (placed u h)) (placed u (hex p u)) ≡ p
+pub hex-restored : {p : List ℕ} → Shaped p → (u h : ℕ) → u < count p → unitByte p u hexField < 256 → hex p u < hexes p → make (make p (placed u h)) (placed u (hex p u)) ≡ p
 unfolding make
 hex-restored {p} s u h l b m = at (decLt h (hexes p))
   where

@@ -7,7 +7,27 @@ use mathlib.Core.Bool.{Bool, true, false, cond}
 use native.Mathlib.Omega.{arith}
 use native.Mathlib.Nat.{mul-le-mul}
 use lib.Dec.{eqb}
-use Rattle.position.specs.Layout.{byte, word, extent, columns, mapAt, width, height, hexes, unitsAt, count, named}
+use Rattle.position.specs.Layout.{
+  deskBody,
+  resultsAt,
+  resultsHead,
+  columnSize,
+  widthField,
+  heightField,
+  playersField,
+  forces,
+  byte,
+  word,
+  extent,
+  columns,
+  mapAt,
+  width,
+  height,
+  hexes,
+  unitsAt,
+  count,
+  named,
+}
 use Rattle.position.specs.Shape.{In, Entry, Shaped}
 use Rattle.position.specs.Laid.{Laid}
 use Rattle.position.specs.declared.View.{View}
@@ -53,13 +73,13 @@ sizes l =
 
 -- the counts, read where the code looks for them
 module _ (p : List ℕ) {cols : ℕ} (e : cols ≡ columns p) where
-  pub width-is : byte p (57 + 8 * cols) ≡ width p
+  pub width-is : byte p (resultsAt + resultsHead + columnSize * cols + widthField) ≡ width p
   unfolding width mapAt
-  width-is = ap (λ (n : ℕ). byte p (57 + 8 * n)) e
+  width-is = ap (λ (n : ℕ). byte p (resultsAt + resultsHead + columnSize * n + widthField)) e
 
-  pub height-is : byte p (57 + 8 * cols + 1) ≡ height p
+  pub height-is : byte p (resultsAt + resultsHead + columnSize * cols + heightField) ≡ height p
   unfolding height mapAt
-  height-is = ap (λ (n : ℕ). byte p (57 + 8 * n + 1)) e
+  height-is = ap (λ (n : ℕ). byte p (resultsAt + resultsHead + columnSize * n + heightField)) e
 
 module _ (p : List ℕ) where
   pub hexes-is : {w h : ℕ} → w ≡ width p → h ≡ height p → w * h ≡ hexes p
@@ -70,11 +90,11 @@ module _ (p : List ℕ) where
   unfolding count
   count-is e = ap (word p) e
 
-  pub named-most : {n : ℕ} → n ≡ named p → n ≤ 4
+  pub named-most : {n : ℕ} → n ≡ named p → n ≤ forces
   unfolding named
-  named-most e = omega (arith, e, cond-most (eqb (extent p 4) 60))
+  named-most e = omega (arith, e, cond-most (eqb (extent p deskBody) (playersField + forces)))
     where
-      cond-most : (t : Bool) → cond t 4 0 ≤ 4
+      cond-most : (t : Bool) → cond t forces 0 ≤ forces
       cond-most true = omega arith
       cond-most false = omega arith
 

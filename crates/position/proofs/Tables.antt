@@ -5,10 +5,10 @@ use mathlib.Core.Path.{_≡_}
 use mathlib.Core.List.{List}
 use lib.ListN.{set}
 use borrow.Author.Tests.{lt-ltb, le-ltb}
-use Rattle.position.specs.Layout.{count, columnByte, code, unitAt, unitByte, hex, deskByte, routeField, route, playersField, named, player, setUnit}
+use Rattle.position.specs.Layout.{nowhere, codesField, hexField, routeCount, routeHexes, count, columnByte, code, unitAt, unitByte, hex, deskByte, routeField, route, playersField, named, player, setUnit}
 
 module _ (p : List ℕ) (c die : ℕ) where
-  pub code-in : 0 < die → die < 7 → code p c die ≡ columnByte p c (die + 1)
+  pub code-in : 0 < die → die < 7 → code p c die ≡ columnByte p c (codesField + die)
   unfolding code
   code-in l m = simp (lt-ltb 0 die l, lt-ltb die 7 m)
 
@@ -22,27 +22,27 @@ module _ (p : List ℕ) (c die : ℕ) where
   code-past l m = simp (lt-ltb 0 die l, le-ltb die 7 m)
 
 module _ (p : List ℕ) (u : ℕ) where
-  pub hex-in : u < count p → hex p u ≡ unitByte p u 2 + 256 * unitByte p u 3
+  pub hex-in : u < count p → hex p u ≡ unitByte p u hexField + 256 * unitByte p u (hexField + 1)
   unfolding hex
   hex-in l = simp (lt-ltb u (count p) l)
 
-  pub hex-out : count p ≤ u → hex p u ≡ 65535
+  pub hex-out : count p ≤ u → hex p u ≡ nowhere
   unfolding hex
   hex-out l = simp (le-ltb u (count p) l)
 
 module _ (p : List ℕ) (r j : ℕ) where
-  pub route-in : r < 6 → j < 4 → route p r j ≡ deskByte p (routeField r j) + 256 * deskByte p (routeField r j + 1)
+  pub route-in : r < routeCount → j < routeHexes → route p r j ≡ deskByte p (routeField r j) + 256 * deskByte p (routeField r j + 1)
   unfolding route
-  route-in l m = simp (lt-ltb r 6 l, lt-ltb j 4 m)
+  route-in l m = simp (lt-ltb r routeCount l, lt-ltb j routeHexes m)
 
   -- past the sixth route, and past the fourth number of one
-  pub route-past : 6 ≤ r → route p r j ≡ 65535
+  pub route-past : routeCount ≤ r → route p r j ≡ nowhere
   unfolding route
-  route-past l = simp (le-ltb r 6 l)
+  route-past l = simp (le-ltb r routeCount l)
 
-  pub route-over : r < 6 → 4 ≤ j → route p r j ≡ 65535
+  pub route-over : r < routeCount → routeHexes ≤ j → route p r j ≡ nowhere
   unfolding route
-  route-over l m = simp (lt-ltb r 6 l, le-ltb j 4 m)
+  route-over l m = simp (lt-ltb r routeCount l, le-ltb j routeHexes m)
 
 -- where the desk names a force's player, and where it does not
 module _ (p : List ℕ) (f : ℕ) where

@@ -9,6 +9,13 @@ use lib.Dec.{ltb}
 use borrow.Author.Tests.{ltb-true}
 use Rattle.position.specs.Bits.{has, tried, faced}
 use Rattle.position.specs.Layout.{
+  unitSize,
+  hexField,
+  marksField,
+  roleField,
+  routeCount,
+  routeHexes,
+  playersField,
   hexes,
   marks,
   setUnit,
@@ -34,34 +41,34 @@ use Rattle.position.proofs.Effects.{faced-face}
 pub record Twin (R : List ℕ → List ℕ → Type 0) : Type 0 where
   pub area : {p q : List ℕ} → R p q → hexes q ≡ hexes p
   pub shows : {p q : List ℕ} → R p q → (u : ℕ) → marks q u ≡ marks p u
-  pub field : {p q : List ℕ} → R p q → (u f x : ℕ) → f < 8 → (f ≡ 6 → ⊥) → R (setUnit p u f x) (setUnit q u f x)
+  pub field : {p q : List ℕ} → R p q → (u f x : ℕ) → f < unitSize → (f ≡ marksField → ⊥) → R (setUnit p u f x) (setUnit q u f x)
   pub face : {p q : List ℕ} → R p q → (u m : ℕ) → has tried m ≡ has tried (marks p u) → R (setMarks p u m) (setMarks q u m)
-  pub desk : {p q : List ℕ} → R p q → (f x : ℕ) → f < 56 → R (setDesk p f x) (setDesk q f x)
+  pub desk : {p q : List ℕ} → R p q → (f x : ℕ) → f < playersField → R (setDesk p f x) (setDesk q f x)
 
 hex-marks : (p : List ℕ) (u h w : ℕ) → marks (setHex p u h) w ≡ marks p w
 unfolding setHex
 hex-marks p u h w =
-    unit-unit (setUnit p u 2 (h % 256)) u 3 (h / 256) (omega arith) w 6 (omega arith) (λ e g. omega arith)
-    ∙ unit-unit p u 2 (h % 256) (omega arith) w 6 (omega arith) (λ e g. omega arith)
+    unit-unit (setUnit p u hexField (h % 256)) u (hexField + 1) (h / 256) (omega arith) w marksField (omega arith) (λ e g. omega arith)
+    ∙ unit-unit p u hexField (h % 256) (omega arith) w marksField (omega arith) (λ e g. omega arith)
 
 module _ {R : List ℕ → List ℕ → Type 0} (t : Twin R) where
   twin-role : {p q : List ℕ} → R p q → (u r : ℕ) → R (setRole p u r) (setRole q u r)
   unfolding setRole
-  twin-role s u r = t .field s u 7 r (omega arith) (omega arith)
+  twin-role s u r = t .field s u roleField r (omega arith) (omega arith)
 
   twin-hex : {p q : List ℕ} → R p q → (u h : ℕ) → R (setHex p u h) (setHex q u h)
   unfolding setHex
-  twin-hex s u h = t .field (t .field s u 2 (h % 256) (omega arith) (omega arith)) u 3 (h / 256) (omega arith) (omega arith)
+  twin-hex s u h = t .field (t .field s u hexField (h % 256) (omega arith) (omega arith)) u (hexField + 1) (h / 256) (omega arith) (omega arith)
 
-  twin-route-hex : {p q : List ℕ} → R p q → (r j h : ℕ) → r < 6 → j < 4 → R (setRouteHex p r j h) (setRouteHex q r j h)
+  twin-route-hex : {p q : List ℕ} → R p q → (r j h : ℕ) → r < routeCount → j < routeHexes → R (setRouteHex p r j h) (setRouteHex q r j h)
   unfolding setRouteHex
   twin-route-hex s r j h l m = t .desk (t .desk s _ _ (omega arith)) _ _ (omega arith)
 
   twin-route : {p q : List ℕ} → R p q → (r a b c d : ℕ) → R (setRoute p r a b c d) (setRoute q r a b c d)
   unfolding setRoute
-  twin-route {p} {q} s r a b c d = at (ltb r 6) (λ e. ltb-true r 6 e)
+  twin-route {p} {q} s r a b c d = at (ltb r routeCount) (λ e. ltb-true r routeCount e)
     where
-      at : (y : Bool) → (y ≡ true → r < 6) → R (cond y (setRouteHex (setRouteHex (setRouteHex (setRouteHex p r 0 a) r 1 b) r 2 c) r 3 d) p) (cond y (setRouteHex (setRouteHex (setRouteHex (setRouteHex q r 0 a) r 1 b) r 2 c) r 3 d) q)
+      at : (y : Bool) → (y ≡ true → r < routeCount) → R (cond y (setRouteHex (setRouteHex (setRouteHex (setRouteHex p r 0 a) r 1 b) r 2 c) r 3 d) p) (cond y (setRouteHex (setRouteHex (setRouteHex (setRouteHex q r 0 a) r 1 b) r 2 c) r 3 d) q)
       at true l =
           twin-route-hex
           (twin-route-hex (twin-route-hex (twin-route-hex s r 0 a (l refl) (omega arith)) r 1 b (l refl) (omega arith)) r 2 c (l refl) (omega arith))
@@ -98,7 +105,7 @@ module _ {R : List ℕ → List ℕ → Type 0} (t : Twin R) where
       unfold setStage in
       t .desk (t .desk (t .desk (t .desk s _ _ (omega arith)) _ _ (omega arith)) _ _ (omega arith)) _ _ (omega arith)
   twin-make s (routed r w x y z) = twin-route s r w x y z
-  twin-make s unrouted = twin-cleared s 6
+  twin-make s unrouted = twin-cleared s routeCount
 
   pub twin-makes : {p q : List ℕ} → R p q → (xs : List Change) → R (makes p xs) (makes q xs)
   unfolding makes

@@ -8,10 +8,11 @@ use lib.Dec.{eqb}
 use Rattle.position.specs.Bits.{has, tried}
 use Rattle.position.specs.Kind as Kind
 use Rattle.position.specs.Layout as Layout
+pub use Rattle.position.specs.Layout.{nowhere}
 use Rattle.position.specs.declared.forces.Relation.{Relation}
 use Rattle.position.specs.declared.forces.Relation.the-variants.{Enemy, Neutral}
 
--- cost and defence multiple of the terrains 0..15; 16 is the river side and 17 the major river side
+-- cost and defence multiple of the terrains, and behind them of the two river sides
 pub record Chart : Type 0 where
   pub cost : ℕ → ℕ
   pub multiple : ℕ → ℕ
@@ -23,6 +24,7 @@ pub record Results : Type 0 where
   pub defence : ℕ → ℕ
   pub code : ℕ → ℕ → ℕ
 
+-- what is printed on the map, which no call changes
 pub record Map : Type 0 where
   pub width : ℕ
   pub height : ℕ
@@ -113,10 +115,6 @@ desk p =
 
 abbrev pub board : List ℕ → Board
 board p = record { chart = chart p; results = results p; map = ground p; units = units p; desk = desk p }
-
--- the number that stands for no hex: a destroyed unit's, and an empty place of a route
-abbrev pub nowhere : ℕ
-nowhere = 65535
 
 -- the force of a unit
 unfoldable pub forceOf : Board → ℕ → ℕ

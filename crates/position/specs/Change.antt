@@ -6,7 +6,7 @@ use mathlib.Core.Bool.{cond}
 use lib.Dec.{ltb}
 use Rattle.position.specs.Bits.{with, tried, faced}
 use Rattle.position.specs.Layout as Layout
-use Rattle.position.specs.Layout.{setHex, setMarks, setRole, setClock, setStage, setRoute, clearRoutes}
+use Rattle.position.specs.Layout.{setHex, setMarks, setRole, setClock, setStage, setRoute, clearRoutes, routeCount}
 use Rattle.position.specs.Board.{nowhere}
 
 pub data Change : Type 0 where
@@ -35,7 +35,7 @@ make p (assigned u r) = setRole p u r
 make p (timed t f ph) = setClock p t f ph
 make p (staged s n x) = setStage p s n x
 make p (routed r a b c d) = setRoute p r a b c d
-make p unrouted = clearRoutes p 6
+make p unrouted = clearRoutes p routeCount
 
 -- one change after another
 unfoldable pub makes : List ℕ → List Change → List ℕ

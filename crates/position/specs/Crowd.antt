@@ -4,6 +4,7 @@ use Prim.Native.Nat.{ℕ}
 use mathlib.Core.Bool.{Bool, not, _&&_}
 use lib.Dec.{eqb, ltb}
 use Rattle.position.specs.Tally.{tally, any}
+use Rattle.position.specs.Layout.{routeCount}
 use Rattle.position.specs.Board.{Board, nowhere}
 
 -- the units that count towards three in hex h
@@ -32,4 +33,4 @@ unfoldable pub filled : Board → ℕ → Bool
 filled b r = not (eqb (b .desk .route r 0) nowhere)
 
 unfoldable pub routes : Board → ℕ
-routes b = tally (filled b) 6
+routes b = tally (filled b) routeCount

@@ -5,6 +5,7 @@ use mathlib.Core.Bool.{cond, _&&_}
 use mathlib.Core.List.{List, [], _∷_}
 use lib.Dec.{ltb, eqb}
 use Rattle.position.specs.Bits.{with, tried, faced}
+use Rattle.position.specs.Layout.{routeCount}
 use Rattle.position.specs.Board.{Board, Units, Desk, nowhere}
 use Rattle.position.specs.Change.{Change}
 use Rattle.position.specs.Change.Change.{placed, destroyed, marked, assigned, timed, staged, routed, unrouted}
@@ -118,7 +119,7 @@ ofFour (suc (suc (suc (suc j)))) a b c d = nowhere
 
 -- the routes f, but route r is the four numbers
 unfoldable pub reroute : (ℕ → ℕ → ℕ) → ℕ → ℕ → ℕ → ℕ → ℕ → ℕ → ℕ → ℕ
-reroute f r a b c d i j = cond (ltb r 6 && eqb i r) (ofFour j a b c d) (f i j)
+reroute f r a b c d i j = cond (ltb r routeCount && eqb i r) (ofFour j a b c d) (f i j)
 
 unfoldable pub unfilled : ℕ → ℕ → ℕ
 unfilled i j = nowhere

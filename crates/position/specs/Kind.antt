@@ -4,12 +4,50 @@ use Prim.Native.Nat.{ℕ, zero, suc}
 use mathlib.Core.Bool.{Bool, true, false, cond}
 use lib.Dec.{leb, eqb}
 
--- the two types that rules name by themselves
+-- the types by name, and how many there are
+abbrev pub armour : ℕ
+armour = 0
+
+abbrev pub mechanised : ℕ
+mechanised = 1
+
+abbrev pub infantry : ℕ
+infantry = 2
+
+abbrev pub militia : ℕ
+militia = 3
+
 abbrev pub special : ℕ
 special = 4
 
 abbrev pub supplyKind : ℕ
 supplyKind = 5
+
+abbrev pub kinds : ℕ
+kinds = 6
+
+-- "Nationalities: 0 S.A.U., 1 E.S.C., 2 P.A.L., 3 US, 4 Canada", and how many there are
+abbrev pub sau : ℕ
+sau = 0
+
+abbrev pub esc : ℕ
+esc = 1
+
+abbrev pub pal : ℕ
+pal = 2
+
+abbrev pub us : ℕ
+us = 3
+
+abbrev pub canada : ℕ
+canada = 4
+
+abbrev pub nationalities : ℕ
+nationalities = 5
+
+-- the force of US and Canada
+abbrev pub home : ℕ
+home = 3
 
 -- what a type's row of the table says; the last for what is no type
 abbrev pub byKind : {A : Type 0} → ℕ → A → A → A → A → A → A → A → A
@@ -41,13 +79,14 @@ movesInPhase2 k = byKind k true true false false false false false
 unfoldable pub alwaysTried : ℕ → Bool
 alwaysTried k = byKind k false false false false true true false
 
--- "Nationalities: 0 S.A.U., 1 E.S.C., 2 P.A.L., 3 US, 4 Canada; 3 and 4 form force 3."
+-- "3 and 4 form force 3": every other nationality is a force of its own
 unfoldable pub force : ℕ → ℕ
-force n = cond (eqb n 4) 3 n
+force n = cond (eqb n canada) home n
 
 -- the nationalities that a type may have: "militia (force 3 only)", "special infantry (P.A.L. only)", "supply unit (nationality 0..2 ..)"
 unfoldable pub mayBelong : ℕ → ℕ → Bool
-mayBelong k n = byKind k (leb n 4) (leb n 4) (leb n 4) (eqb (force n) 3) (eqb n 2) (leb n 2) false
+mayBelong k n =
+    byKind k (leb n canada) (leb n canada) (leb n canada) (eqb (force n) home) (eqb n pal) (leb n pal) false
 
 -- the allowance that a type may have: 0..30, and "supply unit (.. allowance 0)"
 unfoldable pub mayAllow : ℕ → ℕ → Bool

@@ -9,6 +9,10 @@ use lib.ListN.{length, getD, set}
 use lib.Dec.{ltb, eqb}
 use Rattle.position.specs.declared.View.{View}
 
+-- the number that stands for no hex: a destroyed unit's, and an empty place of a route
+abbrev pub nowhere : ℕ
+nowhere = 65535
+
 -- byte i, 0 past the end; and the 16-bit number at i, little-endian
 abbrev pub byte : List ℕ → ℕ → ℕ
 byte p i = getD p i 0
@@ -16,77 +20,39 @@ byte p i = getD p i 0
 unfoldable pub word : List ℕ → ℕ → ℕ
 word p i = byte p i + 256 * byte p (i + 1)
 
+-- the bodies, by their place in the contents
+abbrev pub chartBody : ℕ
+chartBody = 0
+
+abbrev pub resultsBody : ℕ
+resultsBody = 1
+
+abbrev pub mapBody : ℕ
+mapBody = 2
+
+abbrev pub unitsBody : ℕ
+unitsBody = 3
+
+abbrev pub deskBody : ℕ
+deskBody = 4
+
+-- how long an entry is, and where that of body k has its length, behind its offset
+abbrev pub entrySize : ℕ
+entrySize = 4
+
+abbrev pub extentAt : ℕ → ℕ
+extentAt k = entrySize * k + 2
+
 -- the entry of body k: its offset and its length
 unfoldable pub offset : List ℕ → ℕ → ℕ
-offset p k = word p (4 * k)
+offset p k = word p (entrySize * k)
 
 unfoldable pub extent : List ℕ → ℕ → ℕ
-extent p k = word p (4 * k + 2)
+extent p k = word p (extentAt k)
 
--- where the bodies begin, by the counts that they hold: chart, results, map, units, desk
-abbrev pub chartAt : ℕ
-chartAt = 20
-
-abbrev pub resultsAt : ℕ
-resultsAt = 56
-
-unfoldable pub columns : List ℕ → ℕ
-columns p = byte p resultsAt
-
--- how long each body is, by the counts that it holds
-abbrev pub chartLength : ℕ
-chartLength = 36
-
-abbrev pub resultsLength : List ℕ → ℕ
-resultsLength p = 1 + 8 * columns p
-
-unfoldable pub mapAt : List ℕ → ℕ
-mapAt p = resultsAt + 1 + 8 * columns p
-
-unfoldable pub width : List ℕ → ℕ
-width p = byte p (mapAt p)
-
-unfoldable pub height : List ℕ → ℕ
-height p = byte p (mapAt p + 1)
-
-unfoldable pub hexes : List ℕ → ℕ
-hexes p = width p * height p
-
-abbrev pub mapLength : List ℕ → ℕ
-mapLength p = 2 + 5 * hexes p
-
-unfoldable pub unitsAt : List ℕ → ℕ
-unitsAt p = mapAt p + 2 + 5 * hexes p
-
-unfoldable pub count : List ℕ → ℕ
-count p = word p (unitsAt p)
-
-abbrev pub unitsLength : List ℕ → ℕ
-unitsLength p = 2 + 8 * count p
-
--- where the desk names the players, behind all else; and how many it names: 4, or none, as its length in the contents says
-abbrev pub playersField : ℕ
-playersField = 56
-
-unfoldable pub named : List ℕ → ℕ
-named p = cond (eqb (extent p 4) (playersField + 4)) 4 0
-
-abbrev pub deskLength : List ℕ → ℕ
-deskLength p = playersField + named p
-
-unfoldable pub deskAt : List ℕ → ℕ
-deskAt p = unitsAt p + 2 + 8 * count p
-
--- byte f of record k, in a table of n records of `size` bytes that begins at `start`; 0 past its last record
-unfoldable pub cell : List ℕ → ℕ → ℕ → ℕ → ℕ → ℕ → ℕ
-cell p start size n k f = cond (ltb k n) (byte p (start + size * k + f)) 0
-
--- "Chart, 36 bytes: 16 terrains of cost .. and defence multiple ..; then the same pair for river and major river"
-abbrev pub cost : List ℕ → ℕ → ℕ
-cost p t = cell p chartAt 2 18 t 0
-
-abbrev pub multiple : List ℕ → ℕ → ℕ
-multiple p t = cell p chartAt 2 18 t 1
+-- the chart's records, those of the terrains before those of the two river sides; how long one is, and its fields
+abbrev pub terrains : ℕ
+terrains = 16
 
 abbrev pub river : ℕ
 river = 16
@@ -94,103 +60,295 @@ river = 16
 abbrev pub majorRiver : ℕ
 majorRiver = 17
 
--- "Results: column count ..; per column a, d .., then six results for die 1..6"; columns are counted from 0 here
-unfoldable pub columnByte : List ℕ → ℕ → ℕ → ℕ
-columnByte p c f = cell p (resultsAt + 1) 8 (columns p) c f
+abbrev pub chartRows : ℕ
+chartRows = 18
 
-abbrev pub attackOdds : List ℕ → ℕ → ℕ
-attackOdds p c = columnByte p c 0
+abbrev pub terrainSize : ℕ
+terrainSize = 2
 
-abbrev pub defenceOdds : List ℕ → ℕ → ℕ
-defenceOdds p c = columnByte p c 1
+abbrev pub costField : ℕ
+costField = 0
 
--- the code for a die of 1..6, 0 for any other
-unfoldable pub code : List ℕ → ℕ → ℕ → ℕ
-code p c die = cond (ltb 0 die) (cond (ltb die 7) (columnByte p c (die + 1)) 0) 0
+abbrev pub multipleField : ℕ
+multipleField = 1
 
--- "Map: width, height; per hex terrain .., surface .., flags .., country .., sides .."
-unfoldable pub hexByte : List ℕ → ℕ → ℕ → ℕ
-hexByte p h f = cell p (mapAt p + 2) 5 (hexes p) h f
+-- what stands before the columns of the results; how long a column is, and its fields: the code for a die stands so far behind codesField
+abbrev pub resultsHead : ℕ
+resultsHead = 1
 
-abbrev pub terrain : List ℕ → ℕ → ℕ
-terrain p h = hexByte p h 0
+abbrev pub columnSize : ℕ
+columnSize = 8
 
-abbrev pub surface : List ℕ → ℕ → ℕ
-surface p h = hexByte p h 1
+abbrev pub attackField : ℕ
+attackField = 0
 
-abbrev pub flags : List ℕ → ℕ → ℕ
-flags p h = hexByte p h 2
+abbrev pub defenceField : ℕ
+defenceField = 1
 
-abbrev pub country : List ℕ → ℕ → ℕ
-country p h = hexByte p h 3
+abbrev pub codesField : ℕ
+codesField = 1
 
-abbrev pub sides : List ℕ → ℕ → ℕ
-sides p h = hexByte p h 4
+-- what stands before the hexes of the map, and its fields; how long a hex is, and its fields
+abbrev pub mapHead : ℕ
+mapHead = 2
 
--- "Units: 16-bit count ..; per unit nationality, type, 16-bit hex .., strength .., allowance .., marks .., role"
-unfoldable pub unitAt : List ℕ → ℕ → ℕ
-unitAt p u = unitsAt p + 2 + 8 * u
+abbrev pub widthField : ℕ
+widthField = 0
 
-unfoldable pub unitByte : List ℕ → ℕ → ℕ → ℕ
-unitByte p u f = cell p (unitsAt p + 2) 8 (count p) u f
+abbrev pub heightField : ℕ
+heightField = 1
 
-abbrev pub nationality : List ℕ → ℕ → ℕ
-nationality p u = unitByte p u 0
+abbrev pub hexSize : ℕ
+hexSize = 5
 
-abbrev pub kind : List ℕ → ℕ → ℕ
-kind p u = unitByte p u 1
+abbrev pub terrainField : ℕ
+terrainField = 0
 
--- 65535 also for a unit that is not there
-unfoldable pub hex : List ℕ → ℕ → ℕ
-hex p u = cond (ltb u (count p)) (unitByte p u 2 + 256 * unitByte p u 3) 65535
+abbrev pub surfaceField : ℕ
+surfaceField = 1
+
+abbrev pub flagsField : ℕ
+flagsField = 2
+
+abbrev pub countryField : ℕ
+countryField = 3
+
+abbrev pub sidesField : ℕ
+sidesField = 4
+
+-- what stands before the units; how long a unit is, and its fields
+abbrev pub unitsHead : ℕ
+unitsHead = 2
+
+abbrev pub unitSize : ℕ
+unitSize = 8
+
+abbrev pub nationalityField : ℕ
+nationalityField = 0
+
+abbrev pub kindField : ℕ
+kindField = 1
+
+abbrev pub hexField : ℕ
+hexField = 2
 
 abbrev pub strengthField : ℕ
 strengthField = 4
+
+abbrev pub allowanceField : ℕ
+allowanceField = 5
+
+abbrev pub marksField : ℕ
+marksField = 6
+
+abbrev pub roleField : ℕ
+roleField = 7
+
+-- the fields of the desk; how many routes there are, how many hexes are in one, and how long a route and a number of it are
+abbrev pub turnField : ℕ
+turnField = 0
+
+abbrev pub lastTurnField : ℕ
+lastTurnField = 1
+
+abbrev pub forceField : ℕ
+forceField = 2
+
+abbrev pub phaseField : ℕ
+phaseField = 3
+
+abbrev pub stageField : ℕ
+stageField = 4
+
+abbrev pub owedField : ℕ
+owedField = 5
+
+abbrev pub needField : ℕ
+needField = 6
+
+abbrev pub routesField : ℕ
+routesField = 8
+
+abbrev pub routeCount : ℕ
+routeCount = 6
+
+abbrev pub routeHexes : ℕ
+routeHexes = 4
+
+abbrev pub placeSize : ℕ
+placeSize = 2
+
+abbrev pub routeSize : ℕ
+routeSize = 8
+
+-- where the routes end; and where the desk names the players, behind all else, one for each force
+abbrev pub routesEnd : ℕ
+routesEnd = 56
+
+abbrev pub playersField : ℕ
+playersField = 56
+
+abbrev pub forces : ℕ
+forces = 4
+
+-- where the bodies begin, and how long each is, by the counts that they hold: chart, results, map, units, desk
+abbrev pub chartAt : ℕ
+chartAt = 20
+
+abbrev pub chartLength : ℕ
+chartLength = 36
+
+abbrev pub resultsAt : ℕ
+resultsAt = 56
+
+unfoldable pub columns : List ℕ → ℕ
+columns p = byte p resultsAt
+
+abbrev pub resultsLength : List ℕ → ℕ
+resultsLength p = resultsHead + columnSize * columns p
+
+unfoldable pub mapAt : List ℕ → ℕ
+mapAt p = resultsAt + resultsHead + columnSize * columns p
+
+unfoldable pub width : List ℕ → ℕ
+width p = byte p (mapAt p + widthField)
+
+unfoldable pub height : List ℕ → ℕ
+height p = byte p (mapAt p + heightField)
+
+unfoldable pub hexes : List ℕ → ℕ
+hexes p = width p * height p
+
+abbrev pub mapLength : List ℕ → ℕ
+mapLength p = mapHead + hexSize * hexes p
+
+unfoldable pub unitsAt : List ℕ → ℕ
+unitsAt p = mapAt p + mapHead + hexSize * hexes p
+
+unfoldable pub count : List ℕ → ℕ
+count p = word p (unitsAt p)
+
+abbrev pub unitsLength : List ℕ → ℕ
+unitsLength p = unitsHead + unitSize * count p
+
+unfoldable pub deskAt : List ℕ → ℕ
+deskAt p = unitsAt p + unitsHead + unitSize * count p
+
+-- how many players the desk names: one for each force, or none, as its length in the contents says
+unfoldable pub named : List ℕ → ℕ
+named p = cond (eqb (extent p deskBody) (playersField + forces)) forces 0
+
+abbrev pub deskLength : List ℕ → ℕ
+deskLength p = playersField + named p
+
+-- byte f of record k, in a table of n records of `size` bytes that begins at `start`; 0 past its last record
+unfoldable pub cell : List ℕ → ℕ → ℕ → ℕ → ℕ → ℕ → ℕ
+cell p start size n k f = cond (ltb k n) (byte p (start + size * k + f)) 0
+
+-- "Chart, 36 bytes: 16 terrains of cost .. and defence multiple ..; then the same pair for river and major river"
+abbrev pub chartByte : List ℕ → ℕ → ℕ → ℕ
+chartByte p t f = cell p chartAt terrainSize chartRows t f
+
+abbrev pub cost : List ℕ → ℕ → ℕ
+cost p t = chartByte p t costField
+
+abbrev pub multiple : List ℕ → ℕ → ℕ
+multiple p t = chartByte p t multipleField
+
+-- "Results: column count ..; per column a, d .., then six results for die 1..6"; columns are counted from 0 here
+unfoldable pub columnByte : List ℕ → ℕ → ℕ → ℕ
+columnByte p c f = cell p (resultsAt + resultsHead) columnSize (columns p) c f
+
+abbrev pub attackOdds : List ℕ → ℕ → ℕ
+attackOdds p c = columnByte p c attackField
+
+abbrev pub defenceOdds : List ℕ → ℕ → ℕ
+defenceOdds p c = columnByte p c defenceField
+
+-- the code for a die of 1..6, 0 for any other
+unfoldable pub code : List ℕ → ℕ → ℕ → ℕ
+code p c die = cond (ltb 0 die) (cond (ltb die 7) (columnByte p c (codesField + die)) 0) 0
+
+-- "Map: width, height; per hex terrain .., surface .., flags .., country .., sides .."
+unfoldable pub hexByte : List ℕ → ℕ → ℕ → ℕ
+hexByte p h f = cell p (mapAt p + mapHead) hexSize (hexes p) h f
+
+abbrev pub terrain : List ℕ → ℕ → ℕ
+terrain p h = hexByte p h terrainField
+
+abbrev pub surface : List ℕ → ℕ → ℕ
+surface p h = hexByte p h surfaceField
+
+abbrev pub flags : List ℕ → ℕ → ℕ
+flags p h = hexByte p h flagsField
+
+abbrev pub country : List ℕ → ℕ → ℕ
+country p h = hexByte p h countryField
+
+abbrev pub sides : List ℕ → ℕ → ℕ
+sides p h = hexByte p h sidesField
+
+-- "Units: 16-bit count ..; per unit nationality, type, 16-bit hex .., strength .., allowance .., marks .., role"
+unfoldable pub unitAt : List ℕ → ℕ → ℕ
+unitAt p u = unitsAt p + unitsHead + unitSize * u
+
+unfoldable pub unitByte : List ℕ → ℕ → ℕ → ℕ
+unitByte p u f = cell p (unitsAt p + unitsHead) unitSize (count p) u f
+
+abbrev pub nationality : List ℕ → ℕ → ℕ
+nationality p u = unitByte p u nationalityField
+
+abbrev pub kind : List ℕ → ℕ → ℕ
+kind p u = unitByte p u kindField
+
+-- nowhere also for a unit that is not there
+unfoldable pub hex : List ℕ → ℕ → ℕ
+hex p u = cond (ltb u (count p)) (unitByte p u hexField + 256 * unitByte p u (hexField + 1)) nowhere
 
 abbrev pub strength : List ℕ → ℕ → ℕ
 strength p u = unitByte p u strengthField
 
 abbrev pub allowance : List ℕ → ℕ → ℕ
-allowance p u = unitByte p u 5
+allowance p u = unitByte p u allowanceField
 
 abbrev pub marks : List ℕ → ℕ → ℕ
-marks p u = unitByte p u 6
+marks p u = unitByte p u marksField
 
 abbrev pub role : List ℕ → ℕ → ℕ
-role p u = unitByte p u 7
+role p u = unitByte p u roleField
 
 -- "Desk, 56 bytes: turn .., last turn .., force .., phase .., stage, owed retreat n, 16-bit need, then six routes of four 16-bit hexes"
 unfoldable pub deskByte : List ℕ → ℕ → ℕ
 deskByte p f = byte p (deskAt p + f)
 
 abbrev pub turn : List ℕ → ℕ
-turn p = deskByte p 0
+turn p = deskByte p turnField
 
 abbrev pub lastTurn : List ℕ → ℕ
-lastTurn p = deskByte p 1
+lastTurn p = deskByte p lastTurnField
 
 abbrev pub phasing : List ℕ → ℕ
-phasing p = deskByte p 2
+phasing p = deskByte p forceField
 
 abbrev pub phase : List ℕ → ℕ
-phase p = deskByte p 3
+phase p = deskByte p phaseField
 
 abbrev pub stage : List ℕ → ℕ
-stage p = deskByte p 4
+stage p = deskByte p stageField
 
 abbrev pub owed : List ℕ → ℕ
-owed p = deskByte p 5
+owed p = deskByte p owedField
 
 unfoldable pub need : List ℕ → ℕ
-need p = deskByte p 6 + 256 * deskByte p 7
+need p = deskByte p needField + 256 * deskByte p (needField + 1)
 
 -- where the desk keeps number j of route r
 abbrev pub routeField : ℕ → ℕ → ℕ
-routeField r j = 8 + 8 * r + 2 * j
+routeField r j = routesField + routeSize * r + placeSize * j
 
--- 65535 also past the sixth route and the fourth number
+-- nowhere also past the sixth route and the fourth number
 unfoldable pub route : List ℕ → ℕ → ℕ → ℕ
-route p r j = cond (ltb r 6) (cond (ltb j 4) (deskByte p (routeField r j) + 256 * deskByte p (routeField r j + 1)) 65535) 65535
+route p r j = cond (ltb r routeCount) (cond (ltb j routeHexes) (deskByte p (routeField r j) + 256 * deskByte p (routeField r j + 1)) nowhere) nowhere
 
 -- "one byte per force naming its player, 0..3"; "Positions of the old length are read with four players"
 unfoldable pub player : List ℕ → ℕ → ℕ
@@ -198,7 +356,7 @@ player p f = cond (ltb f (named p)) (deskByte p (playersField + f)) f
 
 -- the position with a longer desk, which names the players 0, 1, 2, 3
 unfoldable pub withPlayers : List ℕ → List ℕ
-withPlayers p = set p (4 * 4 + 2) (playersField + 4) ++ (0 ∷ 1 ∷ 2 ∷ 3 ∷ [])
+withPlayers p = set p (extentAt deskBody) (playersField + forces) ++ (0 ∷ 1 ∷ 2 ∷ 3 ∷ [])
 
 -- the position with another number in byte f of unit u, or of the desk; as it was where there is no such unit
 unfoldable pub setUnit : List ℕ → ℕ → ℕ → ℕ → List ℕ
@@ -208,31 +366,32 @@ unfoldable pub setDesk : List ℕ → ℕ → ℕ → List ℕ
 setDesk p f x = set p (deskAt p + f) x
 
 unfoldable pub setHex : List ℕ → ℕ → ℕ → List ℕ
-setHex p u h = setUnit (setUnit p u 2 (h % 256)) u 3 (h / 256)
+setHex p u h = setUnit (setUnit p u hexField (h % 256)) u (hexField + 1) (h / 256)
 
 unfoldable pub setMarks : List ℕ → ℕ → ℕ → List ℕ
-setMarks p u m = setUnit p u 6 m
+setMarks p u m = setUnit p u marksField m
 
 unfoldable pub setRole : List ℕ → ℕ → ℕ → List ℕ
-setRole p u r = setUnit p u 7 r
+setRole p u r = setUnit p u roleField r
 
 unfoldable pub setClock : List ℕ → ℕ → ℕ → ℕ → List ℕ
-setClock p t f ph = setDesk (setDesk (setDesk p 0 t) 2 f) 3 ph
+setClock p t f ph = setDesk (setDesk (setDesk p turnField t) forceField f) phaseField ph
 
 unfoldable pub setStage : List ℕ → ℕ → ℕ → ℕ → List ℕ
-setStage p s n x = setDesk (setDesk (setDesk (setDesk p 4 s) 5 n) 6 (x % 256)) 7 (x / 256)
+setStage p s n x =
+    setDesk (setDesk (setDesk (setDesk p stageField s) owedField n) needField (x % 256)) (needField + 1) (x / 256)
 
 unfoldable pub setRouteHex : List ℕ → ℕ → ℕ → ℕ → List ℕ
 setRouteHex p r j h = setDesk (setDesk p (routeField r j) (h % 256)) (routeField r j + 1) (h / 256)
 
 unfoldable pub setRoute : List ℕ → ℕ → ℕ → ℕ → ℕ → ℕ → List ℕ
 setRoute p r a b c d =
-    cond (ltb r 6) (setRouteHex (setRouteHex (setRouteHex (setRouteHex p r 0 a) r 1 b) r 2 c) r 3 d) p
+    cond (ltb r routeCount) (setRouteHex (setRouteHex (setRouteHex (setRouteHex p r 0 a) r 1 b) r 2 c) r 3 d) p
 
 -- the first n routes emptied
 unfoldable pub clearRoutes : List ℕ → ℕ → List ℕ
 clearRoutes p zero = p
-clearRoutes p (suc n) = setRoute (clearRoutes p n) n 65535 65535 65535 65535
+clearRoutes p (suc n) = setRoute (clearRoutes p n) n nowhere nowhere nowhere nowhere
 
 -- the view v is the position's: its counts, where its units and its desk begin, and how many players it names
 pub record ViewOf (p : List ℕ) (v : View) : Type 0 where
@@ -241,16 +400,16 @@ pub record ViewOf (p : List ℕ) (v : View) : Type 0 where
   pub hexes : v .hexes ≡ hexes p
   pub columns : v .columns ≡ columns p
   pub count : v .count ≡ count p
-  pub units : v .units ≡ unitsAt p + 2
+  pub units : v .units ≡ unitsAt p
   pub desk : v .desk ≡ deskAt p
   pub named : v .named ≡ named p
 
 -- the bodies of a view lie one after the other and fill `long` bytes; no count is above its limit
 pub record Fits (long : ℕ) (v : View) : Type 0 where
-  pub units : v .units ≡ resultsAt + 1 + 8 * v .columns + 2 + 5 * v .hexes + 2
-  pub desk : v .desk ≡ v .units + 8 * v .count
+  pub units : v .units ≡ resultsAt + resultsHead + columnSize * v .columns + mapHead + hexSize * v .hexes
+  pub desk : v .desk ≡ v .units + unitsHead + unitSize * v .count
   pub whole : long ≡ v .desk + playersField + v .named
   pub columns : v .columns ≤ 12
   pub hexes : v .hexes ≤ 4096
   pub count : v .count ≤ 400
-  pub named : v .named ≤ 4
+  pub named : v .named ≤ forces

@@ -19,17 +19,17 @@ pub record Entry (p : List ℕ) (k at long : ℕ) : Type 0 where
 -- "Five entries of offset and length .., then the bodies in this order, without gap or tail"
 pub record Shaped (p : List ℕ) : Type 0 where
   -- "Chart, 36 bytes"
-  pub chart : Entry p 0 Layout.chartAt Layout.chartLength
+  pub chart : Entry p Layout.chartBody Layout.chartAt Layout.chartLength
   -- "Results: column count 1..12; per column a, d .., then six results"
-  pub results : Entry p 1 Layout.resultsAt (Layout.resultsLength p)
+  pub results : Entry p Layout.resultsBody Layout.resultsAt (Layout.resultsLength p)
   pub columns : In 1 (Layout.columns p) 12
   -- "Map: width, height; per hex" five numbers; "Width and height are 1 to 64."
-  pub map : Entry p 2 (Layout.mapAt p) (Layout.mapLength p)
+  pub map : Entry p Layout.mapBody (Layout.mapAt p) (Layout.mapLength p)
   pub width : In 1 (Layout.width p) 64
   pub height : In 1 (Layout.height p) 64
   -- "Units: 16-bit count 0..400; per unit" eight bytes
-  pub units : Entry p 3 (Layout.unitsAt p) (Layout.unitsLength p)
+  pub units : Entry p Layout.unitsBody (Layout.unitsAt p) (Layout.unitsLength p)
   pub count : Layout.count p ≤ 400
   -- "Desk, 56 bytes", and four more if it names the players
-  pub desk : Entry p 4 (Layout.deskAt p) (Layout.deskLength p)
+  pub desk : Entry p Layout.deskBody (Layout.deskAt p) (Layout.deskLength p)
   pub whole : length p ≡ Layout.deskAt p + Layout.deskLength p

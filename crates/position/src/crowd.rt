@@ -4,9 +4,8 @@ ghost use Rattle.position.specs.Board.{board};
 ghost use Rattle.position.specs.Crowd.{crowd, others, holders, filled, routes};
 ghost use Rattle.position.specs.Laid.{Laid, Read};
 use crate::View;
+use crate::layout;
 use crate::read;
-
-pub const NOWHERE: usize = 65535;
 
 // How many units stand in hex `h`.
 pub fn crowd(p: &[u8], v: View, h: usize) -> usize
@@ -60,7 +59,7 @@ pub fn filled(p: &[u8], v: View, r: usize) -> bool
     requires { ⌜ Laid (now p) v ⌝ }
     ensures { λ b. ⌜ b ≡ filled (board (now (p .entry))) r ⌝ }
 {
-    read::route(p, v, r, 0) != NOWHERE
+    read::route(p, v, r, 0) != layout::NOWHERE
 }
 
 // How many routes are filled.
@@ -69,7 +68,7 @@ pub fn routes(p: &[u8], v: View) -> usize
     ensures { λ n. ⌜ Read (routes (board (now (p .entry)))) 7 n ⌝ }
 {
     let mut n = 0;
-    for r in 0..6 {
+    for r in 0..layout::ROUTE_COUNT {
         if filled(p, v, r) {
             n += 1;
         }

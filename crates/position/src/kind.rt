@@ -2,6 +2,15 @@
 ghost use mathlib.Core.Path.{_≡_};
 ghost use Rattle.position.specs.Kind.{castsZone, mayAttack, movesByLand, movesInPhase2, alwaysTried, force, mayBelong, mayAllow};
 
+// The nationalities that rules name, and the force of US and Canada.
+pub const PAL: usize = 2;
+
+pub const US: usize = 3;
+
+pub const CANADA: usize = 4;
+
+pub const HOME: usize = 3;
+
 pub struct Kind(pub usize);
 
 impl Kind {
@@ -61,16 +70,16 @@ impl Kind {
     {
         let k = self.0;
         if k == Kind::MILITIA {
-            return force(nationality) == 3;
+            return force(nationality) == HOME;
         }
         if k == Kind::SPECIAL {
-            return nationality == 2;
+            return nationality == PAL;
         }
         if k == Kind::SUPPLY {
-            return nationality <= 2;
+            return nationality <= PAL;
         }
         if k <= Kind::INFANTRY {
-            return nationality <= 4;
+            return nationality <= CANADA;
         }
         false
     }
@@ -94,8 +103,8 @@ impl Kind {
 pub fn force(nationality: usize) -> usize
     ensures { λ r. ⌜ r ≡ force nationality ⌝ }
 {
-    if nationality == 4 {
-        return 3;
+    if nationality == CANADA {
+        return HOME;
     }
     nationality
 }

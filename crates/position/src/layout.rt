@@ -2,21 +2,46 @@
 ghost use mathlib.Core.Path.{_≡_};
 ghost use Prim.Native.Nat.{_+_, _*_, _<_, _≤_};
 ghost use lib.ListN.{length};
-ghost use Rattle.position.specs.Layout.{byte, word, cell, named, columnByte, hexByte, unitByte, deskByte, setUnit, setDesk};
+ghost use Rattle.position.specs.Layout.{terrainSize, columnSize, hexSize, unitSize, playersField, chartAt};
+ghost use Rattle.position.specs.Layout.{byte, word, cell, named, chartByte, columnByte, hexByte, unitByte, deskByte, setUnit, setDesk};
 ghost use Rattle.position.specs.Laid.{Laid, Read};
 use crate::View;
 
-// Where the contents name the desk, and how many forces it names the players of if it does.
-const DESK_ENTRY: usize = 16;
+// The number that stands for no hex.
+pub const NOWHERE: usize = 65535;
 
-const FORCES: usize = 4;
+// The bodies, by their place in the contents; how long an entry is there, and where it has its body's length.
+pub const CHART_BODY: usize = 0;
 
-// Where the first two bodies begin, how long the chart is, and how long a record of each other body is.
+pub const RESULTS_BODY: usize = 1;
+
+pub const MAP_BODY: usize = 2;
+
+pub const UNITS_BODY: usize = 3;
+
+pub const DESK_BODY: usize = 4;
+
+pub const ENTRY_SIZE: usize = 4;
+
+pub const EXTENT: usize = 2;
+
+const DESK_EXTENT: usize = ENTRY_SIZE * DESK_BODY + EXTENT;
+
+// Where the first two bodies begin, and how long the chart is.
 pub const CHART: usize = 20;
+
+pub const CHART_LENGTH: usize = 36;
 
 pub const RESULTS: usize = 56;
 
-pub const CHART_LENGTH: usize = 36;
+// What stands before the records of a body, and how long a record is.
+pub const RESULTS_HEAD: usize = 1;
+
+pub const MAP_HEAD: usize = 2;
+
+pub const UNITS_HEAD: usize = 2;
+
+pub const CHART_ROWS: usize = 18;
 
 pub const TERRAIN_SIZE: usize = 2;
 
@@ -26,12 +51,24 @@ pub const HEX_SIZE: usize = 5;
 
 pub const UNIT_SIZE: usize = 8;
 
-// How long a route is, and a number of it.
+// How many routes the desk keeps and how many hexes are in one; how long a route is, and a number of it.
+pub const ROUTE_COUNT: usize = 6;
+
+pub const ROUTE_HEXES: usize = 4;
+
 pub const ROUTE_SIZE: usize = 8;
 
 pub const PLACE_SIZE: usize = 2;
 
-// The fields of a terrain's record, of a column's, of a hex's, of a unit's and of the desk.
+// How many forces the desk names the players of, if it does.
+pub const FORCES: usize = 4;
+
+// The records of the two river sides stand behind those of the terrains.
+pub const RIVER: usize = 16;
+
+pub const MAJOR_RIVER: usize = 17;
+
+// The fields of a terrain's record, of a column's, of the map's head, of a hex's, of a unit's and of the desk.
 pub const COST: usize = 0;
 
 pub const MULTIPLE: usize = 1;
@@ -41,6 +78,10 @@ pub const ATTACK: usize = 0;
 pub const DEFENCE: usize = 1;
 
 pub const CODES: usize = 1;
+
+pub const WIDTH: usize = 0;
+
+pub const HEIGHT: usize = 1;
 
 pub const TERRAIN: usize = 0;
 
@@ -100,10 +141,10 @@ pub fn word(p: &[u8], at: usize) -> usize
 
 // How many players the desk names: its length in the contents tells.
 pub fn named(p: &[u8]) -> usize
-    requires { ⌜ 20 ≤ length (now p) ⌝ }
+    requires { ⌜ chartAt ≤ length (now p) ⌝ }
     ensures { λ r. ⌜ r ≡ named (now (p .entry)) ⌝ }
 {
-    if word(p, DESK_ENTRY + 2) == PLAYERS + FORCES {
+    if word(p, DESK_EXTENT) == PLAYERS + FORCES {
         return FORCES;
     }
     0
@@ -121,26 +162,26 @@ fn cell(p: &[u8], start: usize, size: usize, n: usize, k: usize, f: usize) -> us
 }
 
 pub fn chart_byte(p: &[u8], v: View, t: usize, f: usize) -> usize
-    requires { ⌜ Laid (now p) v × (f < 2) ⌝ }
-    ensures { λ r. ⌜ Read (cell (now (p .entry)) 20 2 18 t f) 256 r ⌝ }
+    requires { ⌜ Laid (now p) v × (f < terrainSize) ⌝ }
+    ensures { λ r. ⌜ Read (chartByte (now (p .entry)) t f) 256 r ⌝ }
 {
-    cell(p, CHART, TERRAIN_SIZE, 18, t, f)
+    cell(p, CHART, TERRAIN_SIZE, CHART_ROWS, t, f)
 }
 
 pub fn column_byte(p: &[u8], v: View, c: usize, f: usize) -> usize
-    requires { ⌜ Laid (now p) v × (f < 8) ⌝ }
+    requires { ⌜ Laid (now p) v × (f < columnSize) ⌝ }
     ensures { λ r. ⌜ Read (columnByte (now (p .entry)) c f) 256 r ⌝ }
 {
-    cell(p, RESULTS + 1, COLUMN_SIZE, v.columns, c, f)
+    cell(p, RESULTS + RESULTS_HEAD, COLUMN_SIZE, v.columns, c, f)
 }
 
 pub fn hex_byte(p: &[u8], v: View, h: usize, f: usize) -> usize
-    requires { ⌜ Laid (now p) v × (f < 5) ⌝ }
+    requires { ⌜ Laid (now p) v × (f < hexSize) ⌝ }
     ensures { λ r. ⌜ Read (hexByte (now (p .entry)) h f) 256 r ⌝ }
 {
     cell(
         p,
-        RESULTS + 1 + COLUMN_SIZE * v.columns + 2,
+        RESULTS + RESULTS_HEAD + COLUMN_SIZE * v.columns + MAP_HEAD,
         HEX_SIZE,
         v.hexes,
         h,
@@ -149,14 +190,14 @@ pub fn hex_byte(p: &[u8], v: View, h: usize, f: usize) -> usize
 }
 
 pub fn unit_byte(p: &[u8], v: View, u: usize, f: usize) -> usize
-    requires { ⌜ Laid (now p) v × (f < 8) ⌝ }
+    requires { ⌜ Laid (now p) v × (f < unitSize) ⌝ }
     ensures { λ r. ⌜ Read (unitByte (now (p .entry)) u f) 256 r ⌝ }
 {
-    cell(p, v.units, UNIT_SIZE, v.count, u, f)
+    cell(p, v.units + UNITS_HEAD, UNIT_SIZE, v.count, u, f)
 }
 
 pub fn desk_byte(p: &[u8], v: View, f: usize) -> usize
-    requires { ⌜ Laid (now p) v × (f < 56 + v .named) ⌝ }
+    requires { ⌜ Laid (now p) v × (f < playersField + v .named) ⌝ }
     ensures { λ r. ⌜ Read (deskByte (now (p .entry)) f) 256 r ⌝ }
 {
     let at = v.desk + f;
@@ -165,19 +206,19 @@ pub fn desk_byte(p: &[u8], v: View, f: usize) -> usize
 
 // Byte `f` of unit `u` becomes `x`; nothing changes where there is no such unit.
 pub fn set_unit(p: &mut [u8], v: View, u: usize, f: usize, x: usize)
-    requires { ⌜ Laid (now p) v × (f < 8) × (x < 256) ⌝ }
+    requires { ⌜ Laid (now p) v × (f < unitSize) × (x < 256) ⌝ }
     ensures { λ _. ⌜ now (p .exit) ≡ setUnit (now (p .entry)) u f x ⌝ }
 {
     let count = v.count;
     if u < count {
-        let at = v.units + UNIT_SIZE * u + f;
+        let at = v.units + UNITS_HEAD + UNIT_SIZE * u + f;
         p[at] = x as u8;
     }
 }
 
 // Byte `f` of the desk becomes `x`.
 pub fn set_desk(p: &mut [u8], v: View, f: usize, x: usize)
-    requires { ⌜ Laid (now p) v × (f < 56) × (x < 256) ⌝ }
+    requires { ⌜ Laid (now p) v × (f < playersField) × (x < 256) ⌝ }
     ensures { λ _. ⌜ now (p .exit) ≡ setDesk (now (p .entry)) f x ⌝ }
 {
     let at = v.desk + f;

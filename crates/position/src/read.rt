@@ -135,7 +135,7 @@ pub fn hex(p: &[u8], v: View, u: usize) -> usize
 {
     let count = v.count;
     if count <= u {
-        return 65535;
+        return layout::NOWHERE;
     }
     layout::unit_byte(p, v, u, layout::HEX) + 256 * layout::unit_byte(p, v, u, layout::HEX + 1)
 }
@@ -234,11 +234,11 @@ pub fn route(p: &[u8], v: View, r: usize, j: usize) -> usize
     requires { ⌜ Laid (now p) v ⌝ }
     ensures { λ x. ⌜ Read (route (now (p .entry)) r j) 65536 x ⌝ }
 {
-    if 6 <= r {
-        return 65535;
+    if layout::ROUTE_COUNT <= r {
+        return layout::NOWHERE;
     }
-    if 4 <= j {
-        return 65535;
+    if layout::ROUTE_HEXES <= j {
+        return layout::NOWHERE;
     }
     let at = layout::ROUTES + layout::ROUTE_SIZE * r + layout::PLACE_SIZE * j;
     layout::desk_byte(p, v, at) + 256 * layout::desk_byte(p, v, at + 1)

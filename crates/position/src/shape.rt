@@ -2,7 +2,7 @@
 ghost use mathlib.Core.Path.{_≡_};
 ghost use Prim.Native.Nat.{_+_, _*_, _<_, _≤_};
 ghost use lib.ListN.{length};
-ghost use Rattle.position.specs.Layout.{columns, width, height};
+ghost use Rattle.position.specs.Layout.{deskBody, chartAt, columns, width, height};
 ghost use Rattle.position.specs.Shape.{In, Entry};
 ghost use Rattle.position.specs.Laid.{LaidOf, SizedOf, Says};
 use crate::Checked;
@@ -17,15 +17,17 @@ fn with_units(p: &[u8], cols: usize, wide: usize, high: usize) -> Checked
     ensures { λ r. ⌜ SizedOf (now (p .entry)) r ⌝ }
 {
     let hexes = wide * high;
-    let units = layout::RESULTS + 1 + layout::COLUMN_SIZE * cols + 2 + layout::HEX_SIZE * hexes + 2;
-    if p.len() < units {
+    let units = layout::RESULTS + layout::RESULTS_HEAD + layout::COLUMN_SIZE * cols
+        + layout::MAP_HEAD
+        + layout::HEX_SIZE * hexes;
+    if p.len() < units + layout::UNITS_HEAD {
         return Checked::Broken;
     }
-    let count = layout::word(p, units - 2);
+    let count = layout::word(p, units);
     if 400 < count {
         return Checked::Broken;
     }
-    let desk = units + layout::UNIT_SIZE * count;
+    let desk = units + layout::UNITS_HEAD + layout::UNIT_SIZE * count;
     let named = layout::named(p);
     if p.len() != desk + layout::PLAYERS + named {
         return Checked::Broken;
@@ -47,12 +49,12 @@ fn with_map(p: &[u8], cols: usize) -> Checked
     requires { ⌜ (cols ≡ columns (now p)) × In 1 cols 12 ⌝ }
     ensures { λ r. ⌜ SizedOf (now (p .entry)) r ⌝ }
 {
-    let map = layout::RESULTS + 1 + layout::COLUMN_SIZE * cols;
-    if p.len() < map + 2 {
+    let map = layout::RESULTS + layout::RESULTS_HEAD + layout::COLUMN_SIZE * cols;
+    if p.len() < map + layout::MAP_HEAD {
         return Checked::Broken;
     }
-    let wide = layout::wide(p[map]);
-    let high = layout::wide(p[map + 1]);
+    let wide = layout::wide(p[map + layout::WIDTH]);
+    let high = layout::wide(p[map + layout::HEIGHT]);
     if !within(1, wide, 64) {
         return Checked::Broken;
     }
@@ -79,7 +81,7 @@ pub fn within(lo: usize, n: usize, hi: usize) -> bool
 fn sized(p: &[u8]) -> Checked
     ensures { λ r. ⌜ SizedOf (now (p .entry)) r ⌝ }
 {
-    if p.len() < layout::RESULTS + 1 {
+    if p.len() < layout::RESULTS + layout::RESULTS_HEAD {
         return Checked::Broken;
     }
     let cols = layout::wide(p[layout::RESULTS]);
@@ -91,13 +93,13 @@ fn sized(p: &[u8]) -> Checked
 
 // Whether entry `k` of the contents names a body that begins at `at` and is `long` bytes long.
 fn entry(p: &[u8], k: usize, at: usize, long: usize) -> bool
-    requires { ⌜ (k < 5) × (20 ≤ length (now p)) ⌝ }
+    requires { ⌜ (k ≤ deskBody) × (chartAt ≤ length (now p)) ⌝ }
     ensures { λ r. ⌜ Says r (Entry (now (p .entry)) k at long) ⌝ }
 {
-    if layout::word(p, 4 * k) != at {
+    if layout::word(p, layout::ENTRY_SIZE * k) != at {
         return false;
     }
-    if layout::word(p, 4 * k + 2) != long {
+    if layout::word(p, layout::ENTRY_SIZE * k + layout::EXTENT) != long {
         return false;
     }
     true
@@ -110,24 +112,34 @@ pub fn shape(p: &[u8]) -> Checked
     let Checked::Whole(v) = sized(p) else {
         return Checked::Broken;
     };
-    if !entry(p, 0, layout::CHART, layout::CHART_LENGTH) {
-        return Checked::Broken;
-    }
-    if !entry(p, 1, layout::RESULTS, 1 + layout::COLUMN_SIZE * v.columns) {
+    if !entry(p, layout::CHART_BODY, layout::CHART, layout::CHART_LENGTH) {
         return Checked::Broken;
     }
     if !entry(
         p,
-        2,
-        layout::RESULTS + 1 + layout::COLUMN_SIZE * v.columns,
-        2 + layout::HEX_SIZE * v.hexes,
+        layout::RESULTS_BODY,
+        layout::RESULTS,
+        layout::RESULTS_HEAD + layout::COLUMN_SIZE * v.columns,
     ) {
         return Checked::Broken;
     }
-    if !entry(p, 3, v.units - 2, 2 + layout::UNIT_SIZE * v.count) {
+    if !entry(
+        p,
+        layout::MAP_BODY,
+        layout::RESULTS + layout::RESULTS_HEAD + layout::COLUMN_SIZE * v.columns,
+        layout::MAP_HEAD + layout::HEX_SIZE * v.hexes,
+    ) {
         return Checked::Broken;
     }
-    if !entry(p, 4, v.desk, layout::PLAYERS + v.named) {
+    if !entry(
+        p,
+        layout::UNITS_BODY,
+        v.units,
+        layout::UNITS_HEAD + layout::UNIT_SIZE * v.count,
+    ) {
+        return Checked::Broken;
+    }
+    if !entry(p, layout::DESK_BODY, v.desk, layout::PLAYERS + v.named) {
         return Checked::Broken;
     }
     Checked::Whole(v)

@@ -1,7 +1,7 @@
 // All that a call may do to a position: one function for each kind of change. Each does nothing for a unit, a hex or a route that is not there.
 ghost use mathlib.Core.Path.{_≡_};
 ghost use Prim.Native.Nat.{_<_, _≤_};
-ghost use Rattle.position.specs.Layout.{setHex, setRouteHex};
+ghost use Rattle.position.specs.Layout.{routeCount, routeHexes, setHex, setRouteHex};
 ghost use Rattle.position.specs.Change.{make, turned};
 ghost use Rattle.position.specs.Change.Change.{placed, destroyed, marked, assigned, timed, staged, routed, unrouted};
 ghost use Rattle.position.specs.Laid.{Laid};
@@ -9,8 +9,6 @@ use crate::View;
 use crate::bits;
 use crate::layout;
 use crate::read;
-
-const NOWHERE: usize = 65535;
 
 fn set_hex(p: &mut [u8], v: View, u: usize, h: usize)
     requires { ⌜ Laid (now p) v × (h < 65536) ⌝ }
@@ -37,7 +35,7 @@ pub fn destroy(p: &mut [u8], v: View, u: usize)
     ensures { λ _. ⌜ now (p .exit) ≡ make (now (p .entry)) (destroyed u) ⌝ }
 {
     let old = read::marks(p, v, u);
-    set_hex(p, v, u, NOWHERE);
+    set_hex(p, v, u, layout::NOWHERE);
     layout::set_unit(p, v, u, layout::MARKS, old % 2);
     layout::set_unit(p, v, u, layout::ROLE, 0);
 }
@@ -88,7 +86,7 @@ pub fn set_stage(p: &mut [u8], v: View, stage: usize, owed: usize, need: usize)
 }
 
 fn set_route_hex(p: &mut [u8], v: View, r: usize, j: usize, h: usize)
-    requires { ⌜ Laid (now p) v × (r < 6) × (j < 4) × (h < 65536) ⌝ }
+    requires { ⌜ Laid (now p) v × (r < routeCount) × (j < routeHexes) × (h < 65536) ⌝ }
     ensures { λ _. ⌜ now (p .exit) ≡ setRouteHex (now (p .entry)) r j h ⌝ }
 {
     let at = layout::ROUTES + layout::ROUTE_SIZE * r + layout::PLACE_SIZE * j;
@@ -101,7 +99,7 @@ pub fn set_route(p: &mut [u8], v: View, r: usize, a: usize, b: usize, c: usize, 
     requires { ⌜ Laid (now p) v × (a < 65536) × (b < 65536) × (c < 65536) × (d < 65536) ⌝ }
     ensures { λ _. ⌜ now (p .exit) ≡ make (now (p .entry)) (routed r a b c d) ⌝ }
 {
-    if 6 <= r {
+    if layout::ROUTE_COUNT <= r {
         return;
     }
     set_route_hex(p, v, r, 0, a);
@@ -115,7 +113,15 @@ pub fn clear_routes(p: &mut [u8], v: View)
     requires { ⌜ Laid (now p) v ⌝ }
     ensures { λ _. ⌜ now (p .exit) ≡ make (now (p .entry)) unrouted ⌝ }
 {
-    for r in 0..6 {
-        set_route(p, v, r, NOWHERE, NOWHERE, NOWHERE, NOWHERE);
+    for r in 0..layout::ROUTE_COUNT {
+        set_route(
+            p,
+            v,
+            r,
+            layout::NOWHERE,
+            layout::NOWHERE,
+            layout::NOWHERE,
+            layout::NOWHERE,
+        );
     }
 }

@@ -7,6 +7,7 @@ use mathlib.Core.Logic.{⊎-elim}
 use native.Mathlib.Omega.{arith}
 use borrow.Author.Needs.{needs}
 use Rattle.position.specs.Tally.{tally}
+use Rattle.position.specs.Layout.{routeCount}
 use Rattle.position.specs.Board.{board}
 use Rattle.position.specs.Crowd.{filled, routes}
 use Rattle.position.proofs.Tallies.{tally-zero, tally-hit, tally-miss}
@@ -14,10 +15,10 @@ use Rattle.position.proofs.crowd.routes.Statement.{statement}
 use Rattle.position.proofs.crowd.routes.Tie as tie
 
 abbrev Inv-loop : tie.InvT-loop
-Inv-loop p v n₀ r₀ n r = (r ≤ 6) × (n ≤ r) × (n ≡ tally (filled (board p)) r)
+Inv-loop p v n₀ r₀ n r = (r ≤ routeCount) × (n ≤ r) × (n ≡ tally (filled (board p)) r)
 
 abbrev μ-loop : tie.MeasureT-loop
-μ-loop p v n₀ r₀ n r = 6 - r
+μ-loop p v n₀ r₀ n r = routeCount - r
 
 loop-holds : tie.Need-loop-holds Inv-loop μ-loop
 loop-holds c = (omega arith, omega arith, sym (tally-zero _))

@@ -2,7 +2,7 @@
 -- Assumes nothing.
 use mathlib.Core.Path.{refl}
 use borrow.Author.Needs.{needs}
-use Rattle.position.specs.Layout.{columnByte}
+use Rattle.position.specs.Layout.{columnSize, columnByte}
 use Rattle.position.proofs.Cells.{read-at}
 use Rattle.position.proofs.layout.column_byte.Statement.{statement}
 use Rattle.position.proofs.layout.column_byte.Tie as tie
@@ -16,7 +16,7 @@ cell-requires c κs = search needs
 returns : tie.Need-returns
 unfolding columnByte
 returns c =
-    let v = c .before .before .pre .0 .view in read-at _ 8 _ _ (c .cell .ensures) refl (v .columns)
+    let v = c .before .before .pre .0 .view in read-at _ columnSize _ _ (c .cell .ensures) refl (v .columns)
 
 pub column-byte-spec : {M : Type 1} → statement M
 column-byte-spec = tie.close (tie.spec add-cell cell-requires returns)

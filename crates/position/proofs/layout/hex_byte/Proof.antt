@@ -2,7 +2,7 @@
 -- Assumes nothing.
 use native.Mathlib.Omega.{arith}
 use borrow.Author.Needs.{needs}
-use Rattle.position.specs.Layout.{hexByte, mapAt}
+use Rattle.position.specs.Layout.{hexSize, hexByte, mapAt}
 use Rattle.position.proofs.Cells.{read-at}
 use Rattle.position.proofs.layout.hex_byte.Statement.{statement}
 use Rattle.position.proofs.layout.hex_byte.Tie as tie
@@ -26,7 +26,7 @@ returns : tie.Need-returns
 unfolding hexByte mapAt
 returns c =
     let v = c .before .before .before .pre .0 .view in
-    read-at _ 5 _ _ (c .cell .ensures) (omega (arith, v .columns)) (v .hexes)
+    read-at _ hexSize _ _ (c .cell .ensures) (omega (arith, v .columns)) (v .hexes)
 
 pub hex-byte-spec : {M : Type 1} → statement M
 hex-byte-spec = tie.close (tie.spec add-cell mul-cell add-cell-2 add-cell-3 cell-requires returns)

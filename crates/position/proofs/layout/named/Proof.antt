@@ -1,15 +1,12 @@
--- `layout::named` meets its contract: the entry's length is 60, or it is not.
+-- `layout::named` meets its contract: the entry's length is that of a desk with players, or it is not.
 -- Assumes nothing.
-use mathlib.Core.Path.{sym, _∙_}
+use Prim.Native.Nat.{_+_}
 use native.Mathlib.Omega.{arith}
 use borrow.Author.Needs.{needs}
 use borrow.Author.Tests.{eq-eqb, ne-eqb}
-use Rattle.position.specs.Layout.{extent, named}
+use Rattle.position.specs.Layout.{deskBody, playersField, forces, extent, named}
 use Rattle.position.proofs.layout.named.Statement.{statement}
 use Rattle.position.proofs.layout.named.Tie as tie
-
-add-word : tie.Need-add-word
-add-word c = search needs
 
 word-requires : tie.Need-word-requires
 word-requires c κs = search needs
@@ -19,12 +16,12 @@ add-if1 c = search needs
 
 returns : tie.Need-returns
 unfolding named extent
-returns c = simp (eq-eqb (extent (c .before .before .before .args .p .now) 4) 60 (omega (arith, c .if1 .taken, c .before .word .ensures .is)))
+returns c = simp (eq-eqb (extent (c .before .before .before .args .p .now) deskBody) (playersField + forces) (omega (arith, c .if1 .taken, c .before .word .ensures .is)))
 
 returns-2 : tie.Need-returns-2
 unfolding named extent
 returns-2 c =
-    simp (ne-eqb (extent (c .before .before .before .args .p .now) 4) 60 (λ e. c .if1 .left (omega (arith, e, c .before .word .ensures .is))))
+    simp (ne-eqb (extent (c .before .before .before .args .p .now) deskBody) (playersField + forces) (λ e. c .if1 .left (omega (arith, e, c .before .word .ensures .is))))
 
 pub named-spec : {M : Type 1} → statement M
-named-spec = tie.close (tie.spec add-word word-requires add-if1 returns returns-2)
+named-spec = tie.close (tie.spec word-requires add-if1 returns returns-2)

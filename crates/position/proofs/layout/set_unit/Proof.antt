@@ -10,14 +10,17 @@ use Rattle.position.proofs.Tables.{set-unit-in, set-unit-out}
 use Rattle.position.proofs.layout.set_unit.Statement.{statement}
 use Rattle.position.proofs.layout.set_unit.Tie as tie
 
-mul-at : tie.Need-mul-at
-mul-at c = search needs
-
 add-at : tie.Need-add-at
 add-at c = search needs
 
+mul-at : tie.Need-mul-at
+mul-at c = search needs
+
 add-at-2 : tie.Need-add-at-2
 add-at-2 c = search needs
+
+add-at-3 : tie.Need-add-at-3
+add-at-3 c = search needs
 
 cast-p : tie.Need-cast-p
 cast-p c = search needs
@@ -39,4 +42,4 @@ returns-2 c = let a = c .before .args in sym (set-unit-out (a .p .now) (a .u) (a
 
 pub set-unit-spec : {M : Type 1} → statement M
 set-unit-spec =
-    tie.close (tie.spec mul-at add-at add-at-2 cast-p slice-write-p same-length returns returns-2)
+    tie.close (tie.spec add-at mul-at add-at-2 add-at-3 cast-p slice-write-p same-length returns returns-2)

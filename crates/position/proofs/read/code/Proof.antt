@@ -1,10 +1,8 @@
 -- `read::code` meets its contract: for a die of 1 to 6 it is a byte of the column, for any other 0.
 -- Assumes nothing.
-use Prim.Native.Nat.{_+_}
-use mathlib.Core.Path.{_≡_, sym, ap, _∙_}
+use mathlib.Core.Path.{sym, _∙_}
 use native.Mathlib.Omega.{arith}
 use borrow.Author.Needs.{needs}
-use Rattle.position.specs.Layout.{columnByte}
 use Rattle.position.proofs.Tables.{code-in, code-none, code-past}
 use Rattle.position.proofs.read.code.Statement.{statement}
 use Rattle.position.proofs.read.code.Tie as tie
@@ -23,11 +21,8 @@ column-byte-requires c κs = search needs
 
 returns-3 : tie.Need-returns-3
 returns-3 c =
-    let a = c .before .before .before .before .args in
-    let e : 1 + a .die ≡ a .die + 1 = omega arith in
     record {
       is = c .column-byte .ensures .is
-          ∙ ap (columnByte (a .p .now) (a .c)) e
           ∙ sym (code-in _ _ _ (omega (arith, c .before .before .if1 .left)) (c .before .if2 .left));
       small = c .column-byte .ensures .small;
     }

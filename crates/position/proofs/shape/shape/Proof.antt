@@ -73,45 +73,40 @@ returns-4 c =
     λ t. let s = known k in unsaid (c .before .entry3 .result) (c .if3 .taken) (c .before .entry3 .ensures)
     (entry-is (omega arith) (omega arith) (t .map))
 
-sub-entry : tie.Need-sub-entry
-sub-entry c =
-    let k = c .before .before .before .before .before .before .before .before .before .before in
-    let s = known k in omega arith
-
 mul-entry-4 : tie.Need-mul-entry-4
 mul-entry-4 c =
-    let k = c .before .before .before .before .before .before .before .before .before .before .before in
+    let k = c .before .before .before .before .before .before .before .before .before .before in
     let s = known k in omega arith
 
 add-entry-5 : tie.Need-add-entry-5
 add-entry-5 c =
-    let k = c .before .before .before .before .before .before .before .before .before .before .before in
+    let k = c .before .before .before .before .before .before .before .before .before .before in
     let s = known k in omega arith
 
 entry-requires-4 : tie.Need-entry-requires-4
 entry-requires-4 c κs =
-    let k = c .before .before .before .before .before .before .before .before .before .before .before in
+    let k = c .before .before .before .before .before .before .before .before .before .before in
     let s = known k in (omega arith, omega arith)
 
 returns-5 : tie.Need-returns-5
 returns-5 c =
-    let k = c .before .before .before .before .before .before .before .before .before .before .before .before .before in
+    let k = c .before .before .before .before .before .before .before .before .before .before .before .before in
     λ t. let s = known k in unsaid (c .before .entry4 .result) (c .if4 .taken) (c .before .entry4 .ensures)
     (entry-is (omega arith) (omega arith) (t .units))
 
 add-entry-6 : tie.Need-add-entry-6
 add-entry-6 c =
-    let k = c .before .before .before .before .before .before .before .before .before .before .before .before .before .before in
+    let k = c .before .before .before .before .before .before .before .before .before .before .before .before .before in
     let s = known k in omega arith
 
 entry-requires-5 : tie.Need-entry-requires-5
 entry-requires-5 c κs =
-    let k = c .before .before .before .before .before .before .before .before .before .before .before .before .before .before in
+    let k = c .before .before .before .before .before .before .before .before .before .before .before .before .before in
     let s = known k in (omega arith, omega arith)
 
 returns-6 : tie.Need-returns-6
 returns-6 c =
-    let k = c .before .before .before .before .before .before .before .before .before .before .before .before .before .before .before .before in
+    let k = c .before .before .before .before .before .before .before .before .before .before .before .before .before .before .before in
     λ t. let s = known k in unsaid (c .before .entry5 .result) (c .if5 .taken) (c .before .entry5 .ensures)
     (entry-is (omega arith) (omega arith) (t .desk))
 
@@ -119,7 +114,7 @@ returns-7 : tie.Need-returns-7
 unfolding mapAt
 returns-7 c =
     let q4 = c .before .before .before in
-    let q3 = q4 .before .before .before .before in
+    let q3 = q4 .before .before .before in
     let q2 = q3 .before .before .before .before in
     let q1 = q2 .before .before .before in
     let k = q1 .before .before in
@@ -164,7 +159,6 @@ shape-spec =
     add-entry-4
     entry-requires-3
     returns-4
-    sub-entry
     mul-entry-4
     add-entry-5
     entry-requires-4

@@ -25,14 +25,17 @@ returns : tie.Need-returns
 unfolding mapAt unitsAt deskAt
 returns c = λ t. omega arith
 
+add-wide : tie.Need-add-wide
+add-wide c = search needs
+
 shared-slice-read-wide : tie.Need-shared-slice-read-wide
 shared-slice-read-wide c = search needs
 
 wide-requires : tie.Need-wide-requires
 wide-requires c κs = search needs
 
-add-wide : tie.Need-add-wide
-add-wide c = search needs
+add-wide-2 : tie.Need-add-wide-2
+add-wide-2 c = search needs
 
 shared-slice-read-wide-2 : tie.Need-shared-slice-read-wide-2
 shared-slice-read-wide-2 c = search needs
@@ -90,9 +93,10 @@ with-map-spec =
     add-map-2
     add-if1
     returns
+    add-wide
     shared-slice-read-wide
     wide-requires
-    add-wide
+    add-wide-2
     shared-slice-read-wide-2
     wide-requires-2
     within-requires

@@ -42,15 +42,12 @@ mul-units-2 c = omega (arith, sizes (c .before))
 add-units-4 : tie.Need-add-units-4
 add-units-4 c = omega (arith, sizes (c .before))
 
-add-units-5 : tie.Need-add-units-5
-add-units-5 c = omega (arith, sizes (c .before))
+add-if1 : tie.Need-add-if1
+add-if1 c = omega (arith, sizes (c .before))
 
 returns : tie.Need-returns
 unfolding mapAt unitsAt deskAt
 returns c = λ t. omega (arith, sizes (c .before .before))
-
-sub-word : tie.Need-sub-word
-sub-word c = search needs
 
 word-requires : tie.Need-word-requires
 word-requires c κs = search needs
@@ -63,6 +60,9 @@ mul-desk c = search needs
 
 add-desk : tie.Need-add-desk
 add-desk c = search needs
+
+add-desk-2 : tie.Need-add-desk-2
+add-desk-2 c = search needs
 
 named-requires : tie.Need-named-requires
 named-requires c κs = search needs
@@ -121,13 +121,13 @@ with-units-spec =
     add-units-3
     mul-units-2
     add-units-4
-    add-units-5
+    add-if1
     returns
-    sub-word
     word-requires
     returns-2
-    mul-desk
     add-desk
+    mul-desk
+    add-desk-2
     named-requires
     add-if3
     add-if3-2

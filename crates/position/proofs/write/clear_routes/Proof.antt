@@ -7,7 +7,7 @@ use native.Mathlib.Omega.{arith}
 use native.Mathlib.Numerals.{add-one}
 use borrow.Author.Needs.{needs}
 use Rattle.position.specs.Board.{nowhere}
-use Rattle.position.specs.Layout.{setRoute, clearRoutes}
+use Rattle.position.specs.Layout.{routeCount, setRoute, clearRoutes}
 use Rattle.position.specs.Change.{make}
 use Rattle.position.specs.Laid.{Laid}
 use Rattle.position.proofs.Laying.{laid-route}
@@ -15,10 +15,10 @@ use Rattle.position.proofs.write.clear_routes.Statement.{statement}
 use Rattle.position.proofs.write.clear_routes.Tie as tie
 
 abbrev Inv-loop : tie.InvT-loop
-Inv-loop p₀ v r₀ p r = (r ≤ 6) × (p ≡ clearRoutes p₀ r) × Laid p v
+Inv-loop p₀ v r₀ p r = (r ≤ routeCount) × (p ≡ clearRoutes p₀ r) × Laid p v
 
 abbrev μ-loop : tie.MeasureT-loop
-μ-loop p₀ v r₀ p r = 6 - r
+μ-loop p₀ v r₀ p r = routeCount - r
 
 loop-holds : tie.Need-loop-holds Inv-loop μ-loop
 unfolding clearRoutes

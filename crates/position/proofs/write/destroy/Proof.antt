@@ -5,7 +5,7 @@ use mathlib.Core.Path.{_≡_, ap, ap₂, _∙_}
 use mathlib.Core.List.{List}
 use native.Mathlib.Omega.{arith}
 use Rattle.position.specs.Bits.{faced}
-use Rattle.position.specs.Layout.{marks, setUnit, setMarks, setRole}
+use Rattle.position.specs.Layout.{marksField, roleField, marks, setUnit, setMarks, setRole}
 use Rattle.position.specs.Change.{make}
 use Rattle.position.proofs.Laying.{laid-unit, laid-hex}
 use borrow.Author.Needs.{needs}
@@ -34,8 +34,8 @@ returns c =
     let u = s .args .u in
     let old : c .before .before .before .before .before .before .before .before .before .before .before .before .marks .result % 2 ≡ 0 / 2 * 2 + marks (s .args .p .now) u % 2 = omega (arith, c .before .before .before .before .before .before .before .before .before .before .before .before .marks .ensures .is) in
     c .before .before .set-unit2 .ensures
-    ∙ ap (λ (q : List ℕ). setUnit q u 7 0)
-    (c .before .before .before .before .before .before .set-unit .ensures ∙ ap₂ (λ (q : List ℕ) (x : ℕ). setUnit q u 6 x) (c .before .before .before .before .before .before .before .before .before .before .set-hex .ensures) old)
+    ∙ ap (λ (q : List ℕ). setUnit q u roleField 0)
+    (c .before .before .before .before .before .before .set-unit .ensures ∙ ap₂ (λ (q : List ℕ) (x : ℕ). setUnit q u marksField x) (c .before .before .before .before .before .before .before .before .before .before .set-hex .ensures) old)
 
 pub destroy-spec : {M : Type 1} → statement M
 destroy-spec =

@@ -3,7 +3,7 @@
 use Prim.Native.Nat.{ℕ, _+_, _*_, _/_, _%_}
 use mathlib.Core.Path.{ap, _∙_}
 use Rattle.position.specs.Bits.{faced}
-use Rattle.position.specs.Layout.{setUnit, setMarks}
+use Rattle.position.specs.Layout.{marksField, setUnit, setMarks}
 use Rattle.position.specs.Change.{make}
 use borrow.Author.Needs.{needs}
 use Rattle.position.proofs.write.mark.Statement.{statement}
@@ -26,7 +26,7 @@ same-length c = search needs
 
 returns : tie.Need-returns
 unfolding make setMarks faced
-returns c = let s = (c .before .before .before .before .before .before .before) in c .before .before .set-unit .ensures ∙ ap (λ (x : ℕ). setUnit (s .args .p .now) (s .args .u) 6 (s .args .m / 2 * 2 + x % 2)) (c .before .before .before .before .marks .ensures .is)
+returns c = let s = (c .before .before .before .before .before .before .before) in c .before .before .set-unit .ensures ∙ ap (λ (x : ℕ). setUnit (s .args .p .now) (s .args .u) marksField (s .args .m / 2 * 2 + x % 2)) (c .before .before .before .before .marks .ensures .is)
 
 pub mark-spec : {M : Type 1} → statement M
 mark-spec =

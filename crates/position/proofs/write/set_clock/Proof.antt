@@ -4,7 +4,7 @@ use mathlib.Core.Path.{ap, _∙_}
 use Prim.Native.Nat.{ℕ}
 use mathlib.Core.List.{List}
 use native.Mathlib.Omega.{arith}
-use Rattle.position.specs.Layout.{setDesk, setClock}
+use Rattle.position.specs.Layout.{forceField, phaseField, setDesk, setClock}
 use Rattle.position.specs.Change.{make}
 use Rattle.position.proofs.Laying.{laid-desk}
 use borrow.Author.Needs.{needs}
@@ -28,7 +28,7 @@ unfolding make setClock
 returns c =
     let a = c .before .before .before .before .before .before .before .before .before .before .before .before .before .args in
     c .before .before .set-desk3 .ensures
-    ∙ ap (λ (q : List ℕ). setDesk q 3 (a .phase)) (c .before .before .before .before .before .before .set-desk2 .ensures ∙ ap (λ (q : List ℕ). setDesk q 2 (a .force)) (c .before .before .before .before .before .before .before .before .before .before .set-desk .ensures))
+    ∙ ap (λ (q : List ℕ). setDesk q phaseField (a .phase)) (c .before .before .before .before .before .before .set-desk2 .ensures ∙ ap (λ (q : List ℕ). setDesk q forceField (a .force)) (c .before .before .before .before .before .before .before .before .before .before .set-desk .ensures))
 
 pub set-clock-spec : {M : Type 1} → statement M
 set-clock-spec =

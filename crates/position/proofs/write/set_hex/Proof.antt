@@ -1,10 +1,10 @@
 -- `write::set_hex` writes both bytes of the unit's hex.
 -- Assumes nothing.
-use Prim.Native.Nat.{ℕ, _/_}
+use Prim.Native.Nat.{ℕ, _+_, _/_}
 use mathlib.Core.Path.{ap, _∙_}
 use mathlib.Core.List.{List}
 use native.Mathlib.Omega.{arith}
-use Rattle.position.specs.Layout.{setUnit, setHex}
+use Rattle.position.specs.Layout.{hexField, setUnit, setHex}
 use Rattle.position.proofs.Laying.{laid-unit}
 use borrow.Author.Needs.{needs}
 use Rattle.position.proofs.write.set_hex.Statement.{statement}
@@ -24,7 +24,7 @@ same-length c = search needs
 
 returns : tie.Need-returns
 unfolding setHex
-returns c = let s = (c .before .before .before .before .before .before .before .before .before) in c .before .before .set-unit2 .ensures ∙ ap (λ (q : List ℕ). setUnit q (s .args .u) 3 (s .args .h / 256)) (c .before .before .before .before .before .before .set-unit .ensures)
+returns c = let s = (c .before .before .before .before .before .before .before .before .before) in c .before .before .set-unit2 .ensures ∙ ap (λ (q : List ℕ). setUnit q (s .args .u) (hexField + 1) (s .args .h / 256)) (c .before .before .before .before .before .before .set-unit .ensures)
 
 pub set-hex-spec : {M : Type 1} → statement M
 set-hex-spec =

@@ -4,7 +4,7 @@ use Prim.Native.Nat.{ℕ, _+_, _*_, _/_}
 use mathlib.Core.Path.{ap, _∙_}
 use mathlib.Core.List.{List}
 use native.Mathlib.Omega.{arith}
-use Rattle.position.specs.Layout.{setDesk, setRouteHex}
+use Rattle.position.specs.Layout.{routeField, setDesk, setRouteHex}
 use Rattle.position.proofs.Laying.{laid-desk}
 use borrow.Author.Needs.{needs}
 use Rattle.position.proofs.write.set_route_hex.Statement.{statement}
@@ -38,7 +38,7 @@ returns : tie.Need-returns
 unfolding setRouteHex
 returns c =
     let a = c .before .before .before .before .before .before .before .before .before .args in
-    c .before .before .set-desk2 .ensures ∙ ap (λ (q : List ℕ). setDesk q (8 + 8 * a .r + 2 * a .j + 1) (a .h / 256)) (c .before .before .before .before .before .before .set-desk .ensures)
+    c .before .before .set-desk2 .ensures ∙ ap (λ (q : List ℕ). setDesk q (routeField (a .r) (a .j) + 1) (a .h / 256)) (c .before .before .before .before .before .before .set-desk .ensures)
 
 pub set-route-hex-spec : {M : Type 1} → statement M
 set-route-hex-spec =

@@ -1,10 +1,10 @@
 -- `write::set_stage` makes its change, byte by byte.
 -- Assumes nothing.
-use Prim.Native.Nat.{ℕ, _/_, _%_}
+use Prim.Native.Nat.{ℕ, _+_, _/_, _%_}
 use mathlib.Core.Path.{ap, _∙_}
 use mathlib.Core.List.{List}
 use native.Mathlib.Omega.{arith}
-use Rattle.position.specs.Layout.{setDesk, setStage}
+use Rattle.position.specs.Layout.{owedField, needField, setDesk, setStage}
 use Rattle.position.specs.Change.{make}
 use Rattle.position.proofs.Laying.{laid-desk}
 use borrow.Author.Needs.{needs}
@@ -34,9 +34,9 @@ unfolding make setStage
 returns c =
     let a = c .before .before .before .before .before .before .before .before .before .before .before .before .before .before .before .before .before .args in
     c .before .before .set-desk4 .ensures
-    ∙ ap (λ (q : List ℕ). setDesk q 7 (a .need / 256))
+    ∙ ap (λ (q : List ℕ). setDesk q (needField + 1) (a .need / 256))
     (c .before .before .before .before .before .before .set-desk3 .ensures
-    ∙ ap (λ (q : List ℕ). setDesk q 6 (a .need % 256)) (c .before .before .before .before .before .before .before .before .before .before .set-desk2 .ensures ∙ ap (λ (q : List ℕ). setDesk q 5 (a .owed)) (c .before .before .before .before .before .before .before .before .before .before .before .before .before .before .set-desk .ensures)))
+    ∙ ap (λ (q : List ℕ). setDesk q needField (a .need % 256)) (c .before .before .before .before .before .before .before .before .before .before .set-desk2 .ensures ∙ ap (λ (q : List ℕ). setDesk q owedField (a .owed)) (c .before .before .before .before .before .before .before .before .before .before .before .before .before .before .set-desk .ensures)))
 
 pub set-stage-spec : {M : Type 1} → statement M
 set-stage-spec =

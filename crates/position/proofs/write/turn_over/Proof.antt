@@ -3,7 +3,7 @@
 use mathlib.Core.Path.{ap, _∙_}
 use native.Mathlib.Omega.{arith}
 use Rattle.position.specs.Bits.{with}
-use Rattle.position.specs.Layout.{setUnit, setMarks}
+use Rattle.position.specs.Layout.{marksField, setUnit, setMarks}
 use Rattle.position.specs.Change.{turned}
 use Rattle.position.proofs.Laying.{with-small}
 use borrow.Author.Needs.{needs}
@@ -24,7 +24,7 @@ same-length c = search needs
 
 returns : tie.Need-returns
 unfolding turned setMarks
-returns c = let s = (c .before .before .before .before .before .before .before .before) in c .before .before .set-unit .ensures ∙ ap (setUnit (s .args .p .now) (s .args .u) 6) (c .before .before .before .with .ensures ∙ ap (with 1) (c .before .before .before .before .before .marks .ensures .is))
+returns c = let s = (c .before .before .before .before .before .before .before .before) in c .before .before .set-unit .ensures ∙ ap (setUnit (s .args .p .now) (s .args .u) marksField) (c .before .before .before .with .ensures ∙ ap (with 1) (c .before .before .before .before .before .marks .ensures .is))
 
 pub turn-over-spec : {M : Type 1} → statement M
 turn-over-spec =
