@@ -11,6 +11,13 @@ use lib.Seq.{getD-set-same, getD-set-other}
 use Rattle.position.specs.Bits.{has, with, tried}
 use Rattle.position.specs.Layout.{
   byte,
+  unitSize,
+  nationalityField,
+  kindField,
+  hexField,
+  allowanceField,
+  marksField,
+  roleField,
   unitsAt,
   count,
   hexes,
@@ -31,35 +38,39 @@ use Rattle.position.specs.Shape.{Shaped}
 use Rattle.position.specs.Change.{Change, makes, turned}
 use Rattle.acceptance.specs.Alike.{Hidden, Same}
 use Rattle.position.proofs.Tables.{set-unit-in, set-unit-out}
-use Rattle.position.proofs.Front.{Front, front-bodies, shaped-kept, count-kept, hexes-kept, unitAt-kept, deskAt-kept, chart-kept, results-kept, ground-kept}
+use Rattle.position.proofs.Bodies.{chart-same, results-same, ground-same}
+use Rattle.position.proofs.Front.{Front, Behind, behind-bodies, behind-front, shaped-kept, count-kept, hexes-kept, unitAt-kept, deskAt-kept}
 use Rattle.position.proofs.Writes.{front-unit, front-desk, unit-there, desk-there, unit-in, unit-unit, unit-desk}
 use Rattle.position.proofs.Effects.{hex-from, shown-from, player-from, desk-from, upd-case, marks-set}
 use Rattle.position.proofs.Twins.{Twin, twin-makes}
 
 -- what is the same in both
 module _ {p q : List ℕ} (s : Same p q) where
-  pub front-same : Front p q
+  behind-same : Behind p q
   unfolding unitAt
-  front-same = record { long = s .long; front = λ i l. s .bytes i (λ h. let e = h .there in omega arith) }
+  behind-same = record { long = s .long; before = λ i l. s .bytes i (λ h. let e = h .there in omega arith) }
+
+  pub front-same : Front p q
+  front-same = behind-front behind-same
 
   -- every number of a unit but its strength
-  pub unit-alike : (w g : ℕ) → g < 8 → (g ≡ strengthField → ⊥) → unitByte q w g ≡ unitByte p w g
+  pub unit-alike : (w g : ℕ) → g < unitSize → (g ≡ strengthField → ⊥) → unitByte q w g ≡ unitByte p w g
   unfolding unitAt
   unit-alike w g l n =
-      unit-there (front-bodies front-same) w g (λ m. s .bytes (unitAt p w + g) (λ h. let e = h .there in n (omega arith)))
+      unit-there (front-same .counts) w g (λ m. s .bytes (unitAt p w + g) (λ h. let e = h .there in n (omega arith)))
 
   -- and a strength that is not hidden
   pub strength-alike : (w : ℕ) → (w < count p → has tried (marks p w) ≡ false → ⊥) → strength q w ≡ strength p w
   unfolding unitAt
   strength-alike w n =
-      unit-there (front-bodies front-same) w strengthField
+      unit-there (front-same .counts) w strengthField
       (λ m. s .bytes (unitAt p w + strengthField) (λ h. n m (let e : h .unit ≡ w = one h in rw e at (h .down))))
     where
       one : (h : Hidden p (unitAt p w + strengthField)) → h .unit ≡ w
       one h = omega (arith, h .there)
 
   pub marks-alike : (w : ℕ) → marks q w ≡ marks p w
-  marks-alike w = unit-alike w 6 (omega arith) (omega arith)
+  marks-alike w = unit-alike w marksField (omega arith) (omega arith)
 
   shown-alike : (w : ℕ) → shown q w ≡ shown p w
   unfolding shown
@@ -71,7 +82,7 @@ module _ {p q : List ℕ} (s : Same p q) where
 
   desk-alike : (k : ℕ) → deskByte q k ≡ deskByte p k
   unfolding deskAt unitAt
-  desk-alike k = desk-there (front-bodies front-same) k (s .bytes (deskAt p + k) (λ h. let e = h .there in let l = h .counted in omega arith))
+  desk-alike k = desk-there (front-same .counts) k (s .bytes (deskAt p + k) (λ h. let e = h .there in let l = h .counted in omega arith))
 
   -- so a player sees one board
   pub board-alike : board q ≡ board p
@@ -79,19 +90,19 @@ module _ {p q : List ℕ} (s : Same p q) where
       let u = unit-alike in
       λ i.
       record {
-        chart = chart-kept front-same i;
-        results = results-kept front-same i;
-        map = ground-kept front-same i;
+        chart = chart-same (behind-bodies behind-same) i;
+        results = results-same (behind-bodies behind-same) i;
+        map = ground-same (behind-bodies behind-same) i;
         units =
             record {
               count = count-kept front-same i;
-              nationality = fun-ext (λ w. u w 0 (omega arith) (omega arith)) i;
-              kind = fun-ext (λ w. u w 1 (omega arith) (omega arith)) i;
-              hex = fun-ext (λ w. hex-from p q w (count-kept front-same) (u w 2 (omega arith) (omega arith)) (u w 3 (omega arith) (omega arith))) i;
+              nationality = fun-ext (λ w. u w nationalityField (omega arith) (omega arith)) i;
+              kind = fun-ext (λ w. u w kindField (omega arith) (omega arith)) i;
+              hex = fun-ext (λ w. hex-from p q w (count-kept front-same) (u w hexField (omega arith) (omega arith)) (u w (hexField + 1) (omega arith) (omega arith))) i;
               shown = fun-ext shown-alike i;
-              allowance = fun-ext (λ w. u w 5 (omega arith) (omega arith)) i;
+              allowance = fun-ext (λ w. u w allowanceField (omega arith) (omega arith)) i;
               marks = fun-ext marks-alike i;
-              role = fun-ext (λ w. u w 7 (omega arith) (omega arith)) i;
+              role = fun-ext (λ w. u w roleField (omega arith) (omega arith)) i;
             };
         desk = desk-from p q (λ k _. desk-alike k) (player-from front-same (λ k _. desk-alike k)) i;
       }
@@ -129,7 +140,7 @@ module _ {p q : List ℕ} (s : Same p q) where
   unfolding setDesk
   same-desk f x =
       rw (deskAt-kept (front-same s))
-      (same-set (deskAt p + f) x (front-desk p f x) (λ w. ap (has tried) (unit-desk p f x w 6 (omega arith))))
+      (same-set (deskAt p + f) x (front-desk p f x) (λ w. ap (has tried) (unit-desk p f x w marksField (omega arith))))
 
   same-unit : (u f x : ℕ) → ((w : ℕ) → has tried (marks (setUnit p u f x) w) ≡ has tried (marks p w)) → Same (setUnit p u f x) (setUnit q u f x)
   same-unit u f x h = at (decLt u (count p))
@@ -144,14 +155,14 @@ module _ {p q : List ℕ} (s : Same p q) where
           rw (set-unit-out q u f x (omega (arith, count-kept (front-same s)))) (rw (set-unit-out p u f x (omega arith)) s)
 
   -- a number of a unit that is neither its marks nor its strength
-  same-field : (u f x : ℕ) → f < 8 → (f ≡ 6 → ⊥) → Same (setUnit p u f x) (setUnit q u f x)
-  same-field u f x l n = same-unit u f x (λ w. ap (has tried) (unit-unit p u f x l w 6 (omega arith) (λ e g. n (sym g))))
+  same-field : (u f x : ℕ) → f < unitSize → (f ≡ marksField → ⊥) → Same (setUnit p u f x) (setUnit q u f x)
+  same-field u f x l n = same-unit u f x (λ w. ap (has tried) (unit-unit p u f x l w marksField (omega arith) (λ e g. n (sym g))))
 
   -- marks that show the face that the unit shows
   same-marks : Shaped p → (u m : ℕ) → has tried m ≡ has tried (marks p u) → Same (setMarks p u m) (setMarks q u m)
   unfolding setMarks
   same-marks a u m e =
-      same-unit u 6 m
+      same-unit u marksField m
       (λ w.
       ap (has tried) (marks-set a u m w)
       ∙ upd-case (λ (k : ℕ). has tried k ≡ has tried (marks p w)) (count p) (marks p) u m w (λ l g. e ∙ ap (λ (k : ℕ). has tried (marks p k)) (sym g)) refl)
@@ -170,7 +181,7 @@ twin-same =
       field =
           λ s u f x l n. record { shaped = shaped-kept (front-unit _ u f x) (s .shaped); same = same-field (s .same) u f x l n };
       face =
-          λ s u m e. record { shaped = shaped-kept (front-unit _ u 6 m) (s .shaped); same = same-marks (s .same) (s .shaped) u m e };
+          λ s u m e. record { shaped = shaped-kept (front-unit _ u marksField m) (s .shaped); same = same-marks (s .same) (s .shaped) u m e };
       desk = λ s f x _. record { shaped = shaped-kept (front-desk _ f x) (s .shaped); same = same-desk (s .same) f x };
     }
 
@@ -183,30 +194,30 @@ pub same-turned : {p q : List ℕ} → Shaped p → Same p q → (u : ℕ) → s
 unfolding turned setMarks
 same-turned {p} {q} a s u e = rw (marks-alike s u) (at (decLt u (count p)))
   where
-    seen : (i : ℕ) → u < count p → (Hidden (set p (unitAt p u + 6) (with tried (marks p u))) i → ⊥) → Dec (i ≡ unitAt p u + strengthField) → byte q i ≡ byte p i
+    seen : (i : ℕ) → u < count p → (Hidden (set p (unitAt p u + marksField) (with tried (marks p u))) i → ⊥) → Dec (i ≡ unitAt p u + strengthField) → byte q i ≡ byte p i
     seen i l n (yes d) =
         rw d
         (ap (λ (k : ℕ). byte q (k + strengthField)) (sym (unitAt-kept (front-same s) u))
         ∙ sym (unit-in q u strengthField (omega (arith, count-kept (front-same s))))
         ∙ e
         ∙ unit-in p u strengthField l)
-    seen i l n (no d) = s .bytes i (λ h. n (hidden-kept (rw (set-unit-in p u 6 (with tried (marks p u)) l) at (front-unit p u 6 (with tried (marks p u)))) h (still h)))
+    seen i l n (no d) = s .bytes i (λ h. n (hidden-kept (rw (set-unit-in p u marksField (with tried (marks p u)) l) at (front-unit p u marksField (with tried (marks p u)))) h (still h)))
       where
-        still : (h : Hidden p i) → has tried (marks (set p (unitAt p u + 6) (with tried (marks p u))) (h .unit)) ≡ has tried (marks p (h .unit))
+        still : (h : Hidden p i) → has tried (marks (set p (unitAt p u + marksField) (with tried (marks p u))) (h .unit)) ≡ has tried (marks p (h .unit))
         still h =
-            rw (set-unit-in p u 6 (with tried (marks p u)) l) at
-            (ap (has tried) (unit-unit p u 6 (with tried (marks p u)) (omega arith) (h .unit) 6 (omega arith) (λ w g. d (h .there ∙ ap (λ (k : ℕ). unitAt p k + strengthField) w))))
+            rw (set-unit-in p u marksField (with tried (marks p u)) l) at
+            (ap (has tried) (unit-unit p u marksField (with tried (marks p u)) (omega arith) (h .unit) marksField (omega arith) (λ w g. d (h .there ∙ ap (λ (k : ℕ). unitAt p k + strengthField) w))))
 
-    at : Dec (u < count p) → Same (setUnit p u 6 (with tried (marks p u))) (setUnit q u 6 (with tried (marks p u)))
+    at : Dec (u < count p) → Same (setUnit p u marksField (with tried (marks p u))) (setUnit q u marksField (with tried (marks p u)))
     at (yes l) =
         let x = with tried (marks p u) in
-        rw (set-unit-in q u 6 x (omega (arith, count-kept (front-same s))))
+        rw (set-unit-in q u marksField x (omega (arith, count-kept (front-same s))))
         (rw (unitAt-kept (front-same s) u)
-        (rw (set-unit-in p u 6 x l)
+        (rw (set-unit-in p u marksField x l)
         (record {
           long = length-set q _ _ ∙ s .long ∙ sym (length-set p _ _);
-          bytes = λ i n. set-both p q (unitAt p u + 6) x i (s .long) (λ _. seen i l n (ℕ-discrete i (unitAt p u + strengthField)));
+          bytes = λ i n. set-both p q (unitAt p u + marksField) x i (s .long) (λ _. seen i l n (ℕ-discrete i (unitAt p u + strengthField)));
         })))
     at (no n) =
         let x = with tried (marks p u) in
-        rw (set-unit-out q u 6 x (omega (arith, count-kept (front-same s)))) (rw (set-unit-out p u 6 x (omega arith)) s)
+        rw (set-unit-out q u marksField x (omega (arith, count-kept (front-same s)))) (rw (set-unit-out p u marksField x (omega arith)) s)

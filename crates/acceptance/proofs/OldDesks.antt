@@ -3,7 +3,7 @@
 use Prim.Native.Nat.{ℕ}
 use mathlib.Core.Path.{_≡_, sym, ap, _∙_}
 use mathlib.Core.List.{List}
-use Rattle.position.specs.Layout.{extent, count, withPlayers}
+use Rattle.position.specs.Layout.{deskBody, playersField, extent, count, withPlayers}
 use Rattle.position.specs.Board.{Board, board}
 use Rattle.position.specs.Shape.{Shaped}
 use Rattle.position.proofs.Players.{Old, shaped-with, shaped-without, strength-with, board-with}
@@ -30,7 +30,7 @@ module _ {p : List ℕ} (o : Old p) where
         lawful = rw (sym (board-with o)) (a .lawful);
       }
 
-pub broken-with : (p : List ℕ) → extent p 4 ≡ 56 → broken (withPlayers p) ≡ broken p
+pub broken-with : (p : List ℕ) → extent p deskBody ≡ playersField → broken (withPlayers p) ≡ broken p
 broken-with p e = at (accepted? p)
   where
     at : Dec (Accepted p) → broken (withPlayers p) ≡ broken p

@@ -7,6 +7,7 @@ ghost use Rattle.position.specs.Laid.{Laid, Says};
 use position::View;
 use position::crowd;
 use position::ground;
+use position::layout;
 use position::read;
 
 // A filled number follows a filled one, over an unblocked side.
@@ -16,10 +17,10 @@ fn link_ok(p: &[u8], v: View, r: usize, j: usize) -> bool
 {
     let here = read::route(p, v, r, j);
     let after = read::route(p, v, r, j + 1);
-    if after == crowd::NOWHERE {
+    if after == layout::NOWHERE {
         return true;
     }
-    if here == crowd::NOWHERE {
+    if here == layout::NOWHERE {
         return false;
     }
     if !ground::joined(p, v, here, after) {
@@ -36,7 +37,7 @@ fn place_ok(p: &[u8], v: View, r: usize, j: usize) -> bool
         return false;
     }
     let here = read::route(p, v, r, j);
-    if here == crowd::NOWHERE {
+    if here == layout::NOWHERE {
         return true;
     }
     if !ground::standable(p, v, here) {

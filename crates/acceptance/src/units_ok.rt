@@ -9,9 +9,9 @@ use crate::roles_ok;
 use crate::stacks_ok;
 use position::View;
 use position::bits;
-use position::crowd;
 use position::ground;
 use position::kind::Kind;
+use position::layout;
 use position::read;
 use position::shape;
 
@@ -47,7 +47,7 @@ fn ground_ok(p: &[u8], v: View, u: usize) -> bool
     ensures { λ r. ⌜ Says r (GroundOk (board (now (p .entry))) u) ⌝ }
 {
     let h = read::hex(p, v, u);
-    if h == crowd::NOWHERE {
+    if h == layout::NOWHERE {
         return destroyed_ok(p, v, u);
     }
     if !ground::standable(p, v, h) {
@@ -92,7 +92,7 @@ fn duty_ok(p: &[u8], v: View, u: usize) -> bool
     if 2 < role {
         return false;
     }
-    if read::hex(p, v, u) == crowd::NOWHERE {
+    if read::hex(p, v, u) == layout::NOWHERE {
         return false;
     }
     if !bits::has(bits::TRIED, read::marks(p, v, u)) {

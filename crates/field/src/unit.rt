@@ -6,8 +6,8 @@ ghost use Rattle.position.specs.Laid.{Laid, Read};
 ghost use Rattle.field.specs.Working.{working};
 ghost use Rattle.field.specs.Phasing.{notPhasing};
 use position::View;
-use position::crowd;
 use position::forces;
+use position::layout;
 use position::read;
 
 // What `n` comes to for unit `u`: halved, fractions up, out of supply. The one place that halves.
@@ -26,7 +26,7 @@ pub fn not_phasing(p: &[u8], v: View, u: usize) -> bool
     requires { ⌜ Laid (now p) v ⌝ }
     ensures { λ r. ⌜ r ≡ notPhasing (board (now (p .entry))) u ⌝ }
 {
-    if read::hex(p, v, u) == crowd::NOWHERE {
+    if read::hex(p, v, u) == layout::NOWHERE {
         return true;
     }
     forces::force_of(p, v, u) != read::phasing(p, v)

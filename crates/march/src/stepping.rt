@@ -16,12 +16,8 @@ use position::View;
 use position::bits;
 use position::forces;
 use position::ground;
+use position::layout;
 use position::read;
-
-// The cost of a river side, and of a major river side, stand behind those of the terrains.
-const RIVER_COST: usize = 16;
-
-const MAJOR_RIVER_COST: usize = 17;
 
 // The allowance that unit `u` may spend: halved without the supplied mark.
 pub fn allowed(p: &[u8], v: View, u: usize) -> usize
@@ -37,10 +33,10 @@ fn side_cost(p: &[u8], v: View, s: usize) -> usize
     ensures { λ r. ⌜ Read (sideCost (board (now (p .entry))) s) 256 r ⌝ }
 {
     if s == ground::RIVER {
-        return read::cost(p, v, RIVER_COST);
+        return read::cost(p, v, layout::RIVER);
     }
     if s == ground::MAJOR_RIVER {
-        return read::cost(p, v, MAJOR_RIVER_COST);
+        return read::cost(p, v, layout::MAJOR_RIVER);
     }
     0
 }

@@ -17,7 +17,9 @@ fn with_units(p: &[u8], cols: usize, wide: usize, high: usize) -> Checked
     ensures { λ r. ⌜ SizedOf (now (p .entry)) r ⌝ }
 {
     let hexes = wide * high;
-    let units = layout::RESULTS + layout::RESULTS_HEAD + layout::COLUMN_SIZE * cols
+    let units = layout::RESULTS
+        + layout::RESULTS_HEAD
+        + layout::COLUMN_SIZE * cols
         + layout::MAP_HEAD
         + layout::HEX_SIZE * hexes;
     if p.len() < units + layout::UNITS_HEAD {

@@ -16,7 +16,7 @@ use crate::Upshot;
 use crate::codes::LOST;
 use position::View;
 use position::bits;
-use position::crowd;
+use position::layout;
 use position::read;
 use position::write;
 
@@ -89,7 +89,15 @@ fn route_once(p: &mut [u8], v: View, units: &[u16], i: usize, r: usize) -> usize
     if stood_before(p, v, units, i, h) {
         return r;
     }
-    write::set_route(p, v, r, h, crowd::NOWHERE, crowd::NOWHERE, crowd::NOWHERE);
+    write::set_route(
+        p,
+        v,
+        r,
+        h,
+        layout::NOWHERE,
+        layout::NOWHERE,
+        layout::NOWHERE,
+    );
     r + 1
 }
 
@@ -121,9 +129,9 @@ fn write_routes(p: &mut [u8], v: View, target: usize, units: &[u16], o: Upshot)
             v,
             0,
             target,
-            crowd::NOWHERE,
-            crowd::NOWHERE,
-            crowd::NOWHERE,
+            layout::NOWHERE,
+            layout::NOWHERE,
+            layout::NOWHERE,
         );
     }
 }

@@ -3,13 +3,13 @@
 use Prim.Native.Nat.{ℕ}
 use mathlib.Core.Path.{_≡_}
 use mathlib.Core.List.{List}
-use Rattle.position.specs.Layout.{extent, withPlayers}
+use Rattle.position.specs.Layout.{deskBody, playersField, extent, withPlayers}
 use Rattle.ruling.specs.Verdict.{Outcome}
 use Rattle.ruling.specs.Secret.{Sent, Rules, afterCall}
 
 -- the contents name a desk of the old length: "Desk, 56 bytes"
 abbrev pub OldDesk : List ℕ → Type 0
-OldDesk p = extent p 4 ≡ 56
+OldDesk p = extent p deskBody ≡ playersField
 
 -- the same outcome, with the players named in the position that is left
 abbrev pub playersIn : Outcome → Outcome
