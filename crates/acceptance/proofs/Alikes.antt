@@ -96,13 +96,8 @@ module _ {p q : List ℕ} (s : Same p q) where
         units =
             record {
               count = count-kept front-same i;
-              nationality = fun-ext (λ w. u w nationalityField (omega arith) (omega arith)) i;
-              kind = fun-ext (λ w. u w kindField (omega arith) (omega arith)) i;
-              hex = fun-ext (λ w. hex-from p q w (count-kept front-same) (u w hexField (omega arith) (omega arith)) (u w (hexField + 1) (omega arith) (omega arith))) i;
-              shown = fun-ext shown-alike i;
-              allowance = fun-ext (λ w. u w allowanceField (omega arith) (omega arith)) i;
-              marks = fun-ext marks-alike i;
-              role = fun-ext (λ w. u w roleField (omega arith) (omega arith)) i;
+              counter = record { nationality = fun-ext (λ w. u w nationalityField (omega arith) (omega arith)) i; kind = fun-ext (λ w. u w kindField (omega arith) (omega arith)) i; allowance = fun-ext (λ w. u w allowanceField (omega arith) (omega arith)) i };
+              state = record { hex = fun-ext (λ w. hex-from p q w (count-kept front-same) (u w hexField (omega arith) (omega arith)) (u w (hexField + 1) (omega arith) (omega arith))) i; shown = fun-ext shown-alike i; marks = fun-ext marks-alike i; role = fun-ext (λ w. u w roleField (omega arith) (omega arith)) i };
             };
         desk = desk-from p q (λ k _. desk-alike k) (player-from front-same (λ k _. desk-alike k)) i;
       }

@@ -31,11 +31,11 @@ belongs-small (suc (suc (suc (suc (suc (suc k)))))) n e = not-both false e refl
 module _ {b : Board} {u : ℕ} (a : AloneOk b u) where
   pub alone-force : forceOf b u < 4
   unfolding forceOf
-  alone-force = belongs-small (b .units .kind u) (b .units .nationality u) (a .counter .belongs)
+  alone-force = belongs-small (b .units .counter .kind u) (b .units .counter .nationality u) (a .counter .belongs)
 
   -- a unit stands on a hex of the map, or nowhere
-  pub alone-hex : (b .units .hex u ≡ nowhere → ⊥) → b .units .hex u < b .map .hexes
-  alone-hex n = standable-on b (b .units .hex u) (a .ground .stands n)
+  pub alone-hex : (b .units .state .hex u ≡ nowhere → ⊥) → b .units .state .hex u < b .map .hexes
+  alone-hex n = standable-on b (b .units .state .hex u) (a .ground .stands n)
 
   alone-unit : StacksOk b → u < b .units .count → UnitOk b u
   alone-unit s l =
@@ -51,11 +51,11 @@ module _ {b : Board} {u : ℕ} (a : AloneOk b u) where
 
 module _ {b : Board} where
   -- roles are 1 and 2, where they are not 0
-  two-roles : RolesOk b → (u w : ℕ) → u < b .units .count → w < b .units .count → b .units .role u ≤ 2 → (b .units .role u ≡ 0 → ⊥)
-      → b .units .role w ≡ b .units .role u → forceOf b w ≡ forceOf b u
+  two-roles : RolesOk b → (u w : ℕ) → u < b .units .count → w < b .units .count → b .units .state .role u ≤ 2 → (b .units .state .role u ≡ 0 → ⊥)
+      → b .units .state .role w ≡ b .units .state .role u → forceOf b w ≡ forceOf b u
   two-roles r u w l m most some e =
-      same-or (b .units .role u) 1 (λ q. r .owing u l w m q (e ∙ q))
-      (λ n. let q : b .units .role u ≡ 2 = omega arith in r .advancing u l w m q (e ∙ q))
+      same-or (b .units .state .role u) 1 (λ q. r .owing u l w m q (e ∙ q))
+      (λ n. let q : b .units .state .role u ≡ 2 = omega arith in r .advancing u l w m q (e ∙ q))
 
   pair : ((u : ℕ) → u < b .units .count → AloneOk b u) → StacksOk b → RolesOk b
       → (u : ℕ) → u < b .units .count → (w : ℕ) → w < b .units .count → PairOk b u w
@@ -89,7 +89,7 @@ module _ {b : Board} where
 
     pub stacks-of : b .map .hexes ≤ nowhere → StacksOk b
     stacks-of most u l low high =
-        let n : b .units .hex u ≡ nowhere → ⊥ = λ e. absurd (omega arith) in
+        let n : b .units .state .hex u ≡ nowhere → ⊥ = λ e. absurd (omega arith) in
         record { room = o .each u l .stand .mapped n .room; one = λ w m e. together u w l m (λ t. t .apart n e) }
 
     one-force-of : (r : ℕ) → (r ≡ 0 → ⊥) → OneForce b r

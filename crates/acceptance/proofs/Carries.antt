@@ -5,10 +5,10 @@ use mathlib.Core.Path.{_≡_, refl, sym, ap, _∙_}
 use mathlib.Core.List.{List, [], _∷_, _++_}
 use mathlib.Core.Bool.{Bool, true, false, not, _&&_, cond}
 use lib.Dec.{ltb, eqb}
-use Rattle.position.specs.Bits.{has, tried}
+use Rattle.position.specs.Bits.{marksEnd, has, tried}
 use Rattle.position.specs.Tally.{tally, any}
 use Rattle.position.specs.Kind.{force}
-use Rattle.position.specs.Board.{Board, Units, Desk, nowhere, forceOf}
+use Rattle.position.specs.Board.{Board, Counter, Units, Desk, nowhere, forceOf}
 use Rattle.position.specs.Ground.{standable}
 use Rattle.position.specs.Crowd.{crowd, holders, owesAt, owingHexes, filled, routes}
 use Rattle.acceptance.specs.Accepted.{StandOk, UnitOk, PairOk, UnitsOk, ClockOk, PlayersOk, RetreatsOk, StageOk, LinkOk, PlaceOk, RoutesOk, Lawful}
@@ -22,38 +22,23 @@ pub record Fixed (b c : Board) : Type 0 where
   pub results : c .results ≡ b .results
   pub map : c .map ≡ b .map
   pub count : c .units .count ≡ b .units .count
-  pub nationality : c .units .nationality ≡ b .units .nationality
-  pub kind : c .units .kind ≡ b .units .kind
-  pub allowance : c .units .allowance ≡ b .units .allowance
+  pub counter : c .units .counter ≡ b .units .counter
   pub lastTurn : c .desk .lastTurn ≡ b .desk .lastTurn
   pub players : c .desk .player ≡ b .desk .player
 
 module _ (b : Board) where
   -- other units with these counters, and another desk with this last turn and these players
   fixed-both :
-      (s : Units) (d : Desk) → s .count ≡ b .units .count → s .nationality ≡ b .units .nationality → s .kind ≡ b .units .kind
-      → s .allowance ≡ b .units .allowance → d .lastTurn ≡ b .desk .lastTurn → d .player ≡ b .desk .player
-      → Fixed b (withDesk (withUnits b s) d)
-  fixed-both s d n t k a e g =
-      record {
-        chart = refl;
-        results = refl;
-        map = refl;
-        count = n;
-        nationality = t;
-        kind = k;
-        allowance = a;
-        lastTurn = e;
-        players = g;
-      }
+      (s : Units) (d : Desk) → s .count ≡ b .units .count → s .counter ≡ b .units .counter → d .lastTurn ≡ b .desk .lastTurn
+      → d .player ≡ b .desk .player → Fixed b (withDesk (withUnits b s) d)
+  fixed-both s d n k e g =
+      record { chart = refl; results = refl; map = refl; count = n; counter = k; lastTurn = e; players = g }
 
-  pub fixed-units :
-      (s : Units) → s .count ≡ b .units .count → s .nationality ≡ b .units .nationality → s .kind ≡ b .units .kind
-      → s .allowance ≡ b .units .allowance → Fixed b (withUnits b s)
-  fixed-units s n t k a = fixed-both s (b .desk) n t k a refl refl
+  pub fixed-units : (s : Units) → s .count ≡ b .units .count → s .counter ≡ b .units .counter → Fixed b (withUnits b s)
+  fixed-units s n k = fixed-both s (b .desk) n k refl refl
 
   pub fixed-desk : (d : Desk) → d .lastTurn ≡ b .desk .lastTurn → d .player ≡ b .desk .player → Fixed b (withDesk b d)
-  fixed-desk d e g = fixed-both (b .units) d refl refl refl refl e g
+  fixed-desk d e g = fixed-both (b .units) d refl refl e g
 
   fixed-cond : (t : Bool) {c : Board} → Fixed b c → Fixed b (cond t c b)
   fixed-cond true f = f
@@ -61,10 +46,10 @@ module _ (b : Board) where
 
   pub fixed-change : (x : Change) → Fixed b (change b x)
   unfolding change
-  fixed-change (placed u h) = fixed-cond (ltb h (b .map .hexes)) (fixed-units _ refl refl refl refl)
-  fixed-change (destroyed u) = fixed-units _ refl refl refl refl
-  fixed-change (marked u m) = fixed-units _ refl refl refl refl
-  fixed-change (assigned u r) = fixed-units _ refl refl refl refl
+  fixed-change (placed u h) = fixed-cond (ltb h (b .map .hexes)) (fixed-units _ refl refl)
+  fixed-change (destroyed u) = fixed-units _ refl refl
+  fixed-change (marked u m) = fixed-units _ refl refl
+  fixed-change (assigned u r) = fixed-units _ refl refl
   fixed-change (timed t f ph) = fixed-desk _ refl refl
   fixed-change (staged s n x) = fixed-desk _ refl refl
   fixed-change (routed r w x y z) = fixed-desk _ refl refl
@@ -76,6 +61,13 @@ changes-then [] ys b = refl
 changes-then (x ∷ xs) ys b = changes-then xs ys (change b x)
 
 module _ {b c : Board} (f : Fixed b c) where
+  -- what is printed on a counter
+  pub nationality-by : c .units .counter .nationality ≡ b .units .counter .nationality
+  nationality-by = ap (λ (x : Counter). x .nationality) (f .counter)
+
+  pub kind-by : c .units .counter .kind ≡ b .units .counter .kind
+  kind-by = ap (λ (x : Counter). x .kind) (f .counter)
+
   -- what is read off a few fields
   pub standable-by : (h : ℕ) → standable c h ≡ standable b h
   unfolding standable
@@ -83,19 +75,19 @@ module _ {b c : Board} (f : Fixed b c) where
 
   pub force-by : (u : ℕ) → forceOf c u ≡ forceOf b u
   unfolding forceOf
-  force-by u = ap (λ (n : ℕ → ℕ). force (n u)) (f .nationality)
+  force-by u = ap (λ (n : ℕ → ℕ). force (n u)) nationality-by
 
-  module _ (e : c .units .hex ≡ b .units .hex) where
+  module _ (e : c .units .state .hex ≡ b .units .state .hex) where
     pub crowd-by : (h : ℕ) → crowd c h ≡ crowd b h
     unfolding crowd
     crowd-by h = λ i. tally (λ u. eqb (e i u) h) (f .count i)
 
-    pub owing-by : c .units .role ≡ b .units .role → owingHexes c ≡ owingHexes b
+    pub owing-by : c .units .state .role ≡ b .units .state .role → owingHexes c ≡ owingHexes b
     unfolding owingHexes owesAt
     owing-by r =
         λ i. tally (λ u. eqb (r i u) 1 && not (any (λ w. eqb (r i w) 1 && eqb (e i w) (e i u)) u)) (f .count i)
 
-  pub holders-by : c .units .role ≡ b .units .role → (r : ℕ) → holders c r ≡ holders b r
+  pub holders-by : c .units .state .role ≡ b .units .state .role → (r : ℕ) → holders c r ≡ holders b r
   unfolding holders
   holders-by e r = λ i. tally (λ u. eqb (e i u) r) (f .count i)
 
@@ -126,10 +118,10 @@ module _ {b c : Board} (f : Fixed b c) where
         }
 
   -- one unit by itself
-  module _ (w : ℕ) (role : c .units .role w ≡ b .units .role w) where
+  module _ (w : ℕ) (role : c .units .state .role w ≡ b .units .state .role w) where
     pub stand-by :
-        c .units .hex w ≡ b .units .hex w → (b .units .hex w ≡ nowhere → c .units .marks w ≤ tried)
-        → (crowd b (b .units .hex w) ≤ 3 → crowd c (b .units .hex w) ≤ 3) → StandOk b w → StandOk c w
+        c .units .state .hex w ≡ b .units .state .hex w → (b .units .state .hex w ≡ nowhere → c .units .state .marks w ≤ tried)
+        → (crowd b (b .units .state .hex w) ≤ 3 → crowd c (b .units .state .hex w) ≤ 3) → StandOk b w → StandOk c w
     stand-by e m r o =
         record {
           destroyed = rw e (λ n. record { role = role ∙ o .destroyed n .role; marks = m n });
@@ -137,22 +129,22 @@ module _ {b c : Board} (f : Fixed b c) where
               λ n.
               let k = o .mapped (λ z. n (e ∙ z)) in
               record {
-                stands = ap (standable c) e ∙ standable-by (b .units .hex w) ∙ k .stands;
+                stands = ap (standable c) e ∙ standable-by (b .units .state .hex w) ∙ k .stands;
                 room = rw e (r (k .room));
               };
         }
 
     pub unit-by :
-        c .units .marks w < 16 → (has tried (b .units .marks w) ≡ true → has tried (c .units .marks w) ≡ true)
-        → (c .units .hex w ≡ nowhere → b .units .hex w ≡ nowhere) → StandOk c w → UnitOk b w → UnitOk c w
+        c .units .state .marks w < marksEnd → (has tried (b .units .state .marks w) ≡ true → has tried (c .units .state .marks w) ≡ true)
+        → (c .units .state .hex w ≡ nowhere → b .units .state .hex w ≡ nowhere) → StandOk c w → UnitOk b w → UnitOk c w
     unit-by m t n s o =
         record {
           counter =
               record {
-                belongs = rw (f .kind, f .nationality) (o .counter .belongs);
-                allows = rw (f .kind, f .allowance) (o .counter .allows);
+                belongs = rw (f .counter) (o .counter .belongs);
+                allows = rw (f .counter) (o .counter .allows);
                 marks = m;
-                always = rw (f .kind) (λ e. t (o .counter .always e));
+                always = rw (f .counter) (λ e. t (o .counter .always e));
               };
           duty =
               record {
@@ -167,8 +159,8 @@ module _ {b c : Board} (f : Fixed b c) where
 
   -- two units side by side
   pub pair-by :
-      (u w : ℕ) → c .units .role u ≡ b .units .role u → c .units .role w ≡ b .units .role w
-      → ((forceOf b u ≡ forceOf b w → ⊥) → (c .units .hex u ≡ nowhere → ⊥) → c .units .hex w ≡ c .units .hex u → ⊥)
+      (u w : ℕ) → c .units .state .role u ≡ b .units .state .role u → c .units .state .role w ≡ b .units .state .role w
+      → ((forceOf b u ≡ forceOf b w → ⊥) → (c .units .state .hex u ≡ nowhere → ⊥) → c .units .state .hex w ≡ c .units .state .hex u → ⊥)
       → PairOk b u w → PairOk c u w
   pair-by u w r s apart o =
       record {
@@ -180,11 +172,12 @@ module _ {b c : Board} (f : Fixed b c) where
       }
 
   -- what the stages ask
-  module _ (role : c .units .role ≡ b .units .role) (route : c .desk .route ≡ b .desk .route) where
-    pub stage-by :
-        c .desk .stage ≡ b .desk .stage → c .desk .owed ≡ b .desk .owed → c .desk .need ≡ b .desk .need
-        → (b .desk .stage ≡ 1 → RetreatsOk c) → StageOk b → StageOk c
-    stage-by s n x retreats o =
+  module _ (role : c .units .state .role ≡ b .units .state .role) (route : c .desk .route ≡ b .desk .route) where
+    pub stage-by : c .desk .battle ≡ b .desk .battle → (b .desk .battle .stage ≡ 1 → RetreatsOk c) → StageOk b → StageOk c
+    stage-by e retreats o =
+        let s : c .desk .battle .stage ≡ b .desk .battle .stage = λ i. e i .stage in
+        let n : c .desk .battle .owed ≡ b .desk .battle .owed = λ i. e i .owed in
+        let x : c .desk .battle .need ≡ b .desk .battle .need = λ i. e i .need in
         let h = holders-by role in
         let d = o .during in
         record {
@@ -209,8 +202,9 @@ module _ {b c : Board} (f : Fixed b c) where
         }
 
     -- owing hexes stay where nobody moves
-    pub retreats-by : c .units .hex ≡ b .units .hex → c .desk .owed ≡ b .desk .owed → RetreatsOk b → RetreatsOk c
-    retreats-by e n o =
+    pub retreats-by : c .units .state .hex ≡ b .units .state .hex → c .desk .battle ≡ b .desk .battle → RetreatsOk b → RetreatsOk c
+    retreats-by e g o =
+        let n : c .desk .battle .owed ≡ b .desk .battle .owed = λ i. g i .owed in
         let k = owing-by e role in
         record { owed = rw n (o .owed); some = rw k (o .some); room = rw (k, routes-by route) (o .room) }
 

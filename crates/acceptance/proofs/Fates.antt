@@ -20,28 +20,28 @@ use Rattle.acceptance.proofs.Asking.{units-asked, alone-of, stacks-of, 
 
 -- unit w is as it was
 pub record Same (s t : Units) (w : ℕ) : Type 0 where
-  pub hex : t .hex w ≡ s .hex w
-  pub marks : t .marks w ≡ s .marks w
-  pub role : t .role w ≡ s .role w
+  pub hex : t .state .hex w ≡ s .state .hex w
+  pub marks : t .state .marks w ≡ s .state .marks w
+  pub role : t .state .role w ≡ s .state .role w
 
 -- unit w is in the box
 pub record Boxed (t : Units) (w : ℕ) : Type 0 where
-  pub hex : t .hex w ≡ nowhere
-  pub marks : t .marks w ≤ tried
+  pub hex : t .state .hex w ≡ nowhere
+  pub marks : t .state .marks w ≤ tried
 
 -- unit w has role f, where it is on the map as before; for 0 it is destroyed
 pub record Fated (s t : Units) (f w : ℕ) : Type 0 where
-  pub role : t .role w ≡ f
-  pub face : has tried (t .marks w) ≡ has tried (s .marks w)
+  pub role : t .state .role w ≡ f
+  pub face : has tried (t .state .marks w) ≡ has tried (s .state .marks w)
   pub lost : f ≡ 0 → Boxed t w
-  pub stays : (f ≡ 0 → ⊥) → t .hex w ≡ s .hex w
-  pub keeps : (f ≡ 0 → ⊥) → t .marks w ≡ s .marks w
+  pub stays : (f ≡ 0 → ⊥) → t .state .hex w ≡ s .state .hex w
+  pub keeps : (f ≡ 0 → ⊥) → t .state .marks w ≡ s .state .marks w
 
 -- unit w has no role now, and is otherwise as it was
 pub record Freed (s t : Units) (w : ℕ) : Type 0 where
-  pub hex : t .hex w ≡ s .hex w
-  pub marks : t .marks w ≡ s .marks w
-  pub role : t .role w ≡ 0
+  pub hex : t .state .hex w ≡ s .state .hex w
+  pub marks : t .state .marks w ≡ s .state .marks w
+  pub role : t .state .role w ≡ 0
 
 module _ {s t v : Units} {w : ℕ} where
   pub same-trans : Same s t w → Same t v w → Same s v w
@@ -88,20 +88,20 @@ module _ (b : Board) (u : ℕ) where
   unfolding change
   destroyed-else w n =
       let at : (f : ℕ → ℕ) (x : ℕ) → _ = λ f x. upd-else (b .units .count) f u x w (λ _ e. n e) in
-      record { hex = at (b .units .hex) nowhere; marks = at (b .units .marks) (faced (b .units .marks u) 0); role = at (b .units .role) 0 }
+      record { hex = at (b .units .state .hex) nowhere; marks = at (b .units .state .marks) (faced (b .units .state .marks u) 0); role = at (b .units .state .role) 0 }
 
   pub destroyed-here : u < b .units .count → Fated (b .units) (change b (destroyed u) .units) 0 u
   unfolding change
   destroyed-here l =
-      let m = upd-there (b .units .count) (b .units .marks) u (faced (b .units .marks u) 0) l in
+      let m = upd-there (b .units .count) (b .units .state .marks) u (faced (b .units .state .marks u) 0) l in
       record {
-        role = upd-there (b .units .count) (b .units .role) u 0 l;
-        face = ap (has tried) m ∙ faced-face (b .units .marks u) 0;
+        role = upd-there (b .units .count) (b .units .state .role) u 0 l;
+        face = ap (has tried) m ∙ faced-face (b .units .state .marks u) 0;
         lost =
             λ _.
             record {
-              hex = upd-there (b .units .count) (b .units .hex) u nowhere l;
-              marks = rw m (faced-none (b .units .marks u));
+              hex = upd-there (b .units .count) (b .units .state .hex) u nowhere l;
+              marks = rw m (faced-none (b .units .state .marks u));
             };
         stays = λ n. absurd (n refl);
         keeps = λ n. absurd (n refl);
@@ -110,13 +110,13 @@ module _ (b : Board) (u : ℕ) where
   module _ (r : ℕ) where
     pub assigned-else : (w : ℕ) → (w ≡ u → ⊥) → Same (b .units) (change b (assigned u r) .units) w
     unfolding change
-    assigned-else w n = record { hex = refl; marks = refl; role = upd-else (b .units .count) (b .units .role) u r w (λ _ e. n e) }
+    assigned-else w n = record { hex = refl; marks = refl; role = upd-else (b .units .count) (b .units .state .role) u r w (λ _ e. n e) }
 
     pub assigned-here : u < b .units .count → (r ≡ 0 → ⊥) → Fated (b .units) (change b (assigned u r) .units) r u
     unfolding change
     assigned-here l n =
         record {
-          role = upd-there (b .units .count) (b .units .role) u r l;
+          role = upd-there (b .units .count) (b .units .state .role) u r l;
           face = refl;
           lost = λ e. absurd (n e);
           stays = λ _. refl;
@@ -125,7 +125,7 @@ module _ (b : Board) (u : ℕ) where
 
   pub assigned-none : u < b .units .count → Freed (b .units) (change b (assigned u 0) .units) u
   unfolding change
-  assigned-none l = record { hex = refl; marks = refl; role = upd-there (b .units .count) (b .units .role) u 0 l }
+  assigned-none l = record { hex = refl; marks = refl; role = upd-there (b .units .count) (b .units .state .role) u 0 l }
 
 -- the lines on one unit, on stacks and on roles
 module _ {b c : Board} (f : Fixed b c) where
@@ -134,10 +134,10 @@ module _ {b c : Board} (f : Fixed b c) where
       record {
         counter =
             record {
-              belongs = rw (f .kind, f .nationality) (o .counter .belongs);
-              allows = rw (f .kind, f .allowance) (o .counter .allows);
+              belongs = rw (f .counter) (o .counter .belongs);
+              allows = rw (f .counter) (o .counter .allows);
               marks = rw (e .marks) (o .counter .marks);
-              always = rw (f .kind, e .marks) (o .counter .always);
+              always = rw (f .counter, e .marks) (o .counter .always);
             };
         duty =
             record {
@@ -154,23 +154,23 @@ module _ {b c : Board} (f : Fixed b c) where
                   let d = o .ground .destroyed (sym (e .hex) ∙ n) in
                   record { role = e .role ∙ d .role; marks = rw (e .marks) (d .marks) };
               stands =
-                  λ n. ap (standable c) (e .hex) ∙ standable-by f (b .units .hex w) ∙ o .ground .stands (λ z. n (e .hex ∙ z));
+                  λ n. ap (standable c) (e .hex) ∙ standable-by f (b .units .state .hex w) ∙ o .ground .stands (λ z. n (e .hex ∙ z));
             };
       }
 
   -- a unit that is tried and on the map bears a role, and any unit bears loss
   pub alone-fated :
       (r w : ℕ) → Fated (b .units) (c .units) r w → r ≤ 2
-      → ((r ≡ 0 → ⊥) → has tried (b .units .marks w) ≡ true) → ((r ≡ 0 → ⊥) → b .units .hex w ≡ nowhere → ⊥)
+      → ((r ≡ 0 → ⊥) → has tried (b .units .state .marks w) ≡ true) → ((r ≡ 0 → ⊥) → b .units .state .hex w ≡ nowhere → ⊥)
       → AloneOk b w → AloneOk c w
   alone-fated r w e l t m o =
       record {
         counter =
             record {
-              belongs = rw (f .kind, f .nationality) (o .counter .belongs);
-              allows = rw (f .kind, f .allowance) (o .counter .allows);
+              belongs = rw (f .counter) (o .counter .belongs);
+              allows = rw (f .counter) (o .counter .allows);
               marks = same-or r 0 (λ z. omega (arith, e .lost z .marks)) (λ n. rw (e .keeps n) (o .counter .marks));
-              always = rw (f .kind) (λ k. e .face ∙ o .counter .always k);
+              always = rw (f .counter) (λ k. e .face ∙ o .counter .always k);
             };
         duty =
             record {
@@ -191,7 +191,7 @@ module _ {b c : Board} (f : Fixed b c) where
                   λ n.
                   same-or r 0
                   (λ z. absurd (n (e .lost z .hex)))
-                  (λ z. ap (standable c) (e .stays z) ∙ standable-by f (b .units .hex w) ∙ o .ground .stands (m z));
+                  (λ z. ap (standable c) (e .stays z) ∙ standable-by f (b .units .state .hex w) ∙ o .ground .stands (m z));
             };
       }
 
@@ -201,10 +201,10 @@ module _ {b c : Board} (f : Fixed b c) where
       record {
         counter =
             record {
-              belongs = rw (f .kind, f .nationality) (o .counter .belongs);
-              allows = rw (f .kind, f .allowance) (o .counter .allows);
+              belongs = rw (f .counter) (o .counter .belongs);
+              allows = rw (f .counter) (o .counter .allows);
               marks = rw (e .marks) (o .counter .marks);
-              always = rw (f .kind, e .marks) (o .counter .always);
+              always = rw (f .counter, e .marks) (o .counter .always);
             };
         duty = record { role = omega (arith, e .role); held = λ n. absurd (n (e .role)) };
         ground =
@@ -212,31 +212,31 @@ module _ {b c : Board} (f : Fixed b c) where
               destroyed =
                   λ n. record { role = e .role; marks = rw (e .marks) (o .ground .destroyed (sym (e .hex) ∙ n) .marks) };
               stands =
-                  λ n. ap (standable c) (e .hex) ∙ standable-by f (b .units .hex w) ∙ o .ground .stands (λ z. n (e .hex ∙ z));
+                  λ n. ap (standable c) (e .hex) ∙ standable-by f (b .units .state .hex w) ∙ o .ground .stands (λ z. n (e .hex ∙ z));
             };
       }
 
   -- every unit on the map stands where it stood
   module _
       (most : b .map .hexes ≤ nowhere)
-      (at : (w : ℕ) → w < b .units .count → (c .units .hex w ≡ nowhere → ⊥) → c .units .hex w ≡ b .units .hex w) where
+      (at : (w : ℕ) → w < b .units .count → (c .units .state .hex w ≡ nowhere → ⊥) → c .units .state .hex w ≡ b .units .state .hex w) where
     crowd-less : (h : ℕ) → (h ≡ nowhere → ⊥) → crowd c h ≤ crowd b h
     crowd-less h n =
         rw (crowd-is c h, crowd-is b h, f .count)
-        (tally-le (equals (c .units .hex) h) (equals (b .units .hex) h) (b .units .count)
+        (tally-le (equals (c .units .state .hex) h) (equals (b .units .state .hex) h) (b .units .count)
         (λ w l e.
-        let q = equals-is (c .units .hex) h w e in
-        equals-yes (b .units .hex) h w (sym (at w l (λ z. n (sym q ∙ z))) ∙ q)))
+        let q = equals-is (c .units .state .hex) h w e in
+        equals-yes (b .units .state .hex) h w (sym (at w l (λ z. n (sym q ∙ z))) ∙ q)))
 
     pub stacks-fewer : StacksOk b → StacksOk c
     stacks-fewer s u l low high =
-        let h : c .units .hex u < b .map .hexes = rw (f .map) at high in
-        let n : c .units .hex u ≡ nowhere → ⊥ = λ e. absurd (omega arith) in
+        let h : c .units .state .hex u < b .map .hexes = rw (f .map) at high in
+        let n : c .units .state .hex u ≡ nowhere → ⊥ = λ e. absurd (omega arith) in
         let m : u < b .units .count = omega (arith, f .count) in
         let q = at u m n in
         let k = s u m (omega arith) (rw q at h) in
         record {
-          room = omega (arith, crowd-less (c .units .hex u) n, ap (crowd b) q, k .room);
+          room = omega (arith, crowd-less (c .units .state .hex u) n, ap (crowd b) q, k .room);
           one =
               λ w g e.
               let i : w < b .units .count = omega (arith, f .count) in
@@ -244,9 +244,9 @@ module _ {b c : Board} (f : Fixed b c) where
         }
 
   -- who has a role had it before
-  module _ (had : (w : ℕ) → w < b .units .count → (c .units .role w ≡ 0 → ⊥) → c .units .role w ≡ b .units .role w) where
+  module _ (had : (w : ℕ) → w < b .units .count → (c .units .state .role w ≡ 0 → ⊥) → c .units .state .role w ≡ b .units .state .role w) where
     role-before :
-        (r w : ℕ) → w < c .units .count → (r ≡ 0 → ⊥) → c .units .role w ≡ r → (w < b .units .count) × (b .units .role w ≡ r)
+        (r w : ℕ) → w < c .units .count → (r ≡ 0 → ⊥) → c .units .state .role w ≡ r → (w < b .units .count) × (b .units .state .role w ≡ r)
     role-before r w l n e =
         let m : w < b .units .count = omega (arith, f .count) in
         (m, sym (had w m (λ z. n (sym e ∙ z))) ∙ e)
@@ -271,14 +271,14 @@ module _ {b c : Board} (f : Fixed b c) where
 
   -- who may advance owed before, and none owes now
   pub roles-passed :
-      ((w : ℕ) → w < b .units .count → (c .units .role w ≡ 0 → ⊥) → (c .units .role w ≡ 2) × (b .units .role w ≡ 1))
+      ((w : ℕ) → w < b .units .count → (c .units .state .role w ≡ 0 → ⊥) → (c .units .state .role w ≡ 2) × (b .units .state .role w ≡ 1))
       → RolesOk b → RolesOk c
   roles-passed had o =
       let below : (w : ℕ) → w < c .units .count → w < b .units .count = λ w l. omega (arith, f .count) in
-      let two : (w : ℕ) → w < c .units .count → c .units .role w ≡ 1 → ⊥ =
+      let two : (w : ℕ) → w < c .units .count → c .units .state .role w ≡ 1 → ⊥ =
       λ w l p. omega (arith, had w (below w l) (λ z. omega arith) .0)
       in
-      let one : (w : ℕ) → w < c .units .count → c .units .role w ≡ 2 → b .units .role w ≡ 1 =
+      let one : (w : ℕ) → w < c .units .count → c .units .state .role w ≡ 2 → b .units .state .role w ≡ 1 =
       λ w l p. had w (below w l) (λ z. omega arith) .1
       in
       record {
@@ -295,12 +295,12 @@ pub data Lesser (s t : Units) (w : ℕ) : Type 0 where
   freed : Freed s t w → Lesser s t w
   gone : Fated s t 0 w → Lesser s t w
 
-lesser-hex : {s t : Units} {w : ℕ} → Lesser s t w → (t .hex w ≡ nowhere → ⊥) → t .hex w ≡ s .hex w
+lesser-hex : {s t : Units} {w : ℕ} → Lesser s t w → (t .state .hex w ≡ nowhere → ⊥) → t .state .hex w ≡ s .state .hex w
 lesser-hex (same e) n = e .hex
 lesser-hex (freed e) n = e .hex
 lesser-hex (gone e) n = absurd (n (e .lost refl .hex))
 
-lesser-role : {s t : Units} {w : ℕ} → Lesser s t w → (t .role w ≡ 0 → ⊥) → t .role w ≡ s .role w
+lesser-role : {s t : Units} {w : ℕ} → Lesser s t w → (t .state .role w ≡ 0 → ⊥) → t .state .role w ≡ s .state .role w
 lesser-role (same e) n = e .role
 lesser-role (freed e) n = absurd (n (e .role))
 lesser-role (gone e) n = absurd (n (e .role))

@@ -7,7 +7,7 @@ use native.Mathlib.Omega.{arith}
 use native.Mathlib.Decide.{decLt}
 use lib.Dec.{eqb}
 use borrow.Author.Tests.{lt-ltb}
-use Rattle.position.specs.Bits.{has, tried, faced}
+use Rattle.position.specs.Bits.{marksEnd, has, tried, faced}
 use Rattle.position.specs.Board.{Board, nowhere, forceOf}
 use Rattle.position.specs.Ground.{standable}
 use Rattle.position.specs.Crowd.{crowd, others}
@@ -36,9 +36,9 @@ use Rattle.acceptance.proofs.Carries.{
 
 -- the marks of unit w in c suit the unit as it stands in b, and hide nothing that was seen
 pub record Suited (b c : Board) (w : ℕ) : Type 0 where
-  pub marks : c .units .marks w < 16
-  pub face : has tried (b .units .marks w) ≡ true → has tried (c .units .marks w) ≡ true
-  pub destroyed : b .units .hex w ≡ nowhere → c .units .marks w ≤ tried
+  pub marks : c .units .state .marks w < marksEnd
+  pub face : has tried (b .units .state .marks w) ≡ true → has tried (c .units .state .marks w) ≡ true
+  pub destroyed : b .units .state .hex w ≡ nowhere → c .units .state .marks w ≤ tried
 
 pub suited-same : {b : Board} → Lawful b → (w : ℕ) → w < b .units .count → Suited b b w
 suited-same l w h =
@@ -47,12 +47,11 @@ suited-same l w h =
 
 -- other marks and another clock: everything else is as it was
 pub lawful-still :
-    {b c : Board} → Fixed b c → c .units .hex ≡ b .units .hex → c .units .role ≡ b .units .role
-    → c .desk .stage ≡ b .desk .stage → c .desk .owed ≡ b .desk .owed → c .desk .need ≡ b .desk .need
-    → c .desk .route ≡ b .desk .route → ((w : ℕ) → w < b .units .count → Suited b c w) → ClockOk (c .desk) → Lawful b → Lawful c
-lawful-still {b} {c} f hex role stage owed need route s k l =
-    let at : (w : ℕ) → c .units .hex w ≡ b .units .hex w = λ w i. hex i w in
-    let duty : (w : ℕ) → c .units .role w ≡ b .units .role w = λ w i. role i w in
+    {b c : Board} → Fixed b c → c .units .state .hex ≡ b .units .state .hex → c .units .state .role ≡ b .units .state .role
+    → c .desk .battle ≡ b .desk .battle → c .desk .route ≡ b .desk .route → ((w : ℕ) → w < b .units .count → Suited b c w) → ClockOk (c .desk) → Lawful b → Lawful c
+lawful-still {b} {c} f hex role battle route s k l =
+    let at : (w : ℕ) → c .units .state .hex w ≡ b .units .state .hex w = λ w i. hex i w in
+    let duty : (w : ℕ) → c .units .state .role w ≡ b .units .state .role w = λ w i. role i w in
     lawful-by f
     (record {
       each =
@@ -61,7 +60,7 @@ lawful-still {b} {c} f hex role stage owed need route s k l =
           let o = l .units .each w n in
           let t = s w n in
           unit-by f w (duty w) (t .marks) (t .face) (λ e. sym (at w) ∙ e)
-          (stand-by f w (duty w) (at w) (t .destroyed) (λ r. rw (crowd-by f hex (b .units .hex w)) r) (o .stand))
+          (stand-by f w (duty w) (at w) (t .destroyed) (λ r. rw (crowd-by f hex (b .units .state .hex w)) r) (o .stand))
           o;
       pairs =
           λ u h w g.
@@ -71,16 +70,16 @@ lawful-still {b} {c} f hex role stage owed need route s k l =
           o;
     })
     k
-    (stage-by f role route stage owed need (λ e. retreats-by f role route hex owed (l .stage .during .retreats e)) (l .stage))
+    (stage-by f role route battle (λ e. retreats-by f role route hex battle (l .stage .during .retreats e)) (l .stage))
     (routes-ok-by f route (l .routes))
     l
 
 -- marks that unit u may have: "Destroyed units have .. no mark but tried"
 pub record Markable (b : Board) (u m : ℕ) : Type 0 where
-  pub marks : m < 16
-  pub destroyed : b .units .hex u ≡ nowhere → m ≤ tried
+  pub marks : m < marksEnd
+  pub destroyed : b .units .state .hex u ≡ nowhere → m ≤ tried
 
-faced-small : (old m : ℕ) → m < 16 → faced old m < 16
+faced-small : (old m : ℕ) → m < marksEnd → faced old m < marksEnd
 unfolding faced
 faced-small old m l = omega arith
 
@@ -91,31 +90,31 @@ faced-bare old m l = omega arith
 pub lawful-marked : {b : Board} → Lawful b → (u m : ℕ) → Markable b u m → Lawful (change b (marked u m))
 unfolding change
 lawful-marked {b} l u m k =
-    lawful-still (fixed-change b (marked u m)) refl refl refl refl refl refl (λ w h. suited w (suited-same l w h)) (l .clock) l
+    lawful-still (fixed-change b (marked u m)) refl refl refl refl (λ w h. suited w (suited-same l w h)) (l .clock) l
   where
-    after : (P : ℕ → Type 0) (w : ℕ) → (w ≡ u → P (faced (b .units .marks u) m)) → P (b .units .marks w) → P (change b (marked u m) .units .marks w)
-    after P w x y = upd-case P (b .units .count) (b .units .marks) u (faced (b .units .marks u) m) w (λ _ e. x e) y
+    after : (P : ℕ → Type 0) (w : ℕ) → (w ≡ u → P (faced (b .units .state .marks u) m)) → P (b .units .state .marks w) → P (change b (marked u m) .units .state .marks w)
+    after P w x y = upd-case P (b .units .count) (b .units .state .marks) u (faced (b .units .state .marks u) m) w (λ _ e. x e) y
 
     suited : (w : ℕ) → Suited b b w → Suited b (change b (marked u m)) w
     suited w s =
         record {
-          marks = after (λ x. x < 16) w (λ e. faced-small (b .units .marks u) m (k .marks)) (s .marks);
+          marks = after (λ x. x < marksEnd) w (λ e. faced-small (b .units .state .marks u) m (k .marks)) (s .marks);
           face =
               λ t.
-              after (λ x. has tried x ≡ true) w (λ e. faced-face (b .units .marks u) m ∙ ap (λ (x : ℕ). has tried (b .units .marks x)) (sym e) ∙ t) t;
+              after (λ x. has tried x ≡ true) w (λ e. faced-face (b .units .state .marks u) m ∙ ap (λ (x : ℕ). has tried (b .units .state .marks x)) (sym e) ∙ t) t;
           destroyed =
               λ z.
-              after (λ x. x ≤ tried) w (λ e. faced-bare (b .units .marks u) m (k .destroyed (ap (b .units .hex) (sym e) ∙ z))) (s .destroyed z);
+              after (λ x. x ≤ tried) w (λ e. faced-bare (b .units .state .marks u) m (k .destroyed (ap (b .units .state .hex) (sym e) ∙ z))) (s .destroyed z);
         }
 
 -- "turn 1..60, last turn 1..60 not below turn, force 0..3, phase"
 pub lawful-timed :
-    {b : Board} → Lawful b → b .desk .stage ≡ 0 → (t f ph : ℕ) → In 1 t 60 → t ≤ b .desk .lastTurn → f ≤ 3 → ph ≤ 2
+    {b : Board} → Lawful b → b .desk .battle .stage ≡ 0 → (t f ph : ℕ) → In 1 t 60 → t ≤ b .desk .lastTurn → f ≤ 3 → ph ≤ 2
     → Lawful (change b (timed t f ph))
 unfolding change
 lawful-timed {b} l z t f ph i n force phase =
     let k = l .clock in
-    lawful-still (fixed-change b (timed t f ph)) refl refl refl refl refl refl
+    lawful-still (fixed-change b (timed t f ph)) refl refl refl refl
     (λ w h. let s = suited-same l w h in record { marks = s .marks; face = s .face; destroyed = s .destroyed })
     (record {
       turn = i;
@@ -132,7 +131,7 @@ pub record Room (b : Board) (u h : ℕ) : Type 0 where
   pub hex : h ≡ nowhere → ⊥
   pub stands : standable b h ≡ true
   pub few : others b u h ≤ 2
-  pub own : (w : ℕ) → w < b .units .count → (w ≡ u → ⊥) → b .units .hex w ≡ h → forceOf b w ≡ forceOf b u
+  pub own : (w : ℕ) → w < b .units .count → (w ≡ u → ⊥) → b .units .state .hex w ≡ h → forceOf b w ≡ forceOf b u
 
 -- unit u on hex h
 abbrev moved : Board → ℕ → ℕ → Board
@@ -151,23 +150,23 @@ unfolding change
 placed-is b u h s = simp (lt-ltb h (b .map .hexes) (standable-on b h s))
 
 fixed : (b : Board) (u h : ℕ) → Fixed b (moved b u h)
-fixed b u h = fixed-units b (withHex (b .units) u h) refl refl refl refl
+fixed b u h = fixed-units b (withHex (b .units) u h) refl refl
 
 module _ {b : Board} (u h : ℕ) (n : u < b .units .count) (r : Room b u h) where
-  there : (w : ℕ) → w ≡ u → moved b u h .units .hex w ≡ h
-  there w e = ap (moved b u h .units .hex) e ∙ upd-there (b .units .count) (b .units .hex) u h n
+  there : (w : ℕ) → w ≡ u → moved b u h .units .state .hex w ≡ h
+  there w e = ap (moved b u h .units .state .hex) e ∙ upd-there (b .units .count) (b .units .state .hex) u h n
 
-  else : (w : ℕ) → (w ≡ u → ⊥) → moved b u h .units .hex w ≡ b .units .hex w
-  else w e = upd-else (b .units .count) (b .units .hex) u h w (λ _ z. e z)
+  else : (w : ℕ) → (w ≡ u → ⊥) → moved b u h .units .state .hex w ≡ b .units .state .hex w
+  else w e = upd-else (b .units .count) (b .units .state .hex) u h w (λ _ z. e z)
 
-  equals-else : (x w : ℕ) → (w ≡ u → ⊥) → equals (moved b u h .units .hex) x w ≡ equals (b .units .hex) x w
+  equals-else : (x w : ℕ) → (w ≡ u → ⊥) → equals (moved b u h .units .state .hex) x w ≡ equals (b .units .state .hex) x w
   unfolding equals
   equals-else x w e = ap (λ (k : ℕ). eqb k x) (else w e)
 
   others-kept : (x : ℕ) → others (moved b u h) u x ≡ others b u x
   others-kept x =
-      let t = equals (moved b u h .units .hex) x in
-      let s = equals (b .units .hex) x in
+      let t = equals (moved b u h .units .state .hex) x in
+      let s = equals (b .units .state .hex) x in
       others-is (moved b u h) u x
       ∙ tally-same (but t u) (but s u) (b .units .count)
       (λ k m.
@@ -185,7 +184,7 @@ module _ {b : Board} (u h : ℕ) (n : u < b .units .count) (r : Room b u h) wher
       (λ e. rw (sym e) crowd-there)
       (λ e.
       let c = crowd-without (moved b u h) u x (λ z. e (sym (there u refl) ∙ z)) in
-      same-or (b .units .hex u) x
+      same-or (b .units .state .hex u) x
       (λ z. omega (arith, others-kept x, crowd-with b u x n z))
       (λ z. omega (arith, others-kept x, crowd-without b u x z)))
 
@@ -203,7 +202,7 @@ module _ {b : Board} (u h : ℕ) (n : u < b .units .count) (r : Room b u h) wher
 
   stand-else : (w : ℕ) → (w ≡ u → ⊥) → UnitOk b w → StandOk (moved b u h) w
   stand-else w e o =
-      stand-by (fixed b u h) w refl (else w e) (λ z. o .stand .destroyed z .marks) (crowd-else (b .units .hex w)) (o .stand)
+      stand-by (fixed b u h) w refl (else w e) (λ z. o .stand .destroyed z .marks) (crowd-else (b .units .state .hex w)) (o .stand)
 
   unit-moved : (w : ℕ) → UnitOk b w → UnitOk (moved b u h) w
   unit-moved w o =
@@ -228,7 +227,7 @@ module _ {b : Board} (u h : ℕ) (n : u < b .units .count) (r : Room b u h) wher
       o
 
   -- the unit is there then
-  pub placed-hex : change b (placed u h) .units .hex u ≡ h
+  pub placed-hex : change b (placed u h) .units .state .hex u ≡ h
   placed-hex = rw (placed-is b u h (r .stands)) (there u refl)
 
 -- the lines on units, with unit u on hex h
@@ -245,11 +244,11 @@ units-placed {b} o u h n r = rw (placed-is b u h (r .stands)) (units-moved o u h
 -- role 1 units may stand in other hexes then, so what the stage of retreats asks is a condition
 pub lawful-placed :
     {b : Board} → Lawful b → (u h : ℕ) → u < b .units .count → Room b u h
-    → (b .desk .stage ≡ 1 → RetreatsOk (change b (placed u h))) → Lawful (change b (placed u h))
+    → (b .desk .battle .stage ≡ 1 → RetreatsOk (change b (placed u h))) → Lawful (change b (placed u h))
 lawful-placed {b} l u h n r retreats =
     let e = placed-is b u h (r .stands) in
     let f = fixed b u h in
     rw e
-    (lawful-by f (units-moved (l .units) u h n r) (l .clock) (stage-by f refl refl refl refl refl (rw e at retreats) (l .stage))
+    (lawful-by f (units-moved (l .units) u h n r) (l .clock) (stage-by f refl refl refl (rw e at retreats) (l .stage))
     (routes-ok-by f refl (l .routes))
     l)

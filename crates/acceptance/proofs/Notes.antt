@@ -71,25 +71,25 @@ module _ (s : List ℕ) (h : ℕ) where
     note-full e l = record { long = refl; known = λ p. not-both _ p e; fresh = λ p. omega arith; here = λ m. absurd (omega arith) }
 
 module _ (b : Board) (u : ℕ) where
-  owes-hex : (h : ℕ) → b .units .role u ≡ 1 → b .units .hex u ≡ h → (x : ℕ) → owesAt b x u ≡ eqb h x
+  owes-hex : (h : ℕ) → b .units .state .role u ≡ 1 → b .units .state .hex u ≡ h → (x : ℕ) → owesAt b x u ≡ eqb h x
   unfolding owesAt
-  owes-hex h e i x = simp (eq-eqb (b .units .role u) 1 e, i)
+  owes-hex h e i x = simp (eq-eqb (b .units .state .role u) 1 e, i)
 
-  owes-no : (b .units .role u ≡ 1 → ⊥) → (x : ℕ) → owesAt b x u ≡ false
+  owes-no : (b .units .state .role u ≡ 1 → ⊥) → (x : ℕ) → owesAt b x u ≡ false
   unfolding owesAt
-  owes-no e x = simp (ne-eqb (b .units .role u) 1 e)
+  owes-no e x = simp (ne-eqb (b .units .state .role u) 1 e)
 
-  leads-yes : b .units .role u ≡ 1 → any (owesAt b (b .units .hex u)) u ≡ false → leads b u ≡ true
+  leads-yes : b .units .state .role u ≡ 1 → any (owesAt b (b .units .state .hex u)) u ≡ false → leads b u ≡ true
   unfolding leads
-  leads-yes e f = simp (eq-eqb (b .units .role u) 1 e, f)
+  leads-yes e f = simp (eq-eqb (b .units .state .role u) 1 e, f)
 
-  leads-late : any (owesAt b (b .units .hex u)) u ≡ true → leads b u ≡ false
+  leads-late : any (owesAt b (b .units .state .hex u)) u ≡ true → leads b u ≡ false
   unfolding leads
   leads-late e = simp (e, and-false)
 
-  leads-no : (b .units .role u ≡ 1 → ⊥) → leads b u ≡ false
+  leads-no : (b .units .state .role u ≡ 1 → ⊥) → leads b u ≡ false
   unfolding leads
-  leads-no e = simp (ne-eqb (b .units .role u) 1 e)
+  leads-no e = simp (ne-eqb (b .units .state .role u) 1 e)
 
 pub owing-hexes-is : (b : Board) → owingHexes b ≡ tally (leads b) (b .units .count)
 unfolding owingHexes leads
@@ -101,7 +101,7 @@ module _ {b : Board} where
 
   module _ {u k : ℕ} {s : List ℕ} (o : Noted b u k s) where
     -- past a unit that does not owe
-    pub noted-past : (b .units .role u ≡ 1 → ⊥) → Noted b (u + 1) k s
+    pub noted-past : (b .units .state .role u ≡ 1 → ⊥) → Noted b (u + 1) k s
     noted-past n =
         record {
           long = o .long;
@@ -109,7 +109,7 @@ module _ {b : Board} where
           here = λ h. o .here h ∙ sym (any-miss _ u (owes-no b u n h));
         }
 
-    module _ {t : List ℕ} {h r : ℕ} (e : b .units .role u ≡ 1) (i : b .units .hex u ≡ h) (n : NoteOf s t k h r) where
+    module _ {t : List ℕ} {h r : ℕ} (e : b .units .state .role u ≡ 1) (i : b .units .state .hex u ≡ h) (n : NoteOf s t k h r) where
       -- past one that does, whose hex is noted
       many-more : r ≡ tally (leads b) (u + 1)
       many-more =

@@ -9,11 +9,11 @@ use Rattle.acceptance.specs.Holder.{HolderOf}
 
 -- the units of role r are of force f
 abbrev AllOf : Board → ℕ → ℕ → Type 0
-AllOf b r f = (u : ℕ) → u < b .units .count → b .units .role u ≡ r → forceOf b u ≡ f
+AllOf b r f = (u : ℕ) → u < b .units .count → b .units .state .role u ≡ r → forceOf b u ≡ f
 
 module _ {b : Board} {r n : ℕ} (h : HolderOf b r n) where
   -- past the last unit there is none
-  pub nobody : b .units .count ≤ n → {A : Type 0} (u : ℕ) → u < b .units .count → b .units .role u ≡ r → A
+  pub nobody : b .units .count ≤ n → {A : Type 0} (u : ℕ) → u < b .units .count → b .units .state .role u ≡ r → A
   nobody l u m e = absurd (h .none u (omega arith) e)
 
   -- all are of its force exactly if they are of one

@@ -20,13 +20,13 @@ use Rattle.acceptance.specs.Seats.{block, Empty, Seat, Seated, SeatedOf}
 module _ (b : Board) where
   -- how many units below n stand on hex h
   abbrev there : ℕ → ℕ → ℕ
-  there h n = tally (equals (b .units .hex) h) n
+  there h n = tally (equals (b .units .state .hex) h) n
 
   many-is : {n h x : ℕ} → Seat b n h x → x % 4 ≡ there h n
   unfolding equals
   many-is s = s .many
 
-  seat-of : (n h x : ℕ) → x < 16 → x % 4 ≡ there h n → ((w : ℕ) → w < n → b .units .hex w ≡ h → forceOf b w ≡ x / 4) → Seat b n h x
+  seat-of : (n h x : ℕ) → x < 16 → x % 4 ≡ there h n → ((w : ℕ) → w < n → b .units .state .hex w ≡ h → forceOf b w ≡ x / 4) → Seat b n h x
   unfolding equals
   seat-of n h x l e f = record { small = l; many = e; one = f }
 
@@ -36,14 +36,14 @@ module _ (b : Board) where
 
   module _ (u h : ℕ) where
     -- unit u stands elsewhere
-    pub passed-by : {x : ℕ} → (b .units .hex u ≡ h → ⊥) → Seat b u h x → Seat b (u + 1) h x
+    pub passed-by : {x : ℕ} → (b .units .state .hex u ≡ h → ⊥) → Seat b u h x → Seat b (u + 1) h x
     passed-by {x} n s =
-        seat-of (u + 1) h x (s .small) (many-is s ∙ sym (tally-miss (equals (b .units .hex) h) u (equals-no (b .units .hex) h u n)))
-        (λ w l e. same-or w u (λ q. absurd (n (ap (b .units .hex) (sym q) ∙ e))) (λ k. s .one w (omega arith) e))
+        seat-of (u + 1) h x (s .small) (many-is s ∙ sym (tally-miss (equals (b .units .state .hex) h) u (equals-no (b .units .state .hex) h u n)))
+        (λ w l e. same-or w u (λ q. absurd (n (ap (b .units .state .hex) (sym q) ∙ e))) (λ k. s .one w (omega arith) e))
 
-    module _ {x : ℕ} (e : b .units .hex u ≡ h) (s : Seat b u h x) where
+    module _ {x : ℕ} (e : b .units .state .hex u ≡ h) (s : Seat b u h x) where
       one-more-there : there h (u + 1) ≡ there h u + 1
-      one-more-there = tally-hit (equals (b .units .hex) h) u (equals-yes (b .units .hex) h u e)
+      one-more-there = tally-hit (equals (b .units .state .hex) h) u (equals-yes (b .units .state .hex) h u e)
 
       -- the first of a hex
       pub first-there : (f : ℕ) → forceOf b u ≡ f → f < 4 → x % 4 ≡ 0 → Seat b (u + 1) h (1 + 4 * f)
@@ -51,7 +51,7 @@ module _ (b : Board) where
           seat-of (u + 1) h (1 + 4 * f) (omega arith) (omega (arith, one-more-there, many-is s))
           (λ w m q.
           same-or w u (λ r. ap (forceOf b) r ∙ g ∙ omega arith)
-          (λ k. absurd (omega (arith, many-is s, tally-pos (equals (b .units .hex) h) u w (omega arith) (equals-yes (b .units .hex) h w q)))))
+          (λ k. absurd (omega (arith, many-is s, tally-pos (equals (b .units .state .hex) h) u w (omega arith) (equals-yes (b .units .state .hex) h w q)))))
 
       -- one more of the force that stands there
       pub joins : forceOf b u ≡ x / 4 → (x % 4 ≡ 3 → ⊥) → Seat b (u + 1) h (x + 1)
@@ -64,25 +64,25 @@ module _ (b : Board) where
         -- another force stands there
         pub strangers : (x % 4 ≡ 0 → ⊥) → (x / 4 ≡ forceOf b u → ⊥) → ⊥
         strangers some other =
-            let w = tally-some (equals (b .units .hex) h) u (omega (arith, many-is s)) in
-            let q = equals-is (b .units .hex) h (w .at) (w .passes) in
+            let w = tally-some (equals (b .units .state .hex) h) u (omega (arith, many-is s)) in
+            let q = equals-is (b .units .state .hex) h (w .at) (w .passes) in
             other (sym (s .one (w .at) (w .below) q) ∙ o .one (w .at) (omega (arith, w .below)) (q ∙ sym e))
 
         -- three stand there already
         pub fourth : x % 4 ≡ 3 → ⊥
         fourth t =
             let c : crowd b h ≤ 3 = subst (λ (k : ℕ). crowd b k ≤ 3) e (o .room) in
-            omega (arith, one-more-there, many-is s, crowd-is b h, tally-grows (equals (b .units .hex) h) (u + 1) (b .units .count) (omega arith))
+            omega (arith, one-more-there, many-is s, crowd-is b h, tally-grows (equals (b .units .state .hex) h) (u + 1) (b .units .count) (omega arith))
 
 -- the table
 module _ {b : Board} {base u : ℕ} {s : List ℕ} (g : Seated b base u s) where
   -- unit u stands on no hex of the block
-  pub seated-past : ((k : ℕ) → k < block → b .units .hex u ≡ base + k → ⊥) → Seated b base (u + 1) s
+  pub seated-past : ((k : ℕ) → k < block → b .units .state .hex u ≡ base + k → ⊥) → Seated b base (u + 1) s
   seated-past n = record { long = g .long; seat = λ k l. passed-by b u (base + k) (n k l) (g .seat k l) }
 
   -- unit u stands on hex k of it, whose byte becomes x
   pub seated-at :
-      (k x : ℕ) → k < block → b .units .hex u ≡ base + k → Seat b (u + 1) (base + k) x → Seated b base (u + 1) (set s k x)
+      (k x : ℕ) → k < block → b .units .state .hex u ≡ base + k → Seat b (u + 1) (base + k) x → Seated b base (u + 1) (set s k x)
   seated-at k x l e y =
       record {
         long = length-set s k x ∙ g .long;
@@ -95,7 +95,7 @@ module _ {b : Board} {base u : ℕ} {s : List ℕ} (g : Seated b base u s) where
       }
 
 -- Unit u, of force f, stands on hex k of the block, whose byte is x.
-module _ {b : Board} {base u : ℕ} {s : List ℕ} (g : Seated b base u s) (k x f : ℕ) (l : k < block) (e : b .units .hex u ≡ base + k)
+module _ {b : Board} {base u : ℕ} {s : List ℕ} (g : Seated b base u s) (k x f : ℕ) (l : k < block) (e : b .units .state .hex u ≡ base + k)
     (is : x ≡ getD s k 0) (of : f ≡ forceOf b u) where
   here : Seat b u (base + k) x
   here = rw is (g .seat k l)
@@ -168,7 +168,7 @@ all-seated {b} {base} {n} {s} g c u l low high =
     }
   where
     h : ℕ
-    h = b .units .hex u
+    h = b .units .state .hex u
 
     seat : Seat b n h (getD s (h - base) 0)
     seat = subst (λ (k : ℕ). Seat b n k (getD s (h - base) 0)) (omega arith) (g .seat (h - base) (omega arith))
@@ -179,11 +179,11 @@ no-stacks u l low high = absurd (omega arith)
 
 pub more-stacks : {b : Board} {base next : ℕ} → StacksIn b 0 base → StacksIn b base next → StacksIn b 0 next
 more-stacks {b} {base} s t u l low high =
-    either (ltb (b .units .hex u) base)
-    (λ e. s u l low (ltb-true (b .units .hex u) base e))
-    (λ e. t u l (ltb-false (b .units .hex u) base e) high)
+    either (ltb (b .units .state .hex u) base)
+    (λ e. s u l low (ltb-true (b .units .state .hex u) base e))
+    (λ e. t u l (ltb-false (b .units .state .hex u) base e) high)
 
 -- where the stacks of the map are in order, those of a block are, unless a unit stands past the map
-pub block-of : {b : Board} (base next : ℕ) → ((u : ℕ) → u < b .units .count → b .units .hex u < next → b .units .hex u < b .map .hexes)
+pub block-of : {b : Board} (base next : ℕ) → ((u : ℕ) → u < b .units .count → b .units .state .hex u < next → b .units .state .hex u < b .map .hexes)
     → StacksOk b → StacksIn b base next
 block-of base next on o u l low high = o u l (omega arith) (on u l high)

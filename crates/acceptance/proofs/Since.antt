@@ -20,40 +20,31 @@ use Rattle.acceptance.proofs.Fates.Lesser.{same, freed, gone}
 use Rattle.acceptance.proofs.Stills.{fixed-refl, fixed-trans}
 use Rattle.acceptance.proofs.Routings.{routes-written, routes-cleared}
 
--- desks with one turn, force and phase
-pub record OneClock (d e : Desk) : Type 0 where
-  pub turn : e .turn ≡ d .turn
-  pub force : e .force ≡ d .force
-  pub phase : e .phase ≡ d .phase
-
-pub one-clock-refl : (d : Desk) → OneClock d d
-one-clock-refl d = record { turn = refl; force = refl; phase = refl }
-
 -- board c, since board b
 pub record Since (b c : Board) : Type 0 where
   pub fixed : Fixed b c
-  pub clock : OneClock (b .desk) (c .desk)
+  pub clock : c .desk .clock ≡ b .desk .clock
   pub units : UnitsOk c
   pub routes : RoutesOk c
 
 pub since-lawful : {b : Board} → Lawful b → Since b b
-since-lawful {b} l = record { fixed = fixed-refl b; clock = one-clock-refl (b .desk); units = l .units; routes = l .routes }
+since-lawful {b} l = record { fixed = fixed-refl b; clock = refl; units = l .units; routes = l .routes }
 
 -- the board at the end
 pub lawful-since :
-    {b c : Board} → Lawful b → Since b c → c .desk .stage ≤ 3 → ((c .desk .stage ≡ 0 → ⊥) → b .desk .phase ≡ 1) → StageOk c
+    {b c : Board} → Lawful b → Since b c → c .desk .battle .stage ≤ 3 → ((c .desk .battle .stage ≡ 0 → ⊥) → b .desk .clock .phase ≡ 1) → StageOk c
     → Lawful c
 lawful-since l s most combat stage =
     let k = l .clock in
     let i = s .clock in
     lawful-by (s .fixed) (s .units)
     (record {
-      turn = rw (i .turn) (k .turn);
-      lastTurn = rw (i .turn, s .fixed .lastTurn) (k .lastTurn);
-      force = rw (i .force) (k .force);
-      phase = rw (i .phase) (k .phase);
+      turn = rw i (k .turn);
+      lastTurn = rw (i, s .fixed .lastTurn) (k .lastTurn);
+      force = rw i (k .force);
+      phase = rw i (k .phase);
       stage = most;
-      combat = λ n. i .phase ∙ combat n;
+      combat = λ n. rw i (combat n);
     })
     stage
     (s .routes)
@@ -72,28 +63,21 @@ module _ {b c : Board} (most : b .map .hexes ≤ nowhere) (s : Since b c) where
   since-units : (x : Change) → change c x .desk ≡ c .desk → UnitsOk (change c x) → Since b (change c x)
   since-units x e o =
       let f = fixed-change c x in
-      let k = s .clock in
       record {
         fixed = fixed-trans (s .fixed) f;
-        clock =
-            record {
-              turn = ap (λ (d : Desk). d .turn) e ∙ k .turn;
-              force = ap (λ (d : Desk). d .force) e ∙ k .force;
-              phase = ap (λ (d : Desk). d .phase) e ∙ k .phase;
-            };
+        clock = ap (λ (d : Desk). d .clock) e ∙ s .clock;
         units = o;
         routes = routes-ok-by f (ap (λ (d : Desk). d .route) e) (s .routes);
       }
 
   since-desk :
-      (d : Desk) → d .lastTurn ≡ c .desk .lastTurn → d .player ≡ c .desk .player → OneClock (c .desk) d → RoutesOk (withDesk c d)
+      (d : Desk) → d .lastTurn ≡ c .desk .lastTurn → d .player ≡ c .desk .player → d .clock ≡ c .desk .clock → RoutesOk (withDesk c d)
       → Since b (withDesk c d)
   since-desk d e g k o =
       let f = fixed-desk c d e g in
       record {
         fixed = fixed-trans (s .fixed) f;
-        clock =
-            record { turn = k .turn ∙ s .clock .turn; force = k .force ∙ s .clock .force; phase = k .phase ∙ s .clock .phase };
+        clock = k ∙ s .clock;
         units = units-fewer f small (λ w l. same (record { hex = refl; marks = refl; role = refl })) (s .units);
         routes = o;
       }
@@ -128,7 +112,7 @@ module _ {b c : Board} (most : b .map .hexes ≤ nowhere) (s : Since b c) where
   pub since-staged : (t n x : ℕ) → Since b (change c (staged t n x))
   unfolding change
   since-staged t n x =
-      since-desk (withStage (c .desk) t n x) refl refl (record { turn = refl; force = refl; phase = refl })
+      since-desk (withStage (c .desk) t n x) refl refl refl
       (routes-ok-by (fixed-change c (staged t n x)) refl (s .routes))
 
   pub since-routed :
@@ -136,11 +120,11 @@ module _ {b c : Board} (most : b .map .hexes ≤ nowhere) (s : Since b c) where
       → ((j : ℕ) → j < 4 → PlaceOk (change c (routed r w x y z)) r j) → Since b (change c (routed r w x y z))
   unfolding change
   since-routed r w x y z l n before path =
-      since-desk (withRoutes (c .desk) (reroute (c .desk .route) r w x y z)) refl refl (record { turn = refl; force = refl; phase = refl })
+      since-desk (withRoutes (c .desk) (reroute (c .desk .route) r w x y z)) refl refl refl
       (routes-written c r w x y z l n before path (s .routes))
 
   -- the routes are cleared
   pub since-unrouted : Since b (change c unrouted)
   unfolding change
   since-unrouted =
-      since-desk (withRoutes (c .desk) unfilled) refl refl (record { turn = refl; force = refl; phase = refl }) (routes-cleared c)
+      since-desk (withRoutes (c .desk) unfilled) refl refl refl (routes-cleared c)

@@ -6,7 +6,7 @@ use Rattle.position.specs.Board.{Board}
 use Rattle.acceptance.specs.Accepted.{QuietOk, RetreatsOk, LossesOk, AdvancesOk, StageOk}
 
 module _ {b : Board} where
-  pub stage-quiet : b .desk .stage ≡ 0 → b .desk .owed ≡ 0 → b .desk .need ≡ 0 → QuietOk b → StageOk b
+  pub stage-quiet : b .desk .battle .stage ≡ 0 → b .desk .battle .owed ≡ 0 → b .desk .battle .need ≡ 0 → QuietOk b → StageOk b
   stage-quiet e n x o =
       record {
         during =
@@ -20,7 +20,7 @@ module _ {b : Board} where
         need = λ _. x;
       }
 
-  pub stage-retreats : b .desk .stage ≡ 1 → b .desk .need ≡ 0 → RetreatsOk b → StageOk b
+  pub stage-retreats : b .desk .battle .stage ≡ 1 → b .desk .battle .need ≡ 0 → RetreatsOk b → StageOk b
   stage-retreats e x o =
       record {
         during =
@@ -34,7 +34,7 @@ module _ {b : Board} where
         need = λ _. x;
       }
 
-  pub stage-losses : b .desk .stage ≡ 2 → b .desk .owed ≡ 0 → LossesOk b → StageOk b
+  pub stage-losses : b .desk .battle .stage ≡ 2 → b .desk .battle .owed ≡ 0 → LossesOk b → StageOk b
   stage-losses e n o =
       record {
         during =
@@ -48,7 +48,7 @@ module _ {b : Board} where
         need = λ z. absurd (z e);
       }
 
-  pub stage-advances : b .desk .stage ≡ 3 → b .desk .owed ≡ 0 → b .desk .need ≡ 0 → AdvancesOk b → StageOk b
+  pub stage-advances : b .desk .battle .stage ≡ 3 → b .desk .battle .owed ≡ 0 → b .desk .battle .need ≡ 0 → AdvancesOk b → StageOk b
   stage-advances e n x o =
       record {
         during =

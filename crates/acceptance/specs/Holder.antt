@@ -7,8 +7,8 @@ use Rattle.position.specs.Board.{Board}
 -- unit n is the first that has role r, or n is the count
 pub record HolderOf (b : Board) (r n : ℕ) : Type 0 where
   pub most : n ≤ b .units .count
-  pub none : (k : ℕ) → k < n → b .units .role k ≡ r → ⊥
-  pub holds : n < b .units .count → b .units .role n ≡ r
+  pub none : (k : ℕ) → k < n → b .units .state .role k ≡ r → ⊥
+  pub holds : n < b .units .count → b .units .state .role n ≡ r
 
 -- r is k, or 7 where k is 7 or more
 pub record UpToSeven (k r : ℕ) : Type 0 where

@@ -24,7 +24,7 @@ pub record NoteOf (s t : List ℕ) (k h r : ℕ) : Type 0 where
 
 -- unit u owes, the lowest-numbered in its hex that does
 unfoldable pub leads : Board → ℕ → Bool
-leads b u = eqb (b .units .role u) 1 && not (any (owesAt b (b .units .hex u)) u)
+leads b u = eqb (b .units .state .role u) 1 && not (any (owesAt b (b .units .state .hex u)) u)
 
 -- the first k of list s are the hexes of the units below u that owe, each once
 pub record Noted (b : Board) (u k : ℕ) (s : List ℕ) : Type 0 where

@@ -22,8 +22,8 @@ pub record Empty (s : List ℕ) : Type 0 where
 -- byte x counts the units below n that stand on hex h, which are of one force
 pub record Seat (b : Board) (n h x : ℕ) : Type 0 where
   pub small : x < 16
-  pub many : x % 4 ≡ tally (λ u. eqb (b .units .hex u) h) n
-  pub one : (u : ℕ) → u < n → b .units .hex u ≡ h → forceOf b u ≡ x / 4
+  pub many : x % 4 ≡ tally (λ u. eqb (b .units .state .hex u) h) n
+  pub one : (u : ℕ) → u < n → b .units .state .hex u ≡ h → forceOf b u ≡ x / 4
 
 -- table s counts the units below n on the block of hexes that begins at `base`
 pub record Seated (b : Board) (base n : ℕ) (s : List ℕ) : Type 0 where

@@ -1,14 +1,20 @@
 // Whether the desk keeps its lines of the documents: the clock, the players, the stage and what the stage asks of roles and routes.
 ghost use mathlib.Core.Path.{_≡_};
 ghost use Prim.Native.Nat.{_<_};
+ghost use Rattle.position.specs.Stage as Stage;
 ghost use Rattle.position.specs.Board.{board, desk};
 ghost use Rattle.acceptance.specs.Accepted.{ClockOk, PlayerOk, PlayersOk, QuietOk, RetreatsOk, LossesOk, AdvancesOk, DuringOk, StageOk};
 ghost use Rattle.position.specs.Laid.{Laid, Says};
 use crate::owing;
+use clock::phase;
 use position::View;
 use position::crowd;
+use position::kind;
+use position::layout;
 use position::read;
+use position::role;
 use position::shape;
+use position::stage;
 
 pub fn clock_ok(p: &[u8], v: View) -> bool
     requires { ⌜ Laid (now p) v ⌝ }
@@ -22,19 +28,19 @@ pub fn clock_ok(p: &[u8], v: View) -> bool
     if !shape::within(turn, read::last_turn(p, v), 60) {
         return false;
     }
-    if 3 < read::phasing(p, v) {
+    if kind::HOME < read::phasing(p, v) {
         return false;
     }
-    if 2 < read::phase(p, v) {
+    if phase::MECHANISED < read::phase(p, v) {
         return false;
     }
-    if 3 < stage {
+    if stage::ADVANCES < stage {
         return false;
     }
-    if stage == 0 {
+    if stage == stage::QUIET {
         return true;
     }
-    if read::phase(p, v) != 1 {
+    if read::phase(p, v) != phase::COMBAT {
         return false;
     }
     true
@@ -49,10 +55,10 @@ fn player_ok(p: &[u8], v: View, f: usize) -> bool
     if 3 < player {
         return false;
     }
-    if f == 3 {
+    if f == kind::HOME {
         return true;
     }
-    if player == read::player(p, v, 3) {
+    if player == read::player(p, v, kind::HOME) {
         return false;
     }
     true
@@ -62,7 +68,7 @@ pub fn players_ok(p: &[u8], v: View) -> bool
     requires { ⌜ Laid (now p) v ⌝ }
     ensures { λ r. ⌜ Says r (PlayersOk (desk (now (p .entry)))) ⌝ }
 {
-    for f in 0..4 {
+    for f in 0..layout::FORCES {
         if !player_ok(p, v, f) {
             return false;
         }
@@ -74,10 +80,10 @@ fn quiet_ok(p: &[u8], v: View) -> bool
     requires { ⌜ Laid (now p) v ⌝ }
     ensures { λ r. ⌜ Says r (QuietOk (board (now (p .entry)))) ⌝ }
 {
-    if crowd::holders(p, v, 1) != 0 {
+    if crowd::holders(p, v, role::OWES) != 0 {
         return false;
     }
-    if crowd::holders(p, v, 2) != 0 {
+    if crowd::holders(p, v, role::ADVANCES) != 0 {
         return false;
     }
     if crowd::routes(p, v) != 0 {
@@ -97,7 +103,7 @@ fn retreats_ok(p: &[u8], v: View) -> bool
     if k == 0 {
         return false;
     }
-    if 6 < k + crowd::routes(p, v) {
+    if layout::ROUTE_COUNT < k + crowd::routes(p, v) {
         return false;
     }
     true
@@ -110,10 +116,10 @@ fn losses_ok(p: &[u8], v: View) -> bool
     if !shape::within(1, read::need(p, v), 1080) {
         return false;
     }
-    if !shape::within(1, crowd::holders(p, v, 1), 18) {
+    if !shape::within(1, crowd::holders(p, v, role::OWES), 18) {
         return false;
     }
-    if crowd::holders(p, v, 2) != 0 {
+    if crowd::holders(p, v, role::ADVANCES) != 0 {
         return false;
     }
     true
@@ -123,10 +129,10 @@ fn advances_ok(p: &[u8], v: View) -> bool
     requires { ⌜ Laid (now p) v ⌝ }
     ensures { λ r. ⌜ Says r (AdvancesOk (board (now (p .entry)))) ⌝ }
 {
-    if crowd::holders(p, v, 2) == 0 {
+    if crowd::holders(p, v, role::ADVANCES) == 0 {
         return false;
     }
-    if crowd::holders(p, v, 1) != 0 {
+    if crowd::holders(p, v, role::OWES) != 0 {
         return false;
     }
     true
@@ -135,9 +141,9 @@ fn advances_ok(p: &[u8], v: View) -> bool
 // What the stage asks of n: 0 everywhere but in stage 1.
 fn owed_ok(p: &[u8], v: View) -> bool
     requires { ⌜ Laid (now p) v ⌝ }
-    ensures { λ r. ⌜ Says r ((desk (now (p .entry)) .stage ≡ 1 → ⊥) → desk (now (p .entry)) .owed ≡ 0) ⌝ }
+    ensures { λ r. ⌜ Says r ((desk (now (p .entry)) .battle .stage ≡ Stage.retreats → ⊥) → desk (now (p .entry)) .battle .owed ≡ 0) ⌝ }
 {
-    if read::stage(p, v) == 1 {
+    if read::stage(p, v) == stage::RETREATS {
         return true;
     }
     if read::owed(p, v) != 0 {
@@ -149,9 +155,9 @@ fn owed_ok(p: &[u8], v: View) -> bool
 // What the stage asks of need: 0 everywhere but in stage 2.
 fn need_ok(p: &[u8], v: View) -> bool
     requires { ⌜ Laid (now p) v ⌝ }
-    ensures { λ r. ⌜ Says r ((desk (now (p .entry)) .stage ≡ 2 → ⊥) → desk (now (p .entry)) .need ≡ 0) ⌝ }
+    ensures { λ r. ⌜ Says r ((desk (now (p .entry)) .battle .stage ≡ Stage.losses → ⊥) → desk (now (p .entry)) .battle .need ≡ 0) ⌝ }
 {
-    if read::stage(p, v) == 2 {
+    if read::stage(p, v) == stage::LOSSES {
         return true;
     }
     if read::need(p, v) != 0 {
@@ -166,16 +172,16 @@ fn during_ok(p: &[u8], v: View) -> bool
     ensures { λ r. ⌜ Says r (DuringOk (board (now (p .entry)))) ⌝ }
 {
     let stage = read::stage(p, v);
-    if stage == 0 {
+    if stage == stage::QUIET {
         return quiet_ok(p, v);
     }
-    if stage == 1 {
+    if stage == stage::RETREATS {
         return retreats_ok(p, v);
     }
-    if stage == 2 {
+    if stage == stage::LOSSES {
         return losses_ok(p, v);
     }
-    if stage == 3 {
+    if stage == stage::ADVANCES {
         return advances_ok(p, v);
     }
     true

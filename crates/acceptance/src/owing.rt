@@ -9,6 +9,7 @@ ghost use Rattle.acceptance.specs.Holder.{UpToSeven};
 ghost use Rattle.acceptance.specs.Noted.{among, NoteOf};
 use position::View;
 use position::read;
+use position::role;
 
 // Whether hex `h` is among the first `k` of those seen.
 fn among(seen: &[usize; 6], k: usize, h: usize) -> bool
@@ -47,7 +48,7 @@ pub fn owing_hexes(p: &[u8], v: View) -> usize
     let mut seen = [0usize; 6];
     let mut k = 0;
     for u in 0..count {
-        if read::role(p, v, u) != 1 {
+        if read::role(p, v, u) != role::OWES {
             continue;
         }
         k = note(&mut seen, k, read::hex(p, v, u));

@@ -9,6 +9,7 @@ ghost use Rattle.acceptance.specs.Holder.{HolderOf};
 use position::View;
 use position::forces;
 use position::read;
+use position::role;
 
 // The first unit that has role `r`; the count where none has.
 fn holder(p: &[u8], v: View, r: usize) -> usize
@@ -74,11 +75,11 @@ fn apart(p: &[u8], v: View) -> bool
     ensures { λ x. ⌜ Says x (RolesApart (board (now (p .entry)))) ⌝ }
 {
     let count = v.count;
-    let u = holder(p, v, 1);
+    let u = holder(p, v, role::OWES);
     if count <= u {
         return true;
     }
-    let w = holder(p, v, 2);
+    let w = holder(p, v, role::ADVANCES);
     if count <= w {
         return true;
     }
@@ -92,10 +93,10 @@ pub fn roles_ok(p: &[u8], v: View) -> bool
     requires { ⌜ Laid (now p) v ⌝ }
     ensures { λ x. ⌜ Says x (RolesOk (board (now (p .entry)))) ⌝ }
 {
-    if !one_force(p, v, 1) {
+    if !one_force(p, v, role::OWES) {
         return false;
     }
-    if !one_force(p, v, 2) {
+    if !one_force(p, v, role::ADVANCES) {
         return false;
     }
     if !apart(p, v) {

@@ -13,6 +13,7 @@ use position::ground;
 use position::kind::Kind;
 use position::layout;
 use position::read;
+use position::role;
 use position::shape;
 
 pub fn strengths_ok(p: &[u8], v: View) -> bool
@@ -32,7 +33,7 @@ fn destroyed_ok(p: &[u8], v: View, u: usize) -> bool
     requires { ⌜ Laid (now p) v ⌝ }
     ensures { λ r. ⌜ Says r (DestroyedOk (board (now (p .entry))) u) ⌝ }
 {
-    if read::role(p, v, u) != 0 {
+    if read::role(p, v, u) != role::NONE {
         return false;
     }
     if bits::TRIED < read::marks(p, v, u) {
@@ -68,7 +69,7 @@ fn counter_ok(p: &[u8], v: View, u: usize) -> bool
     if !kind.may_allow(read::allowance(p, v, u)) {
         return false;
     }
-    if 15 < marks {
+    if bits::MARKS_END <= marks {
         return false;
     }
     if bits::has(bits::TRIED, marks) {
@@ -86,10 +87,10 @@ fn duty_ok(p: &[u8], v: View, u: usize) -> bool
     ensures { λ r. ⌜ Says r (DutyOk (board (now (p .entry))) u) ⌝ }
 {
     let role = read::role(p, v, u);
-    if role == 0 {
+    if role == role::NONE {
         return true;
     }
-    if 2 < role {
+    if role::ADVANCES < role {
         return false;
     }
     if read::hex(p, v, u) == layout::NOWHERE {

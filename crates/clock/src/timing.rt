@@ -3,8 +3,7 @@ ghost use mathlib.Core.Path.{_≡_};
 ghost use Prim.Native.Nat.{_<_};
 ghost use Rattle.clock.specs.Clock.{nextClock, isLast, judgesSupply};
 use crate::Clock;
-
-const LAST_PHASE: usize = 2;
+use crate::phase;
 
 const LAST_FORCE: usize = 3;
 
@@ -17,7 +16,7 @@ impl Clock {
         let turn = self.turn;
         let force = self.force;
         let phase = self.phase;
-        if phase != LAST_PHASE {
+        if phase != phase::MECHANISED {
             return Clock {
                 turn,
                 force,
@@ -28,13 +27,13 @@ impl Clock {
             return Clock {
                 turn,
                 force: force + 1,
-                phase: 0,
+                phase: phase::LAND,
             };
         }
         Clock {
             turn: turn + 1,
             force: 0,
-            phase: 0,
+            phase: phase::LAND,
         }
     }
 
@@ -42,7 +41,7 @@ impl Clock {
     pub fn is_last(self, last: usize) -> bool
         ensures { λ r. ⌜ r ≡ isLast self last ⌝ }
     {
-        if self.phase != LAST_PHASE {
+        if self.phase != phase::MECHANISED {
             return false;
         }
         if self.force != LAST_FORCE {
@@ -56,10 +55,10 @@ impl Clock {
         ensures { λ r. ⌜ r ≡ judgesSupply self ⌝ }
     {
         let phase = self.phase;
-        if phase == 0 {
+        if phase == phase::LAND {
             return true;
         }
-        phase == LAST_PHASE
+        phase == phase::MECHANISED
     }
 }
 

@@ -89,7 +89,7 @@ destroyed-written {p} s u =
     let a = hex-written s u nowhere in
     let s₁ = shaped-kept (behind-front (a .behind)) s in
     let e : has tried m ≡ has tried (marks (setHex p u nowhere) u) =
-    faced-face (marks p u) 0 ∙ ap (has tried) (ap (λ (x : Units). x .marks u) (sym (a .units)))
+    faced-face (marks p u) 0 ∙ ap (has tried) (ap (λ (x : Units). x .state .marks u) (sym (a .units)))
     in
     let b = faced-written s₁ u m e in
     written-then (λ (x : Units). withRole x u 0) (written-then (λ (x : Units). withMarks x u m) a b)

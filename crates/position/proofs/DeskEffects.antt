@@ -104,13 +104,9 @@ module _ (p : List ℕ) (t f ph : ℕ) where
         let q = setDesk turned₂ phaseField ph in
         λ i.
         record {
-          turn = clock-bytes turnField i;
+          clock = record { turn = clock-bytes turnField i; force = clock-bytes forceField i; phase = clock-bytes phaseField i };
           lastTurn = clock-bytes lastTurnField i;
-          force = clock-bytes forceField i;
-          phase = clock-bytes phaseField i;
-          stage = clock-bytes stageField i;
-          owed = clock-bytes owedField i;
-          need = need-from p q (clock-bytes needField) (clock-bytes (needField + 1)) i;
+          battle = record { stage = clock-bytes stageField i; owed = clock-bytes owedField i; need = need-from p q (clock-bytes needField) (clock-bytes (needField + 1)) i };
           route = fun-ext (λ r. fun-ext (route-from p q (λ k l _. clock-far k (omega arith)) r)) i;
           player = fun-ext (clock-desked .players) i;
         }
@@ -161,13 +157,9 @@ module _ (p : List ℕ) (st n x : ℕ) where
         let q = setDesk staged₃ (needField + 1) (x / 256) in
         λ i.
         record {
-          turn = stage-bytes turnField i;
+          clock = record { turn = stage-bytes turnField i; force = stage-bytes forceField i; phase = stage-bytes phaseField i };
           lastTurn = stage-bytes lastTurnField i;
-          force = stage-bytes forceField i;
-          phase = stage-bytes phaseField i;
-          stage = stage-bytes stageField i;
-          owed = stage-bytes owedField i;
-          need = need-set i;
+          battle = record { stage = stage-bytes stageField i; owed = stage-bytes owedField i; need = need-set i };
           route = fun-ext (λ r. fun-ext (route-from p q (λ k l _. stage-far k l) r)) i;
           player = fun-ext (stage-desked .players) i;
         }
@@ -177,13 +169,9 @@ desk-routes : {p q : List ℕ} → Desked p q → (f : ℕ → ℕ → ℕ) → 
 desk-routes {p} {q} s f h g =
     λ i.
     record {
-      turn = h turnField (omega arith) i;
+      clock = record { turn = h turnField (omega arith) i; force = h forceField (omega arith) i; phase = h phaseField (omega arith) i };
       lastTurn = h lastTurnField (omega arith) i;
-      force = h forceField (omega arith) i;
-      phase = h phaseField (omega arith) i;
-      stage = h stageField (omega arith) i;
-      owed = h owedField (omega arith) i;
-      need = need-from p q (h needField (omega arith)) (h (needField + 1) (omega arith)) i;
+      battle = record { stage = h stageField (omega arith) i; owed = h owedField (omega arith) i; need = need-from p q (h needField (omega arith)) (h (needField + 1) (omega arith)) i };
       route = fun-ext (λ r. fun-ext (g r)) i;
       player = fun-ext (s .players) i;
     }

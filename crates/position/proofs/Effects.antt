@@ -130,27 +130,18 @@ units-from p q e h =
     λ i.
     record {
       count = e i;
-      nationality = fun-ext (λ w. h w nationalityField (omega arith)) i;
-      kind = fun-ext (λ w. h w kindField (omega arith)) i;
-      hex = fun-ext (λ w. hex-from p q w e (h w hexField (omega arith)) (h w (hexField + 1) (omega arith))) i;
-      shown = fun-ext (λ w. shown-from p q w (ap (has tried) (h w marksField (omega arith))) (h w strengthField (omega arith))) i;
-      allowance = fun-ext (λ w. h w allowanceField (omega arith)) i;
-      marks = fun-ext (λ w. h w marksField (omega arith)) i;
-      role = fun-ext (λ w. h w roleField (omega arith)) i;
+      counter = record { nationality = fun-ext (λ w. h w nationalityField (omega arith)) i; kind = fun-ext (λ w. h w kindField (omega arith)) i; allowance = fun-ext (λ w. h w allowanceField (omega arith)) i };
+      state = record { hex = fun-ext (λ w. hex-from p q w e (h w hexField (omega arith)) (h w (hexField + 1) (omega arith))) i; shown = fun-ext (λ w. shown-from p q w (ap (has tried) (h w marksField (omega arith))) (h w strengthField (omega arith))) i; marks = fun-ext (λ w. h w marksField (omega arith)) i; role = fun-ext (λ w. h w roleField (omega arith)) i };
     }
 
 pub desk-from : (p q : List ℕ) → ((k : ℕ) → k < playersField → deskByte q k ≡ deskByte p k) → ((f : ℕ) → player q f ≡ player p f) → desk q ≡ desk p
 desk-from p q h g =
     λ i.
     record {
-      turn = h turnField (omega arith) i;
+      clock = record { turn = h turnField (omega arith) i; force = h forceField (omega arith) i; phase = h phaseField (omega arith) i };
       lastTurn = h lastTurnField (omega arith) i;
-      force = h forceField (omega arith) i;
-      phase = h phaseField (omega arith) i;
-      stage = h stageField (omega arith) i;
-      owed = h owedField (omega arith) i;
-      need = need-from p q (h needField (omega arith)) (h (needField + 1) (omega arith)) i;
-      route = fun-ext (λ r. fun-ext (route-from p q (λ k _ l. h k l) r)) i;
+      battle = record { stage = h stageField (omega arith) i; owed = h owedField (omega arith) i; need = need-from p q (h needField (omega arith)) (h (needField + 1) (omega arith)) i };
+      route = fun-ext (λ r. fun-ext (route-from p q (λ k _ l. h k (omega arith)) r)) i;
       player = fun-ext g i;
     }
 
@@ -177,25 +168,15 @@ module _ {p : List ℕ} (s : Shaped p) (u x : ℕ) where
       λ i.
       record {
         count = e i;
-        nationality = fun-ext (k nationalityField (omega arith) (omega arith)) i;
-        kind = fun-ext (k kindField (omega arith) (omega arith)) i;
-        hex = fun-ext (λ w. hex-from p q w e (k hexField (omega arith) (omega arith) w) (k (hexField + 1) (omega arith) (omega arith) w)) i;
-        shown = fun-ext (λ w. shown-from p q w (ap (has tried) (k marksField (omega arith) (omega arith) w)) (k strengthField (omega arith) (omega arith) w)) i;
-        allowance = fun-ext (k allowanceField (omega arith) (omega arith)) i;
-        marks = fun-ext (k marksField (omega arith) (omega arith)) i;
-        role = field-set s u roleField x (omega arith) i;
+        counter = record { nationality = fun-ext (k nationalityField (omega arith) (omega arith)) i; kind = fun-ext (k kindField (omega arith) (omega arith)) i; allowance = fun-ext (k allowanceField (omega arith) (omega arith)) i };
+        state = record { hex = fun-ext (λ w. hex-from p q w e (k hexField (omega arith) (omega arith) w) (k (hexField + 1) (omega arith) (omega arith) w)) i; shown = fun-ext (λ w. shown-from p q w (ap (has tried) (k marksField (omega arith) (omega arith) w)) (k strengthField (omega arith) (omega arith) w)) i; marks = fun-ext (k marksField (omega arith) (omega arith)) i; role = field-set s u roleField x (omega arith) i };
       }
 
   -- its marks, given what is then shown
   units-marks : (f : ℕ → ℕ) → ((w : ℕ) → shown (setMarks p u x) w ≡ f w) → units (setMarks p u x) ≡ record {
     count = count p;
-    nationality = units p .nationality;
-    kind = units p .kind;
-    hex = hex p;
-    shown = f;
-    allowance = units p .allowance;
-    marks = upd (count p) (marks p) u x;
-    role = units p .role;
+    counter = record { nationality = units p .counter .nationality; kind = units p .counter .kind; allowance = units p .counter .allowance };
+    state = record { hex = hex p; shown = f; marks = upd (count p) (marks p) u x; role = units p .state .role };
   }
   unfolding setMarks
   units-marks f h =
@@ -205,13 +186,8 @@ module _ {p : List ℕ} (s : Shaped p) (u x : ℕ) where
       λ i.
       record {
         count = e i;
-        nationality = fun-ext (k nationalityField (omega arith) (omega arith)) i;
-        kind = fun-ext (k kindField (omega arith) (omega arith)) i;
-        hex = fun-ext (λ w. hex-from p q w e (k hexField (omega arith) (omega arith) w) (k (hexField + 1) (omega arith) (omega arith) w)) i;
-        shown = fun-ext h i;
-        allowance = fun-ext (k allowanceField (omega arith) (omega arith)) i;
-        marks = field-set s u marksField x (omega arith) i;
-        role = fun-ext (k roleField (omega arith) (omega arith)) i;
+        counter = record { nationality = fun-ext (k nationalityField (omega arith) (omega arith)) i; kind = fun-ext (k kindField (omega arith) (omega arith)) i; allowance = fun-ext (k allowanceField (omega arith) (omega arith)) i };
+        state = record { hex = fun-ext (λ w. hex-from p q w e (k hexField (omega arith) (omega arith) w) (k (hexField + 1) (omega arith) (omega arith) w)) i; shown = fun-ext h i; marks = field-set s u marksField x (omega arith) i; role = fun-ext (k roleField (omega arith) (omega arith)) i };
       }
 
 -- a table after a write: there, and elsewhere
@@ -334,18 +310,17 @@ module _ {p : List ℕ} (s : Shaped p) (u h : ℕ) where
       λ i.
       record {
         count = e i;
-        nationality = fun-ext (k nationalityField (omega arith) (omega arith) (omega arith)) i;
-        kind = fun-ext (k kindField (omega arith) (omega arith) (omega arith)) i;
-        hex = upd-is (count p) (hex p) (hex q) u h hex-here hex-else i;
-        shown =
-            fun-ext
-            (λ w.
-            shown-from p q w (ap (has tried) (k marksField (omega arith) (omega arith) (omega arith) w))
-            (k strengthField (omega arith) (omega arith) (omega arith) w))
-            i;
-        allowance = fun-ext (k allowanceField (omega arith) (omega arith) (omega arith)) i;
-        marks = fun-ext (k marksField (omega arith) (omega arith) (omega arith)) i;
-        role = fun-ext (k roleField (omega arith) (omega arith) (omega arith)) i;
+        counter = record { nationality = fun-ext (k nationalityField (omega arith) (omega arith) (omega arith)) i; kind = fun-ext (k kindField (omega arith) (omega arith) (omega arith)) i; allowance = fun-ext (k allowanceField (omega arith) (omega arith) (omega arith)) i };
+        state = record {
+          hex = upd-is (count p) (hex p) (hex q) u h hex-here hex-else i;
+          shown = fun-ext
+              (λ w.
+              shown-from p q w (ap (has tried) (k marksField (omega arith) (omega arith) (omega arith) w))
+              (k strengthField (omega arith) (omega arith) (omega arith) w))
+              i;
+          marks = fun-ext (k marksField (omega arith) (omega arith) (omega arith)) i;
+          role = fun-ext (k roleField (omega arith) (omega arith) (omega arith)) i;
+        };
       }
 
 -- a unit's bytes leave the desk, and the desk's bytes leave the units

@@ -28,6 +28,10 @@ moved = 4
 abbrev pub fought : ℕ
 fought = 8
 
+-- marks are below this: "unnamed bits are 0"
+abbrev pub marksEnd : ℕ
+marksEnd = 16
+
 -- "flags (1 port + 2 urban + 4 supply)"
 abbrev pub port : ℕ
 port = 1

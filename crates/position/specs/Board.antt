@@ -5,6 +5,7 @@ use Prim.Native.Nat.{ℕ, _*_}
 use mathlib.Core.Bool.{Bool, not, _&&_, cond}
 use mathlib.Core.List.{List}
 use lib.Dec.{eqb}
+use Rattle.clock.specs.declared.Clock.{Clock}
 use Rattle.position.specs.Bits.{has, tried}
 use Rattle.position.specs.Kind as Kind
 use Rattle.position.specs.Layout as Layout
@@ -35,25 +36,34 @@ pub record Map : Type 0 where
   pub country : ℕ → ℕ
   pub sides : ℕ → ℕ
 
--- `shown` is the strength of a unit that is tried, else 0
-pub record Units : Type 0 where
-  pub count : ℕ
+-- what is printed on the counters, which no call changes
+pub record Counter : Type 0 where
   pub nationality : ℕ → ℕ
   pub kind : ℕ → ℕ
+  pub allowance : ℕ → ℕ
+
+-- where the units stand and what they have done; `shown` is the strength of a unit that is tried, else 0
+pub record State : Type 0 where
   pub hex : ℕ → ℕ
   pub shown : ℕ → ℕ
-  pub allowance : ℕ → ℕ
   pub marks : ℕ → ℕ
   pub role : ℕ → ℕ
 
-pub record Desk : Type 0 where
-  pub turn : ℕ
-  pub lastTurn : ℕ
-  pub force : ℕ
-  pub phase : ℕ
+pub record Units : Type 0 where
+  pub count : ℕ
+  pub counter : Counter
+  pub state : State
+
+-- what a battle has come to
+pub record Battle : Type 0 where
   pub stage : ℕ
   pub owed : ℕ
   pub need : ℕ
+
+pub record Desk : Type 0 where
+  pub clock : Clock
+  pub lastTurn : ℕ
+  pub battle : Battle
   pub route : ℕ → ℕ → ℕ
   pub player : ℕ → ℕ
 
@@ -90,25 +100,16 @@ abbrev pub units : List ℕ → Units
 units p =
     record {
       count = Layout.count p;
-      nationality = Layout.nationality p;
-      kind = Layout.kind p;
-      hex = Layout.hex p;
-      shown = shown p;
-      allowance = Layout.allowance p;
-      marks = Layout.marks p;
-      role = Layout.role p;
+      counter = record { nationality = Layout.nationality p; kind = Layout.kind p; allowance = Layout.allowance p };
+      state = record { hex = Layout.hex p; shown = shown p; marks = Layout.marks p; role = Layout.role p };
     }
 
 abbrev pub desk : List ℕ → Desk
 desk p =
     record {
-      turn = Layout.turn p;
+      clock = record { turn = Layout.turn p; force = Layout.phasing p; phase = Layout.phase p };
       lastTurn = Layout.lastTurn p;
-      force = Layout.phasing p;
-      phase = Layout.phase p;
-      stage = Layout.stage p;
-      owed = Layout.owed p;
-      need = Layout.need p;
+      battle = record { stage = Layout.stage p; owed = Layout.owed p; need = Layout.need p };
       route = Layout.route p;
       player = Layout.player p;
     }
@@ -118,7 +119,7 @@ board p = record { chart = chart p; results = results p; map = ground p; units =
 
 -- the force of a unit
 unfoldable pub forceOf : Board → ℕ → ℕ
-forceOf b u = Kind.force (b .units .nationality u)
+forceOf b u = Kind.force (b .units .counter .nationality u)
 
 -- "forces of one player are neither Friendly nor Enemy": Enemy is a force of another player
 unfoldable pub enemy : Board → ℕ → ℕ → Bool

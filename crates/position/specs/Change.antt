@@ -5,6 +5,7 @@ use mathlib.Core.List.{List, [], _∷_}
 use mathlib.Core.Bool.{cond}
 use lib.Dec.{ltb}
 use Rattle.position.specs.Bits.{with, tried, faced}
+use Rattle.position.specs.Role as Role
 use Rattle.position.specs.Layout as Layout
 use Rattle.position.specs.Layout.{setHex, setMarks, setRole, setClock, setStage, setRoute, clearRoutes, routeCount}
 use Rattle.position.specs.Board.{nowhere}
@@ -29,7 +30,7 @@ pub data Change : Type 0 where
 
 unfoldable pub make : List ℕ → Change → List ℕ
 make p (placed u h) = cond (ltb h (Layout.hexes p)) (setHex p u h) p
-make p (destroyed u) = setRole (setMarks (setHex p u nowhere) u (faced (Layout.marks p u) 0)) u 0
+make p (destroyed u) = setRole (setMarks (setHex p u nowhere) u (faced (Layout.marks p u) 0)) u Role.none
 make p (marked u m) = setMarks p u (faced (Layout.marks p u) m)
 make p (assigned u r) = setRole p u r
 make p (timed t f ph) = setClock p t f ph

@@ -5,8 +5,9 @@ use mathlib.Core.Bool.{cond, _&&_}
 use mathlib.Core.List.{List, [], _∷_}
 use lib.Dec.{ltb, eqb}
 use Rattle.position.specs.Bits.{with, tried, faced}
+use Rattle.position.specs.Role as Role
 use Rattle.position.specs.Layout.{routeCount}
-use Rattle.position.specs.Board.{Board, Units, Desk, nowhere}
+use Rattle.position.specs.Board.{Board, Units, State, Desk, nowhere}
 use Rattle.position.specs.Change.{Change}
 use Rattle.position.specs.Change.Change.{placed, destroyed, marked, assigned, timed, staged, routed, unrouted}
 
@@ -14,69 +15,43 @@ use Rattle.position.specs.Change.Change.{placed, destroyed, marked, assi
 unfoldable pub upd : ℕ → (ℕ → ℕ) → ℕ → ℕ → ℕ → ℕ
 upd n f u x k = cond (ltb u n && eqb k u) x (f k)
 
+-- the units with another state, and the desk with another clock, battle or routes
+abbrev pub withState : Units → State → Units
+withState s t = record { count = s .count; counter = s .counter; state = t }
+
 abbrev pub withHex : Units → ℕ → ℕ → Units
 withHex s u h =
-    record {
-      count = s .count;
-      nationality = s .nationality;
-      kind = s .kind;
-      hex = upd (s .count) (s .hex) u h;
-      shown = s .shown;
-      allowance = s .allowance;
-      marks = s .marks;
-      role = s .role;
-    }
+    let t = s .state in
+    withState s (record { hex = upd (s .count) (t .hex) u h; shown = t .shown; marks = t .marks; role = t .role })
 
 abbrev pub withMarks : Units → ℕ → ℕ → Units
 withMarks s u m =
-    record {
-      count = s .count;
-      nationality = s .nationality;
-      kind = s .kind;
-      hex = s .hex;
-      shown = s .shown;
-      allowance = s .allowance;
-      marks = upd (s .count) (s .marks) u m;
-      role = s .role;
-    }
+    let t = s .state in
+    withState s (record { hex = t .hex; shown = t .shown; marks = upd (s .count) (t .marks) u m; role = t .role })
 
 abbrev pub withRole : Units → ℕ → ℕ → Units
 withRole s u r =
-    record {
-      count = s .count;
-      nationality = s .nationality;
-      kind = s .kind;
-      hex = s .hex;
-      shown = s .shown;
-      allowance = s .allowance;
-      marks = s .marks;
-      role = upd (s .count) (s .role) u r;
-    }
+    let t = s .state in
+    withState s (record { hex = t .hex; shown = t .shown; marks = t .marks; role = upd (s .count) (t .role) u r })
 
 -- unit u turned over, which shows its strength x
 abbrev pub withShown : Units → ℕ → ℕ → Units
 withShown s u x =
-    record {
-      count = s .count;
-      nationality = s .nationality;
-      kind = s .kind;
-      hex = s .hex;
-      shown = upd (s .count) (s .shown) u x;
-      allowance = s .allowance;
-      marks = upd (s .count) (s .marks) u (with tried (s .marks u));
-      role = s .role;
-    }
+    let t = s .state in
+    withState s
+    (record {
+      hex = t .hex;
+      shown = upd (s .count) (t .shown) u x;
+      marks = upd (s .count) (t .marks) u (with tried (t .marks u));
+      role = t .role;
+    })
 
 abbrev pub withClock : Desk → ℕ → ℕ → ℕ → Desk
 withClock d t f ph =
     record {
-      turn = t;
+      clock = record { turn = t; force = f; phase = ph };
       lastTurn = d .lastTurn;
-      force = f;
-      phase = ph;
-      stage = d .stage;
-      owed = d .owed;
-      need = d .need;
+      battle = d .battle;
       route = d .route;
       player = d .player;
     }
@@ -84,30 +59,15 @@ withClock d t f ph =
 abbrev pub withStage : Desk → ℕ → ℕ → ℕ → Desk
 withStage d s n x =
     record {
-      turn = d .turn;
+      clock = d .clock;
       lastTurn = d .lastTurn;
-      force = d .force;
-      phase = d .phase;
-      stage = s;
-      owed = n;
-      need = x;
+      battle = record { stage = s; owed = n; need = x };
       route = d .route;
       player = d .player;
     }
 
 abbrev pub withRoutes : Desk → (ℕ → ℕ → ℕ) → Desk
-withRoutes d f =
-    record {
-      turn = d .turn;
-      lastTurn = d .lastTurn;
-      force = d .force;
-      phase = d .phase;
-      stage = d .stage;
-      owed = d .owed;
-      need = d .need;
-      route = f;
-      player = d .player;
-    }
+withRoutes d f = record { clock = d .clock; lastTurn = d .lastTurn; battle = d .battle; route = f; player = d .player }
 
 -- number j of the four
 abbrev pub ofFour : ℕ → ℕ → ℕ → ℕ → ℕ → ℕ
@@ -133,8 +93,8 @@ withDesk b d = record { chart = b .chart; results = b .results; map = b .map; un
 unfoldable pub change : Board → Change → Board
 change b (placed u h) = cond (ltb h (b .map .hexes)) (withUnits b (withHex (b .units) u h)) b
 change b (destroyed u) =
-    withUnits b (withRole (withMarks (withHex (b .units) u nowhere) u (faced (b .units .marks u) 0)) u 0)
-change b (marked u m) = withUnits b (withMarks (b .units) u (faced (b .units .marks u) m))
+    withUnits b (withRole (withMarks (withHex (b .units) u nowhere) u (faced (b .units .state .marks u) 0)) u Role.none)
+change b (marked u m) = withUnits b (withMarks (b .units) u (faced (b .units .state .marks u) m))
 change b (assigned u r) = withUnits b (withRole (b .units) u r)
 change b (timed t f ph) = withDesk b (withClock (b .desk) t f ph)
 change b (staged s n x) = withDesk b (withStage (b .desk) s n x)

@@ -1,6 +1,8 @@
 pub mod Tally
 pub mod Bits
 pub mod Kind
+pub mod Stage
+pub mod Role
 pub mod Layout
 pub mod Board
 pub mod Ground

@@ -12,6 +12,9 @@ pub const MOVED: usize = 4;
 
 pub const FOUGHT: usize = 8;
 
+// Marks are below this.
+pub const MARKS_END: usize = 16;
+
 pub const PORT: usize = 1;
 
 pub const URBAN: usize = 2;

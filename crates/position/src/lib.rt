@@ -6,7 +6,9 @@ pub mod ground;
 pub mod kind;
 pub mod layout;
 pub mod read;
+pub mod role;
 pub mod shape;
+pub mod stage;
 pub mod write;
 
 // What is handed on of a position whose bodies lie as they should: its counts, where its units and its desk begin, and how many

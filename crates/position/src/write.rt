@@ -9,6 +9,7 @@ use crate::View;
 use crate::bits;
 use crate::layout;
 use crate::read;
+use crate::role;
 
 fn set_hex(p: &mut [u8], v: View, u: usize, h: usize)
     requires { ⌜ Laid (now p) v × (h < 65536) ⌝ }
@@ -37,7 +38,7 @@ pub fn destroy(p: &mut [u8], v: View, u: usize)
     let old = read::marks(p, v, u);
     set_hex(p, v, u, layout::NOWHERE);
     layout::set_unit(p, v, u, layout::MARKS, old % 2);
-    layout::set_unit(p, v, u, layout::ROLE, 0);
+    layout::set_unit(p, v, u, layout::ROLE, role::NONE);
 }
 
 // Unit `u` has the marks `m`, with tried as it was.

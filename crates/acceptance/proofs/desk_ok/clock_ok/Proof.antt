@@ -12,7 +12,7 @@ use Rattle.acceptance.proofs.desk_ok.clock_ok.Tie as tie
 -- all but the last question
 clock : (c : tie.Else5) →
     let d = desk (c .before .before .before .before .before .before .before .before .before .before .before .before .before .args .p .now) in
-    ((d .stage ≡ 0 → ⊥) → d .phase ≡ 1) → ClockOk d
+    ((d .battle .stage ≡ 0 → ⊥) → d .clock .phase ≡ 1) → ClockOk d
 clock c combat =
     let q2 = c .before .before .before .before .before in
     let q1 = q2 .before .before .before in

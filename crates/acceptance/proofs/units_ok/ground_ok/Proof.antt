@@ -11,7 +11,7 @@ use Rattle.acceptance.proofs.units_ok.ground_ok.Tie as tie
 
 stands : (c : tie.After-standable) →
     let b = board (c .before .before .before .before .args .p .now) in
-    c .standable .result ≡ standable b (b .units .hex (c .before .before .before .before .args .u))
+    c .standable .result ≡ standable b (b .units .state .hex (c .before .before .before .before .args .u))
 stands c =
     let s = c .before .before .before .before in
     c .standable .ensures ∙ ap (standable (board (s .args .p .now))) (c .before .before .hex .ensures .is)
