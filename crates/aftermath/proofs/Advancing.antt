@@ -14,13 +14,13 @@ use Rattle.aftermath.specs.Advance.{advanceChanges, clearTo, closeChange
 use Rattle.aftermath.specs.Stage.{reassigned}
 
 module _ (b : Board) (u : ℕ) where
-  pub advance-not : (b .units .role u ≡ 2 → ⊥) → mayAdvance b u ≡ false
+  pub advance-not : (b .units .state .role u ≡ 2 → ⊥) → mayAdvance b u ≡ false
   unfolding mayAdvance
-  advance-not n = ne-eqb (b .units .role u) 2 n
+  advance-not n = ne-eqb (b .units .state .role u) 2 n
 
-  pub advance-may : b .units .role u ≡ 2 → mayAdvance b u ≡ true
+  pub advance-may : b .units .state .role u ≡ 2 → mayAdvance b u ≡ true
   unfolding mayAdvance
-  advance-may e = eq-eqb (b .units .role u) 2 e
+  advance-may e = eq-eqb (b .units .state .role u) 2 e
 
   module _ (hex r : ℕ) where
     pub clear-other : (j : ℕ) → (b .desk .route r j ≡ hex → ⊥) → clearTo b u hex r j ≡ false
@@ -31,12 +31,12 @@ module _ (b : Board) (u : ℕ) where
     unfolding clearTo
     clear-there j e = simp (eq-eqb (b .desk .route r j) hex e)
 
-    pub serves-apart : joined (b .map) (b .units .hex u) (b .desk .route r 0) ≡ false → serves b u hex r ≡ false
+    pub serves-apart : joined (b .map) (b .units .state .hex u) (b .desk .route r 0) ≡ false → serves b u hex r ≡ false
     unfolding serves
     serves-apart e = simp e
 
     pub serves-beside :
-        joined (b .map) (b .units .hex u) (b .desk .route r 0) ≡ true → serves b u hex r ≡ any (clearTo b u hex r) 4
+        joined (b .map) (b .units .state .hex u) (b .desk .route r 0) ≡ true → serves b u hex r ≡ any (clearTo b u hex r) 4
     unfolding serves
     serves-beside e = simp e
 

@@ -64,13 +64,13 @@ module _ (b : Board) where
   all-long = sieve-long (owes b) (b .units .count)
 
   pub all-pass :
-      (p : List ℕ) → b .desk .stage ≡ 2 → 1 ≤ holders b 1 → holders b 1 ≤ 18
+      (p : List ℕ) → b .desk .battle .stage ≡ 2 → 1 ≤ holders b 1 → holders b 1 ≤ 18
       → Passes p (lossChecks b (sieve (owes b) (b .units .count)))
   unfolding lossChecks losses
   all-pass p e low high l v a q m g =
       let n = b .units .count in
       pass (ap not (list-fits all (omega (arith, all-long)) (omega (arith, all-long))))
       (there-passes p b all (λ w f. sieve-passes (owes b) n w f .0) l _ a q m
-      (pass (ap not (eq-eqb (b .desk .stage) 2 e))
+      (pass (ap not (eq-eqb (b .desk .battle .stage) 2 e))
       (owing-passes p b [] all 1 (λ w f. sieve-passes (owes b) n w f .1) (λ w f. named-nil w) (sieve-once (owes b) n) l _ a q m
       (pass (short-special b all all-enough ∙ all-special) g))))

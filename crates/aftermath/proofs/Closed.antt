@@ -24,7 +24,7 @@ use Rattle.aftermath.proofs.KeepAdvance.{closed}
 -- the units of a list have no role any more, all others have theirs
 freed-role :
     (us : List ℕ) (c : Board) (w : ℕ) → w < c .units .count
-    → changes c (map (λ u. assigned u 0) us) .units .role w ≡ cond (named us w) 0 (c .units .role w)
+    → changes c (map (λ u. assigned u 0) us) .units .state .role w ≡ cond (named us w) 0 (c .units .state .role w)
 unfolding changes named
 freed-role [] c w l = refl
 freed-role (u ∷ us) c w l =
@@ -33,14 +33,14 @@ freed-role (u ∷ us) c w l =
     freed-role us d w (omega (arith, fixed-change c (assigned u 0) .count))
     ∙ same-or w u
     (λ e.
-    ap (λ (x : ℕ). cond (named us w) 0 x) (ap (d .units .role) e ∙ assigned-none c u (omega arith) .role)
+    ap (λ (x : ℕ). cond (named us w) 0 x) (ap (d .units .state .role) e ∙ assigned-none c u (omega arith) .role)
     ∙ none
     ∙ sym (simp (eq-eqb u w (sym e))))
     (λ n.
     ap (λ (x : ℕ). cond (named us w) 0 x) (assigned-else c u 0 w n .role) ∙ sym (simp (ne-eqb u w (λ e. n (sym e)))))
 
 module _ (b : Board) where
-  freed-all : (w : ℕ) → w < b .units .count → b .units .role w ≡ 2 → changes b (closeChanges b) .units .role w ≡ 0
+  freed-all : (w : ℕ) → w < b .units .count → b .units .state .role w ≡ 2 → changes b (closeChanges b) .units .state .role w ≡ 0
   unfolding closeChanges
   freed-all w l e =
       freed-role (sieve (mayAdvance b) (b .units .count)) b w l
@@ -52,5 +52,5 @@ module _ (b : Board) where
       holders-nought (changes b (closeChanges b)) 2
       (λ w m e.
       let k : w < b .units .count = omega (arith, o .since .fixed .count) in
-      let had : b .units .role w ≡ 2 = sym (o .had w (λ z. omega arith)) ∙ e in
+      let had : b .units .state .role w ≡ 2 = sym (o .had w (λ z. omega arith)) ∙ e in
       omega (arith, freed-all w k had))

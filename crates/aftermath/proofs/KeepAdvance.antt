@@ -57,7 +57,7 @@ record Reached (b : Board) (u hex : ℕ) : Type 0 where
 module _ (b : Board) (u hex : ℕ) where
   serves-leads : (r : ℕ) → serves b u hex r ≡ true → any (clearTo b u hex r) 4 ≡ true
   unfolding serves
-  serves-leads r e = both-yes (joined (b .map) (b .units .hex u) (b .desk .route r 0)) (any (clearTo b u hex r) 4) e .1
+  serves-leads r e = both-yes (joined (b .map) (b .units .state .hex u) (b .desk .route r 0)) (any (clearTo b u hex r) 4) e .1
 
   clear-parts : (r j : ℕ) → clearTo b u hex r j ≡ true → (b .desk .route r j ≡ hex) × (any (heldAt b u r) (j + 1) ≡ false)
   unfolding clearTo
@@ -70,7 +70,7 @@ module _ (b : Board) (u hex : ℕ) where
   unfolding heldAt
   free-there r j e f = ap (shut b u) (sym e) ∙ f
 
-  all-own-there : shut b u hex ≡ false → (w : ℕ) → w < b .units .count → b .units .hex w ≡ hex → forceOf b w ≡ forceOf b u
+  all-own-there : shut b u hex ≡ false → (w : ℕ) → w < b .units .count → b .units .state .hex w ≡ hex → forceOf b w ≡ forceOf b u
   unfolding shut
   all-own-there e =
       let n = neither (holdsEnemy (scene b) (forceOf b u) hex) (holdsNeutral (scene b) (forceOf b u) hex) e in
@@ -92,13 +92,13 @@ module _ (b : Board) (u hex : ℕ) where
       }
 
 -- placing a unit leaves the roles
-placed-role : (b : Board) (u h w : ℕ) → change b (placed u h) .units .role w ≡ b .units .role w
+placed-role : (b : Board) (u h w : ℕ) → change b (placed u h) .units .state .role w ≡ b .units .state .role w
 unfolding change
 placed-role b u h w = either (ltb h (b .map .hexes)) (λ e. simp e) (λ e. simp e)
 
 -- the questions asked of the stage
-stage-three : (b : Board) → not (eqb (b .desk .stage) 3) ≡ false → b .desk .stage ≡ 3
-stage-three b e = eqb-true (b .desk .stage) 3 (not-false (eqb (b .desk .stage) 3) e)
+stage-three : (b : Board) → not (eqb (b .desk .battle .stage) 3) ≡ false → b .desk .battle .stage ≡ 3
+stage-three b e = eqb-true (b .desk .battle .stage) 3 (not-false (eqb (b .desk .battle .stage) 3) e)
 
 -- the hexes of a map are numbers below that for none
 small : (p : List ℕ) → Accepted p → board p .map .hexes ≤ nowhere
@@ -128,7 +128,7 @@ module _ {p : List ℕ} (a : Accepted p) where
         }
 
     lawful-advance :
-        u < board p .units .count → board p .desk .stage ≡ 3 → Room (board p) u hex
+        u < board p .units .count → board p .desk .battle .stage ≡ 3 → Room (board p) u hex
         → Lawful (changes (board p) (thenOn (board p) (advanceChanges (board p) u hex)))
     unfolding advanceChanges changes
     lawful-advance l e r =
@@ -151,11 +151,11 @@ module _ {p : List ℕ} (a : Accepted p) where
         (λ n.
         kept-past a (leb (b .map .hexes) hex)
         (λ h.
-        kept-past a (not (eqb (b .desk .stage) 3))
+        kept-past a (not (eqb (b .desk .battle .stage) 3))
         (λ e.
         kept-past a (not (mayAdvance b u))
         (λ _.
-        kept-past a (not (movesByLand (b .units .kind u)))
+        kept-past a (not (movesByLand (b .units .counter .kind u)))
         (λ _.
         kept-past a (noRoute b u hex)
         (λ f.
@@ -164,7 +164,7 @@ module _ {p : List ℕ} (a : Accepted p) where
         kept-ruled a (thenOn b (advanceChanges b u hex))
         (lawful-advance (leb-false (b .units .count) u n) (stage-three b e) (room (leb-false (b .map .hexes) hex h) f g))))))))))
 
-  lawful-close : board p .desk .stage ≡ 3 → Lawful (changes (board p) (thenOn (board p) (closeChanges (board p))))
+  lawful-close : board p .desk .battle .stage ≡ 3 → Lawful (changes (board p) (thenOn (board p) (closeChanges (board p))))
   lawful-close e =
       let b = board p in
       let most = small p a in
@@ -178,7 +178,7 @@ module _ {p : List ℕ} (a : Accepted p) where
       let b = board p in
       kept-past a (broken p)
       (λ _.
-      kept-past a (not (eqb (b .desk .stage) 3))
+      kept-past a (not (eqb (b .desk .battle .stage) 3))
       (λ e. kept-ruled a (thenOn b (closeChanges b)) (lawful-close (stage-three b e))))
 
 pub advance-keeps : (p l : List ℕ) (u hex : ℕ) → Accepted p → Accepted (outcome p l (advanceVerdict p u hex) .position)

@@ -109,18 +109,18 @@ module _ (c : Board) (t : ℕ → Bool) where
 -- all that owed have role 2
 module _
     {c d : Board}
-    (o : Promoted c d (λ u. eqb (c .units .role u) 1) (c .units .count))
+    (o : Promoted c d (λ u. eqb (c .units .state .role u) 1) (c .units .count))
     (u : UnitsOk c)
     (most : c .map .hexes ≤ nowhere)
-    (none : (w : ℕ) → w < c .units .count → c .units .role w ≡ 2 → ⊥) where
+    (none : (w : ℕ) → w < c .units .count → c .units .state .role w ≡ 2 → ⊥) where
   -- a unit owed, or is as it was
   lot :
-      {X : Type 0} (w : ℕ) → w < c .units .count → (c .units .role w ≡ 1 → Fated (c .units) (d .units) 2 w → X)
-      → ((c .units .role w ≡ 1 → ⊥) → Same (c .units) (d .units) w → X) → X
+      {X : Type 0} (w : ℕ) → w < c .units .count → (c .units .state .role w ≡ 1 → Fated (c .units) (d .units) 2 w → X)
+      → ((c .units .state .role w ≡ 1 → ⊥) → Same (c .units) (d .units) w → X) → X
   lot w l x y =
-      same-or (c .units .role w) 1
-      (λ e. x e (o .hit w l l (eq-eqb (c .units .role w) 1 e)))
-      (λ n. y n (o .miss w (λ _ e. n (eqb-true (c .units .role w) 1 e))))
+      same-or (c .units .state .role w) 1
+      (λ e. x e (o .hit w l l (eq-eqb (c .units .state .role w) 1 e)))
+      (λ n. y n (o .miss w (λ _ e. n (eqb-true (c .units .state .role w) 1 e))))
 
   alone : (w : ℕ) → w < d .units .count → AloneOk d w
   alone w m =
@@ -132,10 +132,10 @@ module _
       alone-fated (o .fixed) 2 w f (omega arith) (λ _. h .tried) (λ _. h .mapped) was)
       (λ _ f. alone-same (o .fixed) w f was)
 
-  stays : (w : ℕ) → w < c .units .count → d .units .hex w ≡ c .units .hex w
+  stays : (w : ℕ) → w < c .units .count → d .units .state .hex w ≡ c .units .state .hex w
   stays w l = lot w l (λ _ f. f .stays (λ z. omega arith)) (λ _ f. f .hex)
 
-  had : (w : ℕ) → w < c .units .count → (d .units .role w ≡ 0 → ⊥) → (d .units .role w ≡ 2) × (c .units .role w ≡ 1)
+  had : (w : ℕ) → w < c .units .count → (d .units .state .role w ≡ 0 → ⊥) → (d .units .state .role w ≡ 2) × (c .units .state .role w ≡ 1)
   had w l n =
       lot w l (λ e f. (f .role, e))
       (λ e f.
@@ -161,7 +161,7 @@ module _
         routes = routes-ok-by (o .fixed) (ap (λ (k : Desk). k .route) (o .desk)) (s .routes);
       }
 
-module _ {b : Board} (l : Lawful b) (most : b .map .hexes ≤ nowhere) (e : b .desk .stage ≡ 2) (units : List ℕ) where
+module _ {b : Board} (l : Lawful b) (most : b .map .hexes ≤ nowhere) (e : b .desk .battle .stage ≡ 2) (units : List ℕ) where
   abbrev struck : Board
   struck = changes b (map destroyed units)
 
@@ -175,15 +175,15 @@ module _ {b : Board} (l : Lawful b) (most : b .map .hexes ≤ nowhere) (e : b .d
       ∙ ap (changes struck) (sym (survivors b units))
 
   -- nobody may advance while losses are owed
-  none-advances : (w : ℕ) → w < struck .units .count → struck .units .role w ≡ 2 → ⊥
+  none-advances : (w : ℕ) → w < struck .units .count → struck .units .state .role w ≡ 2 → ⊥
   none-advances w m z =
       holders-none b 2 w (l .stage .during .losses e .advancing) (omega (arith, less .since .fixed .count))
       (sym (less .had w (λ n. omega arith)) ∙ z)
 
   all-promoted :
-      Promoted struck (changes struck (reassigned struck 1 2)) (λ u. eqb (struck .units .role u) 1) (struck .units .count)
+      Promoted struck (changes struck (reassigned struck 1 2)) (λ u. eqb (struck .units .state .role u) 1) (struck .units .count)
   unfolding reassigned
-  all-promoted = promoted struck (λ u. eqb (struck .units .role u) 1) (struck .units .count)
+  all-promoted = promoted struck (λ u. eqb (struck .units .state .role u) 1) (struck .units .count)
 
   few : struck .map .hexes ≤ nowhere
   few = rw (less .since .fixed .map) most
@@ -211,7 +211,7 @@ module _ {p : List ℕ} (a : Accepted p) (units : List ℕ) where
       (λ _.
       kept-along a (λ _. Unit {0}) (λ s x k v _ f. kept-past a (leb (b .units .count) x) (λ _. f tt)) 0 tt units 1 _
       (λ _ _.
-      kept-past a (not (eqb (b .desk .stage) 2))
+      kept-past a (not (eqb (b .desk .battle .stage) 2))
       (λ e.
       kept-along a (λ _. Unit {0})
       (λ s x k v _ f. kept-past a (not (owes b x)) (λ _. kept-past a (named s x) (λ _. f tt)))
@@ -225,7 +225,7 @@ module _ {p : List ℕ} (a : Accepted p) (units : List ℕ) where
       (λ _.
       kept-ruled a (thenOn b (lossChanges b units))
       (lawful-losses (a .lawful) (omega (arith, hexes-most (a .shaped)))
-      (eqb-true (b .desk .stage) 2 (not-false (eqb (b .desk .stage) 2) e))
+      (eqb-true (b .desk .battle .stage) 2 (not-false (eqb (b .desk .battle .stage) 2) e))
       units)))))))
 
 pub losses-keeps : (p l units : List ℕ) → Accepted p → Accepted (outcome p l (lossesVerdict p units) .position)

@@ -23,7 +23,7 @@ use Rattle.aftermath.specs.Stage.{passesOn, thenOn}
 -- board c since board b, where a unit that has a role had it
 pub record Lessened (b c : Board) : Type 0 where
   pub since : Since b c
-  pub had : (w : ℕ) → (c .units .role w ≡ 0 → ⊥) → c .units .role w ≡ b .units .role w
+  pub had : (w : ℕ) → (c .units .state .role w ≡ 0 → ⊥) → c .units .state .role w ≡ b .units .state .role w
 
 pub lessened-none : {b : Board} → Lawful b → Lessened b b
 lessened-none l = record { since = since-lawful l; had = λ w n. refl }
@@ -37,7 +37,7 @@ module _ {b : Board} (most : b .map .hexes ≤ nowhere) where
         since = since-destroyed most (o .since) u;
         had =
             λ w.
-            upd-case (λ k. (k ≡ 0 → ⊥) → k ≡ b .units .role w) (c .units .count) (c .units .role) u 0 w (λ _ _ n. absurd (n refl)) (o .had w);
+            upd-case (λ k. (k ≡ 0 → ⊥) → k ≡ b .units .state .role w) (c .units .count) (c .units .state .role) u 0 w (λ _ _ n. absurd (n refl)) (o .had w);
       }
 
   pub lessened-freed : {c : Board} → Lessened b c → (u : ℕ) → Lessened b (change c (assigned u 0))
@@ -47,7 +47,7 @@ module _ {b : Board} (most : b .map .hexes ≤ nowhere) where
         since = since-freed most (o .since) u;
         had =
             λ w.
-            upd-case (λ k. (k ≡ 0 → ⊥) → k ≡ b .units .role w) (c .units .count) (c .units .role) u 0 w (λ _ _ n. absurd (n refl)) (o .had w);
+            upd-case (λ k. (k ≡ 0 → ⊥) → k ≡ b .units .state .role w) (c .units .count) (c .units .state .role) u 0 w (λ _ _ n. absurd (n refl)) (o .had w);
       }
 
   -- units destroyed, and roles taken, one after another
@@ -82,7 +82,7 @@ passed-by P c quiet advances later =
     (λ n. simp (eq-eqb (holders c 1) 0 none, ne-eqb (holders c 2) 0 n) (advances none n)))
     (λ some. simp (ne-eqb (holders c 1) 0 some) (later some))
 
-module _ {b c : Board} (l : Lawful b) (most : b .map .hexes ≤ nowhere) (combat : b .desk .stage ≡ 0 → ⊥) (s : Since b c) where
+module _ {b c : Board} (l : Lawful b) (most : b .map .hexes ≤ nowhere) (combat : b .desk .battle .stage ≡ 0 → ⊥) (s : Since b c) where
   passed-quiet : holders c 1 ≡ 0 → holders c 2 ≡ 0 → Lawful (change (change c (staged 0 0 0)) unrouted)
   unfolding change holders
   passed-quiet none e =
@@ -100,7 +100,7 @@ module _ {b c : Board} (l : Lawful b) (most : b .map .hexes ≤ nowhere) (combat
 
 -- a call's own changes, and then the stage that follows
 pub lawful-then-on :
-    {b : Board} → Lawful b → b .map .hexes ≤ nowhere → (b .desk .stage ≡ 0 → ⊥) → (xs : List Change) → Since b (changes b xs)
+    {b : Board} → Lawful b → b .map .hexes ≤ nowhere → (b .desk .battle .stage ≡ 0 → ⊥) → (xs : List Change) → Since b (changes b xs)
     → ((holders (changes b xs) 1 ≡ 0 → ⊥) → Lawful (changes b xs)) → Lawful (changes b (thenOn b xs))
 unfolding thenOn
 lawful-then-on {b} l most combat xs s later =

@@ -46,7 +46,7 @@ use Rattle.aftermath.specs.Losses.{
 use Rattle.aftermath.specs.Stage.{reassigned}
 
 -- a role, as it is asked
-pub owes-is : (b : Board) (u : ℕ) → owes b u ≡ eqb (b .units .role u) 1
+pub owes-is : (b : Board) (u : ℕ) → owes b u ≡ eqb (b .units .state .role u) 1
 unfolding owes
 owes-is b u = refl
 
@@ -65,7 +65,7 @@ module _ (b : Board) (units : List ℕ) where
     unfolding otherType
     other-unnamed e = simp e
 
-    pub other-named : named units u ≡ true → otherType b units u ≡ not (eqb (b .units .kind u) 4)
+    pub other-named : named units u ≡ true → otherType b units u ≡ not (eqb (b .units .counter .kind u) 4)
     unfolding otherType
     other-named e = simp e
 
@@ -73,17 +73,17 @@ module _ (b : Board) (units : List ℕ) where
     unfolding sparedSpecial
     special-not e = simp e
 
-    pub special-spared : spared b units u ≡ true → sparedSpecial b units u ≡ eqb (b .units .kind u) 4
+    pub special-spared : spared b units u ≡ true → sparedSpecial b units u ≡ eqb (b .units .counter .kind u) 4
     unfolding sparedSpecial
     special-spared e = simp e
 
-  pub enough-need : b .desk .need ≤ shownTotal b units → enough b units ≡ true
+  pub enough-need : b .desk .battle .need ≤ shownTotal b units → enough b units ≡ true
   unfolding enough
-  enough-need l = simp (le-leb (b .desk .need) (shownTotal b units) l)
+  enough-need l = simp (le-leb (b .desk .battle .need) (shownTotal b units) l)
 
-  pub enough-all : shownTotal b units < b .desk .need → enough b units ≡ not (any (spared b units) (b .units .count))
+  pub enough-all : shownTotal b units < b .desk .battle .need → enough b units ≡ not (any (spared b units) (b .units .count))
   unfolding enough
-  enough-all l = simp (lt-leb (b .desk .need) (shownTotal b units) l)
+  enough-all l = simp (lt-leb (b .desk .battle .need) (shownTotal b units) l)
 
   pub passed-other-force : any (owesPhasing b) (b .units .count) ≡ false → passedOver b units ≡ false
   unfolding passedOver
@@ -112,7 +112,7 @@ module _ (b : Board) (u : ℕ) where
   unfolding owesPhasing
   phasing-not e = simp e
 
-  pub phasing-owes : owes b u ≡ true → owesPhasing b u ≡ eqb (forceOf b u) (b .desk .force)
+  pub phasing-owes : owes b u ≡ true → owesPhasing b u ≡ eqb (forceOf b u) (b .desk .clock .force)
   unfolding owesPhasing
   phasing-owes e = simp e
 
@@ -143,10 +143,10 @@ gone-behind {units = units} {i} o l t = rw (take-more units i l) (gone-more o l 
 pub line-total : (b : Board) (us : List ℕ) → shownTotal b us ≡ printedTotal (map (lossFighter b) us)
 unfolding shownTotal totalBy lossFighter
 line-total b [] = refl
-line-total b (u ∷ us) = ap (λ (n : ℕ). b .units .shown u + n) (line-total b us)
+line-total b (u ∷ us) = ap (λ (n : ℕ). b .units .state .shown u + n) (line-total b us)
 
 -- a place of the line, and all of it
-pub loss-place : (b : Board) (units : List ℕ) (i : ℕ) {s : ℕ} → s ≡ b .units .shown (getD units i 0) → fighterOf (getD units i 0) s 0 ≡ lossAt b units i
+pub loss-place : (b : Board) (units : List ℕ) (i : ℕ) {s : ℕ} → s ≡ b .units .state .shown (getD units i 0) → fighterOf (getD units i 0) s 0 ≡ lossAt b units i
 unfolding lossAt lossFighter
 loss-place b units i e = ap (λ (k : ℕ). fighterOf (getD units i 0) k 0) e
 
@@ -168,7 +168,7 @@ named-whole units u n e l = e ∙ ap (λ (k : List ℕ). named k u) (take-all n 
 -- of the units that owed, those that the list spares owe still
 pub owes-after :
     (units : List ℕ) (b : Board) (w : ℕ) → w < b .units .count
-    → eqb (changes b (map destroyed units) .units .role w) 1 ≡ (eqb (b .units .role w) 1 && not (named units w))
+    → eqb (changes b (map destroyed units) .units .state .role w) 1 ≡ (eqb (b .units .state .role w) 1 && not (named units w))
 unfolding changes named
 owes-after [] b w l = simp and-true
 owes-after (u ∷ us) b w l =
@@ -178,7 +178,7 @@ owes-after (u ∷ us) b w l =
     ∙ same-or w u
     (λ e.
     let m : u < b .units .count = omega arith in
-    let r = ap (c .units .role) e ∙ destroyed-here b u m .role in
+    let r = ap (c .units .state .role) e ∙ destroyed-here b u m .role in
     ap (λ (x : ℕ). eqb x 1 && not (named us w)) r ∙ sym (simp (eq-eqb u w (sym e), and-false)))
     (λ n.
     ap (λ (x : ℕ). eqb x 1 && not (named us w)) (destroyed-else b u w n .role) ∙ sym (simp (ne-eqb u w (λ e. n (sym e)))))
@@ -194,7 +194,7 @@ module _ (b : Board) (units : List ℕ) where
   unfolding reassigned spared owes
   survivors =
       let c = changes b (map destroyed units) in
-      let t : ℕ → Bool = λ u. eqb (c .units .role u) 1 in
+      let t : ℕ → Bool = λ u. eqb (c .units .state .role u) 1 in
       ap (map (λ u. assigned u 2))
       (ap (sieve t) (changes-count (map destroyed units) b)
       ∙ sieve-same t (spared b units) (b .units .count) (λ k l. owes-after units b k l))

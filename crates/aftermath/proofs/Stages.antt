@@ -25,22 +25,22 @@ use Rattle.aftermath.specs.Stage.{passesOn, reassigned, thenOn}
 -- one unit with its role, and one with another
 module _ (p : List ℕ) (u from to : ℕ) where
   abbrev renewed : List Change
-  renewed = cond (eqb (board p .units .role u) from) (assigned u to ∷ []) []
+  renewed = cond (eqb (board p .units .state .role u) from) (assigned u to ∷ []) []
 
-  pub renew-other : (board p .units .role u ≡ from → ⊥) → p ≡ makes p renewed
+  pub renew-other : (board p .units .state .role u ≡ from → ⊥) → p ≡ makes p renewed
   unfolding makes
-  renew-other n = simp (ne-eqb (board p .units .role u) from n)
+  renew-other n = simp (ne-eqb (board p .units .state .role u) from n)
 
-  pub renew-own : {q : List ℕ} → board p .units .role u ≡ from → q ≡ make p (assigned u to) → q ≡ makes p renewed
+  pub renew-own : {q : List ℕ} → board p .units .state .role u ≡ from → q ≡ make p (assigned u to) → q ≡ makes p renewed
   unfolding makes
-  renew-own e f = simp (eq-eqb (board p .units .role u) from e) f
+  renew-own e f = simp (eq-eqb (board p .units .state .role u) from e) f
 
 -- the units below u that had the role have the other, the units from u on are as they were
 pub record Renewing (p : List ℕ) (v : View) (from to u : ℕ) (q : List ℕ) : Type 0 where
   pub most : u ≤ v .count
   pub laid : Laid q v
-  pub made : q ≡ makes p (map (λ w. assigned w to) (sieve (λ w. eqb (board p .units .role w) from) u))
-  pub ahead : (w : ℕ) → u ≤ w → board q .units .role w ≡ board p .units .role w
+  pub made : q ≡ makes p (map (λ w. assigned w to) (sieve (λ w. eqb (board p .units .state .role w) from) u))
+  pub ahead : (w : ℕ) → u ≤ w → board q .units .state .role w ≡ board p .units .state .role w
 
 module _ {p : List ℕ} {v : View} {from to : ℕ} where
   pub renewing-none : Laid p v → Renewing p v from to 0 p
@@ -48,9 +48,9 @@ module _ {p : List ℕ} {v : View} {from to : ℕ} where
   renewing-none l = record { most = omega arith; laid = l; made = refl; ahead = λ w m. refl }
 
   module _ {u : ℕ} {q r : List ℕ} (o : Renewing p v from to u q) (k : u < v .count) where
-    hit : eqb (board p .units .role u) from ≡ true → r ≡ make q (assigned u to) → Renewing p v from to (u + 1) r
+    hit : eqb (board p .units .state .role u) from ≡ true → r ≡ make q (assigned u to) → Renewing p v from to (u + 1) r
     hit e f =
-        let t : ℕ → Bool = λ w. eqb (board p .units .role w) from in
+        let t : ℕ → Bool = λ w. eqb (board p .units .state .role w) from in
         let g : ℕ → Change = λ w. assigned w to in
         let n : r ≡ make (makes p (map g (sieve t u))) (assigned u to) = f ∙ ap (λ (l : List ℕ). make l (assigned u to)) (o .made) in
         record {
@@ -63,15 +63,15 @@ module _ {p : List ℕ} {v : View} {from to : ℕ} where
           ahead =
               λ w m.
               let i = assigned-else (board q) u to w (λ z. omega arith) .role in
-              ap (λ (l : List ℕ). board l .units .role w) f
-              ∙ ap (λ (b : Board). b .units .role w) (board-make (o .laid .shaped) (assigned u to))
+              ap (λ (l : List ℕ). board l .units .state .role w) f
+              ∙ ap (λ (b : Board). b .units .state .role w) (board-make (o .laid .shaped) (assigned u to))
               ∙ i
               ∙ o .ahead w (omega arith);
         }
 
-    miss : eqb (board p .units .role u) from ≡ false → r ≡ q → Renewing p v from to (u + 1) r
+    miss : eqb (board p .units .state .role u) from ≡ false → r ≡ q → Renewing p v from to (u + 1) r
     miss e f =
-        let t : ℕ → Bool = λ w. eqb (board p .units .role w) from in
+        let t : ℕ → Bool = λ w. eqb (board p .units .state .role w) from in
         let g : ℕ → Change = λ w. assigned w to in
         rw f
         (record {
@@ -82,11 +82,11 @@ module _ {p : List ℕ} {v : View} {from to : ℕ} where
         })
 
     pub renewing-more :
-        r ≡ makes q (cond (eqb (board q .units .role u) from) (assigned u to ∷ []) []) → Renewing p v from to (u + 1) r
+        r ≡ makes q (cond (eqb (board q .units .state .role u) from) (assigned u to ∷ []) []) → Renewing p v from to (u + 1) r
     unfolding makes
     renewing-more f =
         let z = ap (λ (k : ℕ). eqb k from) (o .ahead u (omega arith)) in
-        either (eqb (board p .units .role u) from)
+        either (eqb (board p .units .state .role u) from)
         (λ e. hit e (simp (z ∙ e) at f))
         (λ e. miss e (simp (z ∙ e) at f))
 
@@ -97,7 +97,7 @@ module _ {p : List ℕ} {v : View} {from to : ℕ} where
   renewing-all {u} o l e =
       let z : u ≡ board p .units .count = omega (arith, o .most) in
       o .made
-      ∙ ap (λ (n : ℕ). makes p (map (λ w. assigned w to) (sieve (λ w. eqb (board p .units .role w) from) n))) z
+      ∙ ap (λ (n : ℕ). makes p (map (λ w. assigned w to) (sieve (λ w. eqb (board p .units .state .role w) from) n))) z
 
 -- the stage that follows: none, advances, or quiet
 module _ (p : List ℕ) where

@@ -22,7 +22,7 @@ use Rattle.aftermath.specs.Stage.{thenOn}
 
 -- role 2 may advance
 unfoldable pub mayAdvance : Board → ℕ → Bool
-mayAdvance b u = eqb (b .units .role u) 2
+mayAdvance b u = eqb (b .units .state .role u) 2
 
 -- an Enemy of unit u, or a force that is neutral to its own, stands on hex h
 unfoldable pub shut : Board → ℕ → ℕ → Bool
@@ -38,7 +38,7 @@ clearTo b u hex r j = eqb (b .desk .route r j) hex && not (any (heldAt b u r) (j
 
 -- "Some route must start beside the unit over an unblocked side and contain the hex": route r serves
 unfoldable pub serves : Board → ℕ → ℕ → ℕ → Bool
-serves b u hex r = joined (b .map) (b .units .hex u) (b .desk .route r 0) && any (clearTo b u hex r) 4
+serves b u hex r = joined (b .map) (b .units .state .hex u) (b .desk .route r 0) && any (clearTo b u hex r) 4
 
 -- "no route for an advance"
 unfoldable pub noRoute : Board → ℕ → ℕ → Bool
@@ -52,7 +52,7 @@ advanceChanges b u hex = placed u hex ∷ assigned u 0 ∷ []
 unfoldable pub unitChecks : Board → ℕ → ℕ → Verdict → Verdict
 unitChecks b u hex rest =
     refuseIf (not (mayAdvance b u)) 4 0
-    (refuseIf (not (movesByLand (b .units .kind u))) 5 0
+    (refuseIf (not (movesByLand (b .units .counter .kind u))) 5 0
     (refuseIf (noRoute b u hex) 7 0 (refuseIf (leb 3 (others b u hex)) 11 0 rest)))
 
 -- all the questions of an advance, and what follows: "wrong stage (.. advance, close 3)"
@@ -60,7 +60,7 @@ unfoldable pub advanceChecks : Board → ℕ → ℕ → Verdict → Verdict
 advanceChecks b u hex rest =
     refuseIf (leb (b .units .count) u) 3 0
     (refuseIf (leb (b .map .hexes) hex) 3 0
-    (refuseIf (not (eqb (b .desk .stage) 3)) 2 0 (unitChecks b u hex rest)))
+    (refuseIf (not (eqb (b .desk .battle .stage) 3)) 2 0 (unitChecks b u hex rest)))
 
 unfoldable pub advanceRule : Board → ℕ → ℕ → Verdict
 advanceRule b u hex = advanceChecks b u hex (judge (rule [] (thenOn b (advanceChanges b u hex)) []))
@@ -75,7 +75,7 @@ closeChanges b = map (λ u. assigned u 0) (sieve (mayAdvance b) (b .units .count
 
 -- "wrong stage (.. close 3)"
 unfoldable pub closeRule : Board → Verdict
-closeRule b = refuseIf (not (eqb (b .desk .stage) 3)) 2 0 (judge (rule [] (thenOn b (closeChanges b)) []))
+closeRule b = refuseIf (not (eqb (b .desk .battle .stage) 3)) 2 0 (judge (rule [] (thenOn b (closeChanges b)) []))
 
 unfoldable pub closeVerdict : List ℕ → Verdict
 closeVerdict p = refuseIf (broken p) 1 0 (closeRule (board p))

@@ -21,7 +21,7 @@ use Rattle.aftermath.specs.Stage.{thenOn}
 
 -- role 1 owes
 unfoldable pub owes : Board → ℕ → Bool
-owes b u = eqb (b .units .role u) 1
+owes b u = eqb (b .units .state .role u) 1
 
 -- the questions of the unit at place k, with the units named before: "losses each 4, 6"; "4 asks the role only"
 unfoldable pub loss : Board → List ℕ → ℕ → ℕ → Verdict → Verdict
@@ -33,11 +33,11 @@ losses b units rest = along (loss b) andThen [] units 1 (λ s. rest)
 -- the printed total of a list; units that owe are tried, and show their strength
 unfoldable pub shownTotal : Board → List ℕ → ℕ
 shownTotal b [] = 0
-shownTotal b (u ∷ us) = b .units .shown u + shownTotal b us
+shownTotal b (u ∷ us) = b .units .state .shown u + shownTotal b us
 
 -- a unit of the list in the battle line, by the strength that it shows; nobody fights
 unfoldable pub lossFighter : Board → ℕ → Fighter
-lossFighter b u = fighterOf u (b .units .shown u) 0
+lossFighter b u = fighterOf u (b .units .state .shown u) 0
 
 -- the fighter at place i of the list's line
 unfoldable pub lossAt : Board → List ℕ → ℕ → Fighter
@@ -49,18 +49,18 @@ spared b units u = owes b u && not (named units u)
 
 -- "its printed total reaches need or it names all"
 unfoldable pub enough : Board → List ℕ → Bool
-enough b units = leb (b .desk .need) (shownTotal b units) || not (any (spared b units) (b .units .count))
+enough b units = leb (b .desk .battle .need) (shownTotal b units) || not (any (spared b units) (b .units .count))
 
 -- the owing units are the phasing force's
 unfoldable pub owesPhasing : Board → ℕ → Bool
-owesPhasing b u = owes b u && eqb (forceOf b u) (b .desk .force)
+owesPhasing b u = owes b u && eqb (forceOf b u) (b .desk .clock .force)
 
 -- the list names another type than special infantry
 unfoldable pub otherType : Board → List ℕ → ℕ → Bool
-otherType b units u = named units u && not (eqb (b .units .kind u) special)
+otherType b units u = named units u && not (eqb (b .units .counter .kind u) special)
 
 unfoldable pub sparedSpecial : Board → List ℕ → ℕ → Bool
-sparedSpecial b units u = spared b units u && eqb (b .units .kind u) special
+sparedSpecial b units u = spared b units u && eqb (b .units .counter .kind u) special
 
 -- "for the phasing force, other types only with every special infantry (16.12)"
 unfoldable pub passedOver : Board → List ℕ → Bool
@@ -80,7 +80,7 @@ unfoldable pub lossChecks : Board → List ℕ → Verdict → Verdict
 lossChecks b units rest =
     refuseIf (not (listLength units)) 3 0
     (allThere b units
-    (refuseIf (not (eqb (b .desk .stage) 2)) 2 0 (losses b units (refuseIf (short b units) 15 0 rest))))
+    (refuseIf (not (eqb (b .desk .battle .stage) 2)) 2 0 (losses b units (refuseIf (short b units) 15 0 rest))))
 
 unfoldable pub lossesRule : Board → List ℕ → Verdict
 lossesRule b units = lossChecks b units (judge (rule [] (thenOn b (lossChanges b units)) []))

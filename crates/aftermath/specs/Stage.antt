@@ -13,7 +13,7 @@ use Rattle.field.specs.Listed.{sieve}
 
 -- every unit with one role gets another
 unfoldable pub reassigned : Board → ℕ → ℕ → List Change
-reassigned b from to = map (λ u. assigned u to) (sieve (λ u. eqb (b .units .role u) from) (b .units .count))
+reassigned b from to = map (λ u. assigned u to) (sieve (λ u. eqb (b .units .state .role u) from) (b .units .count))
 
 -- "When no role 1 is left in stage 1 or 2, stage 3 follows, n and need 0. Stage 3 closed, or at any moment without role 2, becomes 0
 -- with routes cleared."

@@ -27,7 +27,7 @@ pub const ADVANCING: usize = 3;
 // Unit `u` gets the role `to` if it has the role `from`.
 fn reassign_one(p: &mut [u8], v: View, u: usize, from: usize, to: usize)
     requires { ⌜ Laid (now p) v × (to < 256) ⌝ }
-    ensures { λ _. ⌜ now (p .exit) ≡ makes (now (p .entry)) (cond (eqb (board (now (p .entry)) .units .role u) from) (assigned u to ∷ []) []) ⌝ }
+    ensures { λ _. ⌜ now (p .exit) ≡ makes (now (p .entry)) (cond (eqb (board (now (p .entry)) .units .state .role u) from) (assigned u to ∷ []) []) ⌝ }
 {
     if read::role(p, v, u) != from {
         return;

@@ -41,38 +41,38 @@ module _ (die : ℕ) where
 
 module _ (b : Board) where
   -- another stage, and stage 0
-  pub attack-late : (b .desk .stage ≡ 0 → ⊥) → mayAttackNow b ≡ false
+  pub attack-late : (b .desk .battle .stage ≡ 0 → ⊥) → mayAttackNow b ≡ false
   unfolding mayAttackNow
-  attack-late e = simp (ne-eqb (b .desk .stage) 0 e)
+  attack-late e = simp (ne-eqb (b .desk .battle .stage) 0 e)
 
-  pub attack-phase : b .desk .stage ≡ 0 → mayAttackNow b ≡ eqb (b .desk .phase) 1
+  pub attack-phase : b .desk .battle .stage ≡ 0 → mayAttackNow b ≡ eqb (b .desk .clock .phase) 1
   unfolding mayAttackNow
-  attack-phase e = simp (eq-eqb (b .desk .stage) 0 e)
+  attack-phase e = simp (eq-eqb (b .desk .battle .stage) 0 e)
 
   -- no Enemy there, and one
-  pub target-empty : (h : ℕ) → holdsEnemy (scene b) (b .desk .force) h ≡ false → noTarget b h ≡ true
+  pub target-empty : (h : ℕ) → holdsEnemy (scene b) (b .desk .clock .force) h ≡ false → noTarget b h ≡ true
   unfolding noTarget
   target-empty h e = simp e
 
-  pub target-held : (h : ℕ) → holdsEnemy (scene b) (b .desk .force) h ≡ true → noTarget b h ≡ any (foughtOn b h) (b .units .count)
+  pub target-held : (h : ℕ) → holdsEnemy (scene b) (b .desk .clock .force) h ≡ true → noTarget b h ≡ any (foughtOn b h) (b .units .count)
   unfolding noTarget
   target-held h e = simp e
 
   module _ (h u : ℕ) where
-    pub fought-here : b .units .hex u ≡ h → foughtOn b h u ≡ has fought (b .units .marks u)
+    pub fought-here : b .units .state .hex u ≡ h → foughtOn b h u ≡ has fought (b .units .state .marks u)
     unfolding foughtOn
     fought-here e = simp (stands-here (scene b) h u e)
 
-    pub fought-off : (b .units .hex u ≡ h → ⊥) → foughtOn b h u ≡ false
+    pub fought-off : (b .units .state .hex u ≡ h → ⊥) → foughtOn b h u ≡ false
     unfolding foughtOn
     fought-off e = simp (stands-off (scene b) h u e)
 
   module _ (u : ℕ) where
-    pub cannot-type : mayAttack (b .units .kind u) ≡ false → cannotAttack b u ≡ true
+    pub cannot-type : mayAttack (b .units .counter .kind u) ≡ false → cannotAttack b u ≡ true
     unfolding cannotAttack
     cannot-type e = simp e
 
-    pub cannot-mark : mayAttack (b .units .kind u) ≡ true → cannotAttack b u ≡ has fought (b .units .marks u)
+    pub cannot-mark : mayAttack (b .units .counter .kind u) ≡ true → cannotAttack b u ≡ has fought (b .units .state .marks u)
     unfolding cannotAttack
     cannot-mark e = simp e
 
@@ -121,4 +121,4 @@ asked-more {p} {target} {units} {i} o l t =
 -- past every question the attackers are adjacent to the target
 pub all-adjacent : {b : Board} {target : ℕ} {units : List ℕ} {long : ℕ} → Engaged b target units long → AllAdjacent b target units
 unfolding notBeside
-all-adjacent {b} {target} {units} e i l = not-false (joined (b .map) (b .units .hex (getD units i 0)) target) (e .able i l .beside)
+all-adjacent {b} {target} {units} e i l = not-false (joined (b .map) (b .units .state .hex (getD units i 0)) target) (e .able i l .beside)

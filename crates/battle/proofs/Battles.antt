@@ -40,21 +40,21 @@ use Rattle.battle.proofs.LawfulAfter.{Attacker, Ready, attacker-of, att
 
 -- the units in the target hex
 module _ (b : Board) (target : ℕ) where
-  pub stands-is : (w : ℕ) → standsOn (scene b) target w ≡ true → b .units .hex w ≡ target
+  pub stands-is : (w : ℕ) → standsOn (scene b) target w ≡ true → b .units .state .hex w ≡ target
   unfolding standsOn
-  stands-is w e = eqb-true (b .units .hex w) target e
+  stands-is w e = eqb-true (b .units .state .hex w) target e
 
-  pub defenders-each : Each (λ w. (w < b .units .count) × (b .units .hex w ≡ target)) (defenders b target)
+  pub defenders-each : Each (λ w. (w < b .units .count) × (b .units .state .hex w ≡ target)) (defenders b target)
   unfolding defenders
   defenders-each =
       each-by (λ w h. (h .0, stands-is w (h .1))) (sieve (standsOn (scene b) target) (b .units .count))
       (sieve-each (standsOn (scene b) target) (b .units .count))
 
-  defender-named : (w : ℕ) → w < b .units .count → b .units .hex w ≡ target → named (defenders b target) w ≡ true
+  defender-named : (w : ℕ) → w < b .units .count → b .units .state .hex w ≡ target → named (defenders b target) w ≡ true
   unfolding defenders
   defender-named w l e = sieve-names (standsOn (scene b) target) (b .units .count) w l (stands-here (scene b) target w e)
 
-  named-defender : (w : ℕ) → named (defenders b target) w ≡ true → b .units .hex w ≡ target
+  named-defender : (w : ℕ) → named (defenders b target) w ≡ true → b .units .state .hex w ≡ target
   named-defender w e = named-each _ (defenders b target) defenders-each w e .1
 
   pub defenders-long : length (defenders b target) ≡ crowd b target
@@ -65,7 +65,7 @@ module _ (b : Board) (target : ℕ) where
 pub record Seen (b d : Board) (us : List ℕ) : Type 0 where
   pub lawful : Lawful d
   pub still : Still b d
-  pub tried : Each (λ u. u < d .units .count → has tried (d .units .marks u) ≡ true) us
+  pub tried : Each (λ u. u < d .units .count → has tried (d .units .state .marks u) ≡ true) us
 
 -- a hex beside the target that a route may be
 record Near (b : Board) (target h : ℕ) : Type 0 where
@@ -78,19 +78,19 @@ record Written (b : Board) (hs : List ℕ) : Type 0 where
   footing : Each (Footing b) hs
 
 module _ {b : Board} {target : ℕ} {units : List ℕ} (g : Ready b target units) where
-  attacker-near : (w : ℕ) → Attacker b target w → Near b target (b .units .hex w)
+  attacker-near : (w : ℕ) → Attacker b target w → Near b target (b .units .state .hex w)
   attacker-near w k =
       record {
         footing = record { stands = g .lawful .units .each w (k .below) .stand .mapped (k .mapped) .stands; hex = k .mapped };
         beside = k .beside;
       }
 
-  attackers-written : Written b (onceEach [] (map (b .units .hex) units))
+  attackers-written : Written b (onceEach [] (map (b .units .state .hex) units))
   attackers-written =
-      let hs = map (b .units .hex) units in
+      let hs = map (b .units .state .hex) units in
       let near =
       once-each (Near b target) hs [] tt
-      (each-map (Near b target) (b .units .hex) units (each-by attacker-near units (g .attackers)))
+      (each-map (Near b target) (b .units .state .hex) units (each-by attacker-near units (g .attackers)))
       in
       record {
         few =
@@ -171,7 +171,7 @@ module _ {b : Board} {target : ℕ} {units : List ℕ} (g : Ready b target units
     shown =
         let ds = defenders b target in
         let m = marked-all (g .lawful) (participants b target units) participants-present (v .lawful) (v .still) in
-        let turned : (w : ℕ) → w < b .units .count → named (units ++ ds) w ≡ true → has tried (marked .units .marks w) ≡ true =
+        let turned : (w : ℕ) → w < b .units .count → named (units ++ ds) w ≡ true → has tried (marked .units .state .marks w) ≡ true =
         λ w l e. m .still .face w (named-each _ (units ++ ds) (v .tried) w e (omega (arith, v .still .fixed .count)))
         in
         record {
@@ -198,10 +198,10 @@ module _ {b : Board} {target : ℕ} {units : List ℕ} (g : Ready b target units
     units-routed : routed .units ≡ marked .units
     units-routed = routed-all (routesWritten b target units o) 0 marked .units
 
-    undefended : (w : ℕ) → (b .units .hex w ≡ target → ⊥) → named (defenders b target) w ≡ false
+    undefended : (w : ℕ) → (b .units .state .hex w ≡ target → ⊥) → named (defenders b target) w ≡ false
     undefended w n = either (named (defenders b target) w) (λ e. absurd (n (named-defender b target w e))) (λ e. e)
 
-    unlisted : (w : ℕ) → b .units .hex w ≡ target → named units w ≡ false
+    unlisted : (w : ℕ) → b .units .state .hex w ≡ target → named units w ≡ false
     unlisted w e = either (named units w) (λ h. absurd (attacker-off g w h e)) (λ h. h)
 
     fixed-routed : Fixed routed last

@@ -45,7 +45,7 @@ use Rattle.results.specs.declared.Upshot.{Upshot}
 
 -- the defenders are as many as the crowd, and stand there
 module _ (b : Board) (target : ℕ) where
-  stands-is : standsOn (scene b) target ≡ equals (b .units .hex) target
+  stands-is : standsOn (scene b) target ≡ equals (b .units .state .hex) target
   unfolding standsOn equals
   stands-is = refl
 
@@ -58,11 +58,11 @@ module _ (b : Board) (target : ℕ) where
 
   pub record Defends (u : ℕ) : Type 0 where
     pub counted : u < b .units .count
-    pub there : b .units .hex u ≡ target
+    pub there : b .units .state .hex u ≡ target
 
   pub defends : (u : ℕ) → Passing (standsOn (scene b) target) (b .units .count) u → Defends u
   unfolding standsOn
-  defends u o = record { counted = o .below; there = eqb-true (b .units .hex u) target (o .passes) }
+  defends u o = record { counted = o .below; there = eqb-true (b .units .state .hex u) target (o .passes) }
 
   pub defender-at : (i : ℕ) → i < length (defenders b target) → Defends (getD (defenders b target) i 0)
   unfolding defenders
@@ -87,11 +87,11 @@ belongs-five (suc (suc (suc (suc zero)))) n e = omega (arith, eqb-true n 2 e)
 belongs-five (suc (suc (suc (suc (suc zero))))) n e = omega (arith, leb-true n 2 e)
 belongs-five (suc (suc (suc (suc (suc (suc k)))))) n e = not-both false e refl
 
-pub phasing-on : (b : Board) (u : ℕ) → notPhasing b u ≡ false → b .units .hex u ≡ nowhere → ⊥
+pub phasing-on : (b : Board) (u : ℕ) → notPhasing b u ≡ false → b .units .state .hex u ≡ nowhere → ⊥
 unfolding notPhasing
 phasing-on b u e =
-    eqb-false (b .units .hex u) nowhere
-    (neither (eqb (b .units .hex u) nowhere) (not (eqb (forceOf b u) (b .desk .force))) e .0)
+    eqb-false (b .units .state .hex u) nowhere
+    (neither (eqb (b .units .state .hex u) nowhere) (not (eqb (forceOf b u) (b .desk .clock .force))) e .0)
 
 -- at most three stand in a hex of a lawful board
 module _ {b : Board} (l : Lawful b) (m : b .map .hexes ≤ 4096) where
@@ -100,25 +100,25 @@ module _ {b : Board} (l : Lawful b) (m : b .map .hexes ≤ 4096) where
 
   pub few-there : (target : ℕ) → target < b .map .hexes → crowd b target ≤ 3
   few-there target k =
-      let t = equals (b .units .hex) target in
+      let t = equals (b .units .state .hex) target in
       le-or 1 (tally t (b .units .count))
       (λ s.
       let o = tally-some t (b .units .count) s in
-      let e = equals-is (b .units .hex) target (o .at) (o .passes) in
+      let e = equals-is (b .units .state .hex) target (o .at) (o .passes) in
       rw (sym e) (l .units .each (o .at) (o .below) .stand .mapped (λ z. off-box target k (sym e ∙ z)) .room))
       (λ s. omega (arith, crowd-is b target))
 
   pub few-defend : (target : ℕ) → target < b .map .hexes → length (defenders b target) ≤ 3
   few-defend target k = omega (arith, defenders-crowd b target, few-there target k)
 
-  pub stand-nation : (u : ℕ) → u < b .units .count → b .units .nationality u < 5
-  stand-nation u n = belongs-five (b .units .kind u) (b .units .nationality u) (l .units .each u n .counter .belongs)
+  pub stand-nation : (u : ℕ) → u < b .units .count → b .units .counter .nationality u < 5
+  stand-nation u n = belongs-five (b .units .counter .kind u) (b .units .counter .nationality u) (l .units .each u n .counter .belongs)
 
   pub attacker-stands : (target u : ℕ) → u < b .units .count → Able b target u → Standing b u
   attacker-stands target u n a =
       record {
         nation = stand-nation u n;
-        mapped = standable-on b (b .units .hex u) (l .units .each u n .stand .mapped (phasing-on b u (a .phasing)) .stands);
+        mapped = standable-on b (b .units .state .hex u) (l .units .each u n .stand .mapped (phasing-on b u (a .phasing)) .stands);
       }
 
   pub defender-stands : (target u : ℕ) → target < b .map .hexes → Defends b target u → Standing b u

@@ -70,15 +70,15 @@ code-fits {b} o l attack defence die h k =
     (omega arith))
 
 module _ (b : Board) where
-  now : not (mayAttackNow b) ≡ false → (b .desk .stage ≡ 0) × (b .desk .phase ≡ 1)
+  now : not (mayAttackNow b) ≡ false → (b .desk .battle .stage ≡ 0) × (b .desk .clock .phase ≡ 1)
   unfolding mayAttackNow
   now e =
-      let x = eqb (b .desk .stage) 0 in
-      let y = eqb (b .desk .phase) 1 in
+      let x = eqb (b .desk .battle .stage) 0 in
+      let y = eqb (b .desk .clock .phase) 1 in
       let h = both-yes x y (not-false (x && y) e) in
-      (eqb-true (b .desk .stage) 0 (h .0), eqb-true (b .desk .phase) 1 (h .1))
+      (eqb-true (b .desk .battle .stage) 0 (h .0), eqb-true (b .desk .clock .phase) 1 (h .1))
 
-  enemy-parts : (f h u : ℕ) → enemyOn (scene b) f h u ≡ true → (b .units .hex u ≡ h) × (forceOf b u ≡ f → ⊥)
+  enemy-parts : (f h u : ℕ) → enemyOn (scene b) f h u ≡ true → (b .units .state .hex u ≡ h) × (forceOf b u ≡ f → ⊥)
   unfolding enemyOn
   enemy-parts f h u e =
       let x = both-yes (standsOn (scene b) h u) (enemy b f (forceIn (scene b) u)) e in
@@ -87,22 +87,22 @@ module _ (b : Board) where
   target-held : (target : ℕ) → noTarget b target ≡ false → Held b target
   unfolding noTarget holdsEnemy
   target-held target e =
-      let t = enemyOn (scene b) (b .desk .force) target in
+      let t = enemyOn (scene b) (b .desk .clock .force) target in
       let n = neither (not (any t (b .units .count))) (any (foughtOn b target) (b .units .count)) e in
       let s = any-some t (b .units .count) (not-false (any t (b .units .count)) (n .0)) in
-      let h = enemy-parts (b .desk .force) target (s .at) (s .passes) in
+      let h = enemy-parts (b .desk .clock .force) target (s .at) (s .passes) in
       record { unit = s .at; below = s .below; here = h .0; enemy = h .1 }
 
-  phasing-parts : (u : ℕ) → notPhasing b u ≡ false → (b .units .hex u ≡ nowhere → ⊥) × (forceOf b u ≡ b .desk .force)
+  phasing-parts : (u : ℕ) → notPhasing b u ≡ false → (b .units .state .hex u ≡ nowhere → ⊥) × (forceOf b u ≡ b .desk .clock .force)
   unfolding notPhasing
   phasing-parts u e =
-      let n = neither (eqb (b .units .hex u) nowhere) (not (eqb (forceOf b u) (b .desk .force))) e in
-      let f = eqb-true (forceOf b u) (b .desk .force) (not-false (eqb (forceOf b u) (b .desk .force)) (n .1)) in
-      (eqb-false (b .units .hex u) nowhere (n .0), f)
+      let n = neither (eqb (b .units .state .hex u) nowhere) (not (eqb (forceOf b u) (b .desk .clock .force))) e in
+      let f = eqb-true (forceOf b u) (b .desk .clock .force) (not-false (eqb (forceOf b u) (b .desk .clock .force)) (n .1)) in
+      (eqb-false (b .units .state .hex u) nowhere (n .0), f)
 
-  beside-target : (target u : ℕ) → notBeside b target u ≡ false → joined (b .map) (b .units .hex u) target ≡ true
+  beside-target : (target u : ℕ) → notBeside b target u ≡ false → joined (b .map) (b .units .state .hex u) target ≡ true
   unfolding notBeside
-  beside-target target u e = not-false (joined (b .map) (b .units .hex u) target) e
+  beside-target target u e = not-false (joined (b .map) (b .units .state .hex u) target) e
 
 -- all that is known of an attacker past its questions but that it is a unit
 record Fit (b : Board) (target u : ℕ) : Type 0 where

@@ -35,16 +35,16 @@ use Rattle.results.proofs.Upshots.{Sensible}
 -- an attacker as the questions leave it
 pub record Attacker (b : Board) (target u : ℕ) : Type 0 where
   pub below : u < b .units .count
-  pub mapped : b .units .hex u ≡ nowhere → ⊥
-  pub force : forceOf b u ≡ b .desk .force
-  pub beside : joined (b .map) (b .units .hex u) target ≡ true
+  pub mapped : b .units .state .hex u ≡ nowhere → ⊥
+  pub force : forceOf b u ≡ b .desk .clock .force
+  pub beside : joined (b .map) (b .units .state .hex u) target ≡ true
 
 -- an Enemy in the target hex
 pub record Held (b : Board) (target : ℕ) : Type 0 where
   pub unit : ℕ
   pub below : unit < b .units .count
-  pub here : b .units .hex unit ≡ target
-  pub enemy : forceOf b unit ≡ b .desk .force → ⊥
+  pub here : b .units .state .hex unit ≡ target
+  pub enemy : forceOf b unit ≡ b .desk .clock .force → ⊥
 
 -- what is known of a lawful board where an attack is let through
 pub record Ready (b : Board) (target : ℕ) (units : List ℕ) : Type 0 where
@@ -53,8 +53,8 @@ pub record Ready (b : Board) (target : ℕ) (units : List ℕ) : Type 0 where
   pub some : 1 ≤ length units
   pub many : length units ≤ 18
   pub aimed : target ≡ nowhere → ⊥
-  pub quiet : b .desk .stage ≡ 0
-  pub phase : b .desk .phase ≡ 1
+  pub quiet : b .desk .battle .stage ≡ 0
+  pub phase : b .desk .clock .phase ≡ 1
   pub attackers : Each (Attacker b target) units
   pub held : Held b target
 
@@ -67,11 +67,11 @@ module _ {b : Board} {target : ℕ} {units : List ℕ} (g : Ready b target units
   first-named = named-at units 0 (getD units 0 0) (g .some) refl
 
   -- it is not in the target hex
-  pub attacker-off : (w : ℕ) → named units w ≡ true → b .units .hex w ≡ target → ⊥
-  attacker-off w e = joined-other (b .map) target (b .units .hex w) (attacker-of w e .beside)
+  pub attacker-off : (w : ℕ) → named units w ≡ true → b .units .state .hex w ≡ target → ⊥
+  attacker-off w e = joined-other (b .map) target (b .units .state .hex w) (attacker-of w e .beside)
 
   -- a stack is of one force
-  pub defender-force : (w : ℕ) → w < b .units .count → b .units .hex w ≡ target → forceOf b w ≡ forceOf b (g .held .unit)
+  pub defender-force : (w : ℕ) → w < b .units .count → b .units .state .hex w ≡ target → forceOf b w ≡ forceOf b (g .held .unit)
   defender-force w l e =
       let h = g .held in
       same-or (forceOf b w) (forceOf b (h .unit)) (λ z. z)
@@ -89,11 +89,11 @@ module _ {b : Board} {target : ℕ} {units : List ℕ} (g : Ready b target units
   crowd-some =
       let h = g .held in
       rw (crowd-is b target)
-      (tally-pos (equals (b .units .hex) target) (b .units .count) (h .unit) (h .below)
-      (equals-yes (b .units .hex) target (h .unit) (h .here)))
+      (tally-pos (equals (b .units .state .hex) target) (b .units .count) (h .unit) (h .below)
+      (equals-yes (b .units .state .hex) target (h .unit) (h .here)))
 
   -- "Stage 0: no roles"
-  pub no-role : (w : ℕ) → w < b .units .count → b .units .role w ≡ 0
+  pub no-role : (w : ℕ) → w < b .units .count → b .units .state .role w ≡ 0
   no-role w l =
       let q = g .lawful .stage .during .quiet (g .quiet) in
       let m = g .lawful .units .each w l .duty .role in
@@ -105,23 +105,23 @@ module _ {b : Board} {target : ℕ} {units : List ℕ} (g : Ready b target units
 pub record Shown (b m : Board) (target : ℕ) (units : List ℕ) : Type 0 where
   pub lawful : Lawful m
   pub still : Still b m
-  pub attackers : (w : ℕ) → named units w ≡ true → has tried (m .units .marks w) ≡ true
-  pub defenders : (w : ℕ) → w < b .units .count → b .units .hex w ≡ target → has tried (m .units .marks w) ≡ true
+  pub attackers : (w : ℕ) → named units w ≡ true → has tried (m .units .state .marks w) ≡ true
+  pub defenders : (w : ℕ) → w < b .units .count → b .units .state .hex w ≡ target → has tried (m .units .state .marks w) ≡ true
 
 -- what becomes of the units
 pub record Sides (b m c : Board) (target : ℕ) (units : List ℕ) (o : Upshot) : Type 0 where
   pub fixed : Fixed m c
   pub attackers : (w : ℕ) → named units w ≡ true → Fated (m .units) (c .units) (o .attackers) w
-  pub defenders : (w : ℕ) → w < b .units .count → b .units .hex w ≡ target → Fated (m .units) (c .units) (o .defenders) w
-  pub others : (w : ℕ) → named units w ≡ false → (b .units .hex w ≡ target → ⊥) → Same (m .units) (c .units) w
+  pub defenders : (w : ℕ) → w < b .units .count → b .units .state .hex w ≡ target → Fated (m .units) (c .units) (o .defenders) w
+  pub others : (w : ℕ) → named units w ≡ false → (b .units .state .hex w ≡ target → ⊥) → Same (m .units) (c .units) w
 
 -- and of the desk
 pub record Desked (b c : Board) (o : Upshot) : Type 0 where
   pub clock : OneClock (b .desk) (c .desk)
-  pub stage : c .desk .stage ≡ o .stage
-  pub owed : c .desk .owed ≡ o .owed
-  pub need : o .stage ≡ 2 → In 1 (c .desk .need) 1080
-  pub free : (o .stage ≡ 2 → ⊥) → c .desk .need ≡ 0
+  pub stage : c .desk .battle .stage ≡ o .stage
+  pub owed : c .desk .battle .owed ≡ o .owed
+  pub need : o .stage ≡ 2 → In 1 (c .desk .battle .need) 1080
+  pub free : (o .stage ≡ 2 → ⊥) → c .desk .battle .need ≡ 0
   pub unrouted : o .stage ≡ 1 → c .desk .route ≡ b .desk .route
   pub routes : RoutesOk c
 
@@ -141,14 +141,14 @@ module _
   lot :
       {X : Type 0} (w : ℕ) → w < b .units .count
       → (named units w ≡ true → Fated (m .units) (c .units) (o .attackers) w → X)
-      → (b .units .hex w ≡ target → Fated (m .units) (c .units) (o .defenders) w → X)
+      → (b .units .state .hex w ≡ target → Fated (m .units) (c .units) (o .defenders) w → X)
       → (Same (m .units) (c .units) w → X)
       → X
   lot w l x y n =
       either (named units w) (λ e. x e (a .attackers w e))
-      (λ e. same-or (b .units .hex w) target (λ h. y h (a .defenders w l h)) (λ h. n (a .others w e h)))
+      (λ e. same-or (b .units .state .hex w) target (λ h. y h (a .defenders w l h)) (λ h. n (a .others w e h)))
 
-  hex-shown : (w : ℕ) → m .units .hex w ≡ b .units .hex w
+  hex-shown : (w : ℕ) → m .units .state .hex w ≡ b .units .state .hex w
   hex-shown w = λ i. q .still .hex i w
 
   alone : (w : ℕ) → w < c .units .count → AloneOk c w
@@ -167,7 +167,7 @@ module _
       was)
       (λ e. alone-same (a .fixed) w e was)
 
-  fated-hex : {r w : ℕ} → Fated (m .units) (c .units) r w → (c .units .hex w ≡ nowhere → ⊥) → c .units .hex w ≡ m .units .hex w
+  fated-hex : {r w : ℕ} → Fated (m .units) (c .units) r w → (c .units .state .hex w ≡ nowhere → ⊥) → c .units .state .hex w ≡ m .units .state .hex w
   fated-hex {r} f n = same-or r 0 (λ e. absurd (n (f .lost e .hex))) (λ e. f .stays e)
 
   stacks : StacksOk c
@@ -179,18 +179,18 @@ module _
 
   -- who has a role has it by its side
   side :
-      {X : Type 0} (r w : ℕ) → w < b .units .count → (r ≡ 0 → ⊥) → c .units .role w ≡ r
-      → (o .attackers ≡ r → named units w ≡ true → X) → (o .defenders ≡ r → b .units .hex w ≡ target → X) → X
+      {X : Type 0} (r w : ℕ) → w < b .units .count → (r ≡ 0 → ⊥) → c .units .state .role w ≡ r
+      → (o .attackers ≡ r → named units w ≡ true → X) → (o .defenders ≡ r → b .units .state .hex w ≡ target → X) → X
   side r w l n e x y =
       lot w l (λ k f. x (sym (f .role) ∙ e) k) (λ k f. y (sym (f .role) ∙ e) k)
       (λ f.
-      let s : m .units .role w ≡ b .units .role w = λ i. q .still .role i w in
+      let s : m .units .state .role w ≡ b .units .state .role w = λ i. q .still .role i w in
       absurd (n (sym e ∙ f .role ∙ s ∙ no-role g w l)))
 
-  attacker-force : (w : ℕ) → named units w ≡ true → forceOf c w ≡ b .desk .force
+  attacker-force : (w : ℕ) → named units w ≡ true → forceOf c w ≡ b .desk .clock .force
   attacker-force w e = force-by all-fixed w ∙ attacker-of g w e .force
 
-  enemy-force : (w : ℕ) → w < b .units .count → b .units .hex w ≡ target → forceOf c w ≡ forceOf b (g .held .unit)
+  enemy-force : (w : ℕ) → w < b .units .count → b .units .state .hex w ≡ target → forceOf c w ≡ forceOf b (g .held .unit)
   enemy-force w l e = force-by all-fixed w ∙ defender-force g w l e
 
   below : {w : ℕ} → w < c .units .count → w < b .units .count
@@ -230,12 +230,12 @@ module _
   nobody r n x y = holders-nought c r (λ w l e. side r w (below l) n e (λ i _. x i) (λ i _. y i))
 
   -- a unit of each side
-  attacking : (getD units 0 0 < c .units .count) × (c .units .role (getD units 0 0) ≡ o .attackers)
+  attacking : (getD units 0 0 < c .units .count) × (c .units .state .role (getD units 0 0) ≡ o .attackers)
   attacking =
       let h = first-named g in
       (omega (arith, all-fixed .count, attacker-of g (getD units 0 0) h .below), a .attackers (getD units 0 0) h .role)
 
-  defending : (g .held .unit < c .units .count) × (c .units .role (g .held .unit) ≡ o .defenders)
+  defending : (g .held .unit < c .units .count) × (c .units .state .role (g .held .unit) ≡ o .defenders)
   defending =
       let h = g .held in
       (omega (arith, all-fixed .count, h .below), a .defenders (h .unit) (h .below) (h .here) .role)
@@ -250,20 +250,20 @@ module _
       same-or (o .attackers) r
       (λ e.
       let h =
-      tally-le (equals (c .units .role) r) (named units) (c .units .count)
-      (λ w l k. side r w (below l) n (equals-is (c .units .role) r w k) (λ _ i. i) (λ y _. absurd (z .apart (e ∙ sym y))))
+      tally-le (equals (c .units .state .role) r) (named units) (c .units .count)
+      (λ w l k. side r w (below l) n (equals-is (c .units .state .role) r w k) (λ _ i. i) (λ y _. absurd (z .apart (e ∙ sym y))))
       in
       omega (arith, holders-is c r, tally-named units (c .units .count), g .many))
       (λ d.
       let h =
-      tally-le (equals (c .units .role) r) (equals (b .units .hex) target) (c .units .count)
-      (λ w l k. side r w (below l) n (equals-is (c .units .role) r w k) (λ y _. absurd (d y)) (λ _ i. equals-yes (b .units .hex) target w i))
+      tally-le (equals (c .units .state .role) r) (equals (b .units .state .hex) target) (c .units .count)
+      (λ w l k. side r w (below l) n (equals-is (c .units .state .role) r w k) (λ y _. absurd (d y)) (λ _ i. equals-yes (b .units .state .hex) target w i))
       in
-      omega (arith, holders-is c r, crowd-is b target, ap (tally (equals (b .units .hex) target)) (all-fixed .count), crowd-there g))
+      omega (arith, holders-is c r, crowd-is b target, ap (tally (equals (b .units .state .hex) target)) (all-fixed .count), crowd-there g))
 
   -- where nobody is destroyed, the hexes of those that owe: the target, or hexes beside it
   hex-after :
-      (w : ℕ) → w < b .units .count → (o .attackers ≡ 0 → ⊥) → (o .defenders ≡ 0 → ⊥) → c .units .hex w ≡ b .units .hex w
+      (w : ℕ) → w < b .units .count → (o .attackers ≡ 0 → ⊥) → (o .defenders ≡ 0 → ⊥) → c .units .state .hex w ≡ b .units .state .hex w
   hex-after w l x y =
       lot w l (λ _ f. f .stays x) (λ _ f. f .stays y) (λ f. f .hex) ∙ hex-shown w
 
@@ -275,16 +275,16 @@ module _
       let y : o .defenders ≡ 0 → ⊥ = λ i. absurd (omega arith) in
       same-or (o .attackers) 1
       (λ i.
-      let joins : (w : ℕ) → w < c .units .count → c .units .role w ≡ 1 → joined (b .map) (c .units .hex w) target ≡ true =
+      let joins : (w : ℕ) → w < c .units .count → c .units .state .role w ≡ 1 → joined (b .map) (c .units .state .hex w) target ≡ true =
       λ w l r.
       ap (λ (h : ℕ). joined (b .map) h target) (hex-after w (below l) x y)
       ∙ side 1 w (below l) (λ k. omega arith) r (λ _ j. attacker-of g w j .beside) (λ j _. absurd (omega arith))
       in
       owing-most c (λ h. bearing (b .map) h target) 6
-      (λ w l r. bearing-below (b .map) (c .units .hex w) target (joins w l r))
-      (λ u w l k r s j. joined-one (b .map) target (c .units .hex u) (c .units .hex w) (joins u l r) (joins w k s) j))
+      (λ w l r. bearing-below (b .map) (c .units .state .hex w) target (joins w l r))
+      (λ u w l k r s j. joined-one (b .map) target (c .units .state .hex u) (c .units .state .hex w) (joins u l r) (joins w k s) j))
       (λ n.
-      let there : (w : ℕ) → w < c .units .count → c .units .role w ≡ 1 → c .units .hex w ≡ target =
+      let there : (w : ℕ) → w < c .units .count → c .units .state .role w ≡ 1 → c .units .state .hex w ≡ target =
       λ w l r.
       hex-after w (below l) x y ∙ side 1 w (below l) (λ k. omega arith) r (λ j _. absurd (n j)) (λ _ j. j)
       in

@@ -168,7 +168,7 @@ module _ (s : Scene) (n h : ℕ) (m : List ℕ) (e : m ≡ supplyMap s n) where
       ∙ cond-one (supplied s n h)
 
 pub armed-is :
-    (b : Board) (u printed : ℕ) {t : Bool} {r : ℕ} → t ≡ supplied (scene b) (b .units .nationality u) (b .units .hex u)
+    (b : Board) (u printed : ℕ) {t : Bool} {r : ℕ} → t ≡ supplied (scene b) (b .units .counter .nationality u) (b .units .state .hex u)
     → r ≡ working b u t printed → r ≡ strengthOf b u printed
 unfolding strengthOf
 armed-is b u printed e f = f ∙ ap (λ (x : Bool). working b u x printed) e
@@ -190,7 +190,7 @@ module _ {b : Board} {nation : ℕ} {who : List ℕ} {n : ℕ} {printed before :
 
   module _ {after : List ℕ} {i : ℕ} (m : n ≤ places) (o : Arming b nation who n printed before after i) (l : i < n) where
     pub arming-hit :
-        {after′ : List ℕ} {x : ℕ} → b .units .nationality (getD who i 0) ≡ nation → x ≡ strengthOf b (getD who i 0) (getD printed i 0)
+        {after′ : List ℕ} {x : ℕ} → b .units .counter .nationality (getD who i 0) ≡ nation → x ≡ strengthOf b (getD who i 0) (getD printed i 0)
         → after′ ≡ set after i x → Arming b nation who n printed before after′ (i + 1)
     arming-hit {after′} {x} e f g =
         let z : i < length after = omega (arith, o .arms .size) in
@@ -208,14 +208,14 @@ module _ {b : Board} {nation : ℕ} {who : List ℕ} {n : ℕ} {printed before :
                 other =
                     λ j k q.
                     same-or j i
-                    (λ d. absurd (q (ap (λ (y : ℕ). b .units .nationality (getD who y 0)) d ∙ e)))
+                    (λ d. absurd (q (ap (λ (y : ℕ). b .units .counter .nationality (getD who y 0)) d ∙ e)))
                     (λ d. getD-set-other after i j x 0 d ∙ o .arms .other j (omega arith) q);
               };
           rest = λ j k. getD-set-other after i j x 0 (λ d. omega arith) ∙ o .rest j (omega arith);
         })
 
     pub arming-miss :
-        {after′ : List ℕ} → (b .units .nationality (getD who i 0) ≡ nation → ⊥) → after′ ≡ after
+        {after′ : List ℕ} → (b .units .counter .nationality (getD who i 0) ≡ nation → ⊥) → after′ ≡ after
         → Arming b nation who n printed before after′ (i + 1)
     arming-miss d g =
         rw g
@@ -227,7 +227,7 @@ module _ {b : Board} {nation : ℕ} {who : List ℕ} {n : ℕ} {printed before :
                 own =
                     λ j k q.
                     same-or j i
-                    (λ z. absurd (d (ap (λ (y : ℕ). b .units .nationality (getD who y 0)) (sym z) ∙ q)))
+                    (λ z. absurd (d (ap (λ (y : ℕ). b .units .counter .nationality (getD who y 0)) (sym z) ∙ q)))
                     (λ z. o .arms .own j (omega arith) q);
                 other =
                     λ j k q.
@@ -254,7 +254,7 @@ module _ {b : Board} {nation : ℕ} {who : List ℕ} {n : ℕ} {printed before :
         size = s;
         own =
             λ j k q.
-            not-both (nationAt b nation who j) (eq-eqb (b .units .nationality (getD who j 0)) nation q) (any-false (nationAt b nation who) n j e k);
+            not-both (nationAt b nation who j) (eq-eqb (b .units .counter .nationality (getD who j 0)) nation q) (any-false (nationAt b nation who) n j e k);
         other = λ j k q. refl;
       }
 
@@ -262,7 +262,7 @@ module _ {b : Board} {nation : ℕ} {who : List ℕ} {n : ℕ} {printed before :
 pub record ArmedTo (b : Board) (who : List ℕ) (n : ℕ) (printed after : List ℕ) (m : ℕ) : Type 0 where
   pub most : m ≤ 5
   pub size : length after ≡ places
-  pub each : (i : ℕ) → i < n → b .units .nationality (getD who i 0) < m → Armed b who printed after i
+  pub each : (i : ℕ) → i < n → b .units .counter .nationality (getD who i 0) < m → Armed b who printed after i
 
 module _ {b : Board} {who : List ℕ} {n : ℕ} {printed after : List ℕ} where
   pub armed-none : length after ≡ places → ArmedTo b who n printed after 0
@@ -275,7 +275,7 @@ module _ {b : Board} {who : List ℕ} {n : ℕ} {printed after : List ℕ} where
         size = a .size;
         each =
             λ i k h.
-            same-or (b .units .nationality (getD who i 0)) m
+            same-or (b .units .counter .nationality (getD who i 0)) m
             (λ e. a .own i k e)
             (λ d. a .other i k d ∙ o .each i k (omega arith));
       }

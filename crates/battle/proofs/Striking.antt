@@ -42,7 +42,7 @@ use Rattle.field.proofs.Named.{named-past, unnamed-parts}
 -- a unit that is there, on the map
 pub record Present (b : Board) (u : ℕ) : Type 0 where
   pub below : u < b .units .count
-  pub mapped : b .units .hex u ≡ nowhere → ⊥
+  pub mapped : b .units .state .hex u ≡ nowhere → ⊥
 
 -- "All participants .. get fought."
 with-fought-small : (m : ℕ) → m < 16 → with fought m < 16
@@ -59,13 +59,13 @@ pub marked-all :
 unfolding foughtBy changes
 marked-all l [] h {d} k s = record { lawful = k; still = still-refl d }
 marked-all {b} l (u ∷ us) h {d} k s =
-    let m = with fought (b .units .marks u) in
-    let e : d .units .hex u ≡ b .units .hex u = λ i. s .hex i u in
+    let m = with fought (b .units .state .marks u) in
+    let e : d .units .state .hex u ≡ b .units .state .hex u = λ i. s .hex i u in
     let t = marked-still d u m in
     let o =
     lawful-marked k u m
     (record {
-      marks = with-fought-small (b .units .marks u) (l .units .each u (h .0 .below) .counter .marks);
+      marks = with-fought-small (b .units .state .marks u) (l .units .each u (h .0 .below) .counter .marks);
       destroyed = λ z. absurd (h .0 .mapped (sym e ∙ z));
     })
     in

@@ -22,23 +22,23 @@ dieFits die = leb 1 die && leb die 6
 
 -- "wrong stage (.. attack .. 0 ..) or phase (.. attack 1)"
 unfoldable pub mayAttackNow : Board → Bool
-mayAttackNow b = eqb (b .desk .stage) 0 && eqb (b .desk .phase) 1
+mayAttackNow b = eqb (b .desk .battle .stage) 0 && eqb (b .desk .clock .phase) 1
 
 -- unit u stands on hex h, and has fought
 unfoldable pub foughtOn : Board → ℕ → ℕ → Bool
-foughtOn b h u = standsOn (scene b) h u && has fought (b .units .marks u)
+foughtOn b h u = standsOn (scene b) h u && has fought (b .units .state .marks u)
 
 -- "target without Enemy, or a unit there has fought"
 unfoldable pub noTarget : Board → ℕ → Bool
-noTarget b target = not (holdsEnemy (scene b) (b .desk .force) target) || any (foughtOn b target) (b .units .count)
+noTarget b target = not (holdsEnemy (scene b) (b .desk .clock .force) target) || any (foughtOn b target) (b .units .count)
 
 -- "type or mark forbids it: .. fought for an attack"
 unfoldable pub cannotAttack : Board → ℕ → Bool
-cannotAttack b u = not (mayAttack (b .units .kind u)) || has fought (b .units .marks u)
+cannotAttack b u = not (mayAttack (b .units .counter .kind u)) || has fought (b .units .state .marks u)
 
 -- "attacker not adjacent over an unblocked side"
 unfoldable pub notBeside : Board → ℕ → ℕ → Bool
-notBeside b target u = not (joined (b .map) (b .units .hex u) target)
+notBeside b target u = not (joined (b .map) (b .units .state .hex u) target)
 
 -- the questions of the unit at place k, with the units named before: "each unit 4, 5, 6, 13"
 unfoldable pub attacker : Board → ℕ → List ℕ → ℕ → ℕ → Verdict → Verdict

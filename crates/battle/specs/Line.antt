@@ -12,7 +12,7 @@ use Rattle.results.specs.Participants.{defenders}
 
 -- "Each strength out of supply at that instant is halved, fractions up, unit by unit.": each by its own nationality, as the call begins
 unfoldable pub strengthOf : Board → ℕ → ℕ → ℕ
-strengthOf b u printed = working b u (supplied (scene b) (b .units .nationality u) (b .units .hex u)) printed
+strengthOf b u printed = working b u (supplied (scene b) (b .units .counter .nationality u) (b .units .state .hex u)) printed
 
 -- "one record for each participant, carries unit, printed strength and fighting strength"
 unfoldable pub fighter : Board → ℕ → ℕ → Fighter

@@ -39,15 +39,15 @@ pub record Prints (p who : List ℕ) (n : ℕ) (printed : List ℕ) : Type 0 whe
 
 -- a participant whose supply can be looked up: of one of the five nationalities, and on the map
 pub record Standing (b : Board) (u : ℕ) : Type 0 where
-  pub nation : b .units .nationality u < 5
-  pub mapped : b .units .hex u < b .map .hexes
+  pub nation : b .units .counter .nationality u < 5
+  pub mapped : b .units .state .hex u < b .map .hexes
 
 abbrev pub AllStanding : Board → List ℕ → ℕ → Type 0
 AllStanding b who n = (i : ℕ) → i < n → Standing b (getD who i 0)
 
 -- the unit at place i is of the nationality
 unfoldable pub nationAt : Board → ℕ → List ℕ → ℕ → Bool
-nationAt b nation who i = eqb (b .units .nationality (getD who i 0)) nation
+nationAt b nation who i = eqb (b .units .counter .nationality (getD who i 0)) nation
 
 -- place i of the array `fighting` holds its unit's fighting strength
 abbrev pub Armed : Board → List ℕ → List ℕ → List ℕ → ℕ → Type 0
@@ -56,8 +56,8 @@ Armed b who printed fighting i = getD fighting i 0 ≡ strengthOf b (getD who i 
 -- the places below n whose units are of the nationality are armed, the others are as they were
 pub record Arms (b : Board) (nation : ℕ) (who : List ℕ) (n : ℕ) (printed before after : List ℕ) : Type 0 where
   pub size : length after ≡ places
-  pub own : (i : ℕ) → i < n → b .units .nationality (getD who i 0) ≡ nation → Armed b who printed after i
-  pub other : (i : ℕ) → i < n → (b .units .nationality (getD who i 0) ≡ nation → ⊥) → getD after i 0 ≡ getD before i 0
+  pub own : (i : ℕ) → i < n → b .units .counter .nationality (getD who i 0) ≡ nation → Armed b who printed after i
+  pub other : (i : ℕ) → i < n → (b .units .counter .nationality (getD who i 0) ≡ nation → ⊥) → getD after i 0 ≡ getD before i 0
 
 -- all places below n are armed
 pub record ArmsAll (b : Board) (who : List ℕ) (n : ℕ) (printed after : List ℕ) : Type 0 where

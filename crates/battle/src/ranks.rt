@@ -72,7 +72,7 @@ pub fn strengths(p: &[u8], v: View, who: &[u16; 21], n: usize, printed: &mut [u8
 
 // What unit `u`, with a printed strength, fights with, as the supply map of its nationality says.
 fn armed(p: &[u8], v: View, u: usize, printed: usize, map: &[u8]) -> usize
-    requires { ⌜ Laid (now p) v × (printed < 256) × Standing (board (now p)) u × (now map ≡ supplyMap (scene (board (now p))) (board (now p) .units .nationality u)) ⌝ }
+    requires { ⌜ Laid (now p) v × (printed < 256) × Standing (board (now p)) u × (now map ≡ supplyMap (scene (board (now p))) (board (now p) .units .counter .nationality u)) ⌝ }
     ensures { λ r. ⌜ Read (strengthOf (board (now (p .entry))) u printed) 256 r ⌝ }
 {
     let h = read::hex(p, v, u);

@@ -108,10 +108,10 @@ module _ (b : Board) (u : ℕ) (s : Bool) (n : ℕ) where
 
 -- a destroyed unit, and one on the map
 module _ (b : Board) (u : ℕ) where
-  pub phasing-destroyed : b .units .hex u ≡ nowhere → notPhasing b u ≡ true
+  pub phasing-destroyed : b .units .state .hex u ≡ nowhere → notPhasing b u ≡ true
   unfolding notPhasing
-  phasing-destroyed e = simp (eq-eqb (b .units .hex u) nowhere e)
+  phasing-destroyed e = simp (eq-eqb (b .units .state .hex u) nowhere e)
 
-  pub phasing-mapped : (b .units .hex u ≡ nowhere → ⊥) → notPhasing b u ≡ not (eqb (forceOf b u) (b .desk .force))
+  pub phasing-mapped : (b .units .state .hex u ≡ nowhere → ⊥) → notPhasing b u ≡ not (eqb (forceOf b u) (b .desk .clock .force))
   unfolding notPhasing
-  phasing-mapped e = simp (ne-eqb (b .units .hex u) nowhere e)
+  phasing-mapped e = simp (ne-eqb (b .units .state .hex u) nowhere e)

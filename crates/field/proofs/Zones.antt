@@ -85,7 +85,7 @@ module _ (s : Scene) (f h u : ℕ) where
   related-off Enemy e = enemy-off e
   related-off Neutral e = simp (stands-off s h u e)
 
-pub related-here : (b : Board) (w : Relation) (f h u : ℕ) → b .units .hex u ≡ h → relatedOn (scene b) w f h u ≡ relates b w f (forceOf b u)
+pub related-here : (b : Board) (w : Relation) (f h u : ℕ) → b .units .state .hex u ≡ h → relatedOn (scene b) w f h u ≡ relates b w f (forceOf b u)
 related-here b Enemy f h u e = enemy-here (scene b) f h u e ∙ ap (enemy b f) (sym (force-in b u))
 related-here b Neutral f h u e = neutral-here (scene b) f h u e ∙ ap (neutral b f) (sym (force-in b u))
 
@@ -210,7 +210,7 @@ same-force b f g e n =
 -- where neither Enemy of unit u nor a neutral force stands, all that stand there are of its force
 pub all-own :
     (b : Board) (u h : ℕ) → holdsEnemy (scene b) (forceOf b u) h ≡ false → holdsNeutral (scene b) (forceOf b u) h ≡ false
-    → (w : ℕ) → w < b .units .count → b .units .hex w ≡ h → forceOf b w ≡ forceOf b u
+    → (w : ℕ) → w < b .units .count → b .units .state .hex w ≡ h → forceOf b w ≡ forceOf b u
 all-own b u h e n w l z =
     let f = forceOf b u in
     same-force b f (forceOf b w) (none Enemy e) (none Neutral n)

@@ -7,4 +7,4 @@ use Rattle.position.specs.Board.{Board, nowhere, forceOf}
 
 -- "unit destroyed or not of the phasing force"
 unfoldable pub notPhasing : Board → ℕ → Bool
-notPhasing b u = eqb (b .units .hex u) nowhere || not (eqb (forceOf b u) (b .desk .force))
+notPhasing b u = eqb (b .units .state .hex u) nowhere || not (eqb (forceOf b u) (b .desk .clock .force))

@@ -20,9 +20,9 @@ scene b =
     record {
       map = b .map;
       count = b .units .count;
-      nationality = b .units .nationality;
-      kind = b .units .kind;
-      hex = b .units .hex;
+      nationality = b .units .counter .nationality;
+      kind = b .units .counter .kind;
+      hex = b .units .state .hex;
       enemy = enemy b;
       neutral = neutral b;
     }

@@ -38,7 +38,7 @@ module _ (b : Board) where
   unfolding restAll
   rest-aside zero = aside-none
   rest-aside (suc n) =
-      let m = rested (b .units .marks n) in
+      let m = rested (b .units .state .marks n) in
       aside-then (restAll b n) (marked n m ∷ []) (rest-aside n) (aside-marked n m)
 
   judge-aside : (n k : ℕ) → Aside (judgeAll b n k)

@@ -41,7 +41,7 @@ use Rattle.position.proofs.Tallies.{both-yes}
 -- board d is board c to zones and supply, and unit w has the same marks
 record Same (c d : Board) (w : ℕ) : Type 0 where
   scenes : scene d ≡ scene c
-  marks : d .units .marks w ≡ c .units .marks w
+  marks : d .units .state .marks w ≡ c .units .state .marks w
 
 same-refl : (c : Board) (w : ℕ) → Same c c w
 same-refl c w = record { scenes = refl; marks = refl }
@@ -53,7 +53,7 @@ same-then {c} xs ys s t =
 same-marked : (c : Board) (u m w : ℕ) → (w ≡ u → ⊥) → Same c (changes c (marked u m ∷ [])) w
 unfolding changes change
 same-marked c u m w n =
-    record { scenes = scene-marks c {x = marked u m} still; marks = upd-else (c .units .count) (c .units .marks) u _ w (λ _ e. n e) }
+    record { scenes = scene-marks c {x = marked u m} still; marks = upd-else (c .units .count) (c .units .state .marks) u _ w (λ _ e. n e) }
 
 module _ (b c : Board) (w : ℕ) where
   -- units from n on are not rested yet
@@ -61,8 +61,8 @@ module _ (b c : Board) (w : ℕ) where
   unfolding restAll changes
   same-rested zero h = same-refl c w
   same-rested (suc n) h =
-      same-then (restAll b n) (marked n (rested (b .units .marks n)) ∷ []) (same-rested n (omega arith))
-      (same-marked (changes c (restAll b n)) n (rested (b .units .marks n)) w (λ e. omega arith))
+      same-then (restAll b n) (marked n (rested (b .units .state .marks n)) ∷ []) (same-rested n (omega arith))
+      (same-marked (changes c (restAll b n)) n (rested (b .units .state .marks n)) w (λ e. omega arith))
 
   same-cond : {d : Board} (t : Bool) (k m : ℕ) → (t ≡ true → w ≡ k → ⊥) → Same d (changes d (cond t (marked k m ∷ []) [])) w
   unfolding changes
@@ -70,16 +70,16 @@ module _ (b c : Board) (w : ℕ) where
   same-cond {d} false k m h = same-refl d w
 
   -- nor are units from k on judged, nor those of other nationalities
-  same-judged : (n k : ℕ) → (w < k → b .units .nationality w ≡ n → ⊥) → Same c (changes c (judgeAll b n k)) w
+  same-judged : (n k : ℕ) → (w < k → b .units .counter .nationality w ≡ n → ⊥) → Same c (changes c (judgeAll b n k)) w
   unfolding judgeAll changes mappedOf
   same-judged n zero h = same-refl c w
   same-judged n (suc k) h =
-      let t = eqb (b .units .nationality k) n in
-      let f = not (eqb (b .units .hex k) nowhere) in
+      let t = eqb (b .units .counter .nationality k) n in
+      let f = not (eqb (b .units .state .hex k) nowhere) in
       same-then (judgeAll b n k) (cond (mappedOf b n k) (marked k (judgedMarks b k) ∷ []) [])
       (same-judged n k (λ l. h (omega arith)))
       (same-cond (mappedOf b n k) k (judgedMarks b k)
-      (λ y e. h (omega arith) (ap (b .units .nationality) e ∙ eqb-true (b .units .nationality k) n (both-yes t f y .0))))
+      (λ y e. h (omega arith) (ap (b .units .counter .nationality) e ∙ eqb-true (b .units .counter .nationality k) n (both-yes t f y .0))))
 
 -- marks stay bytes, and keep the face that they show
 pub rested-byte : (m : ℕ) → m < 256 → rested m < 256
@@ -107,23 +107,23 @@ unfolding faced rested
 faced-rested m = omega (arith, parity-moved (without fought m), parity-fought m)
 
 -- the marks after all units below n are rested
-marks-rested : (b : Board) (n w : ℕ) → n ≤ b .units .count → w < n → changes b (restAll b n) .units .marks w ≡ rested (b .units .marks w)
+marks-rested : (b : Board) (n w : ℕ) → n ≤ b .units .count → w < n → changes b (restAll b n) .units .state .marks w ≡ rested (b .units .state .marks w)
 unfolding restAll changes change
 marks-rested b zero w h l = absurd (omega arith)
 marks-rested b (suc n) w h l =
     let d = changes b (restAll b n) in
-    let m = b .units .marks n in
+    let m = b .units .state .marks n in
     let s = same-rested b b n n (omega arith) in
     let full : d .units .count ≡ b .units .count = ap (λ (x : Scene). x .count) (s .scenes) in
     rw (changes-then (restAll b n) (marked n (rested m) ∷ []) b)
     (same-or w n
     (λ e.
     rw e
-    (upd-there (d .units .count) (d .units .marks) n (faced (d .units .marks n) (rested m)) (omega arith)
+    (upd-there (d .units .count) (d .units .state .marks) n (faced (d .units .state .marks n) (rested m)) (omega arith)
     ∙ ap (λ (x : ℕ). faced x (rested m)) (s .marks)
     ∙ faced-rested m))
     (λ e.
-    upd-else (d .units .count) (d .units .marks) n (faced (d .units .marks n) (rested m)) w (λ _ z. e z)
+    upd-else (d .units .count) (d .units .state .marks) n (faced (d .units .state .marks n) (rested m)) w (λ _ z. e z)
     ∙ marks-rested b n w (omega arith) (omega arith)))
 
 -- unit after unit: the marks that are read are still those that the call began with
@@ -133,13 +133,13 @@ pub rests-next :
 unfolding restAll
 rests-next {p} {q} {r} {m} {x} u h e f g k =
     let b = board p in
-    let z : Layout.marks q u ≡ b .units .marks u =
-    ap (λ (y : Board). y .units .marks u) (ap board e ∙ board-makes h (restAll b u)) ∙ same-rested b b u u (omega arith) .marks
+    let z : Layout.marks q u ≡ b .units .state .marks u =
+    ap (λ (y : Board). y .units .state .marks u) (ap board e ∙ board-makes h (restAll b u)) ∙ same-rested b b u u (omega arith) .marks
     in
     k
     ∙ ap (λ (y : ℕ). make q (marked u y)) (g ∙ ap rested (f ∙ z))
-    ∙ ap (λ (y : List ℕ). make y (marked u (rested (b .units .marks u)))) e
-    ∙ sym (makes-snoc (restAll b u) (marked u (rested (b .units .marks u))) p)
+    ∙ ap (λ (y : List ℕ). make y (marked u (rested (b .units .state .marks u)))) e
+    ∙ sym (makes-snoc (restAll b u) (marked u (rested (b .units .state .marks u))) p)
     ∙ rw (add-one u)
 
 -- all units of a lawful board wait once they are rested and the clock is set
@@ -155,53 +155,53 @@ since-rested {b} l t f ph n =
           λ u h.
           record {
             scenes = z;
-            stands = λ x. standable-on b (b .units .hex u) (l .units .each u h .stand .mapped x .stands);
+            stands = λ x. standable-on b (b .units .state .hex u) (l .units .each u h .stand .mapped x .stands);
             marks = λ _. marks-rested b k u (omega arith) h;
           };
     }
 
 -- unit u, of which the supply map tells
 module _ {b c : Board} {n u : ℕ} (w : Waits b c n u) where
-  abbrev nation : c .units .nationality u ≡ b .units .nationality u
+  abbrev nation : c .units .counter .nationality u ≡ b .units .counter .nationality u
   nation = ap (λ (x : Scene). x .nationality u) (w .scenes)
 
-  abbrev place : c .units .hex u ≡ b .units .hex u
+  abbrev place : c .units .state .hex u ≡ b .units .state .hex u
   place = ap (λ (x : Scene). x .hex u) (w .scenes)
 
   abbrev area : c .map .hexes ≡ b .map .hexes
   area = ap (λ (x : Scene). x .map .hexes) (w .scenes)
 
-  unmapped-other : (c .units .nationality u ≡ n → ⊥) → mappedOf b n u ≡ false
+  unmapped-other : (c .units .counter .nationality u ≡ n → ⊥) → mappedOf b n u ≡ false
   unfolding mappedOf
-  unmapped-other d = simp (ne-eqb (b .units .nationality u) n (λ e. d (nation ∙ e)))
+  unmapped-other d = simp (ne-eqb (b .units .counter .nationality u) n (λ e. d (nation ∙ e)))
 
-  unmapped-off : c .units .nationality u ≡ n → c .map .hexes ≤ c .units .hex u → mappedOf b n u ≡ false
+  unmapped-off : c .units .counter .nationality u ≡ n → c .map .hexes ≤ c .units .state .hex u → mappedOf b n u ≡ false
   unfolding mappedOf
   unmapped-off e l =
-      same-or (b .units .hex u) nowhere
-      (λ z. simp (eq-eqb (b .units .nationality u) n (sym nation ∙ e), eq-eqb (b .units .hex u) nowhere z))
+      same-or (b .units .state .hex u) nowhere
+      (λ z. simp (eq-eqb (b .units .counter .nationality u) n (sym nation ∙ e), eq-eqb (b .units .state .hex u) nowhere z))
       (λ z. absurd (omega (arith, w .stands z, place, area)))
 
-  mapped-on : c .units .nationality u ≡ n → c .map .hexes ≤ 4096 → c .units .hex u < c .map .hexes → mappedOf b n u ≡ true
+  mapped-on : c .units .counter .nationality u ≡ n → c .map .hexes ≤ 4096 → c .units .state .hex u < c .map .hexes → mappedOf b n u ≡ true
   unfolding mappedOf
   mapped-on e m l =
-      let z : b .units .hex u ≡ nowhere → ⊥ = λ g. omega (arith, place) in
-      simp (eq-eqb (b .units .nationality u) n (sym nation ∙ e), ne-eqb (b .units .hex u) nowhere z)
+      let z : b .units .state .hex u ≡ nowhere → ⊥ = λ g. omega (arith, place) in
+      simp (eq-eqb (b .units .counter .nationality u) n (sym nation ∙ e), ne-eqb (b .units .state .hex u) nowhere z)
 
-  told : {map : List ℕ} → map ≡ supplyMap (scene b) n → c .units .hex u < c .map .hexes → mark map (c .units .hex u) ≡ cond (Supply.supplied (scene b) n (b .units .hex u)) 1 0
+  told : {map : List ℕ} → map ≡ supplyMap (scene b) n → c .units .state .hex u < c .map .hexes → mark map (c .units .state .hex u) ≡ cond (Supply.supplied (scene b) n (b .units .state .hex u)) 1 0
   unfolding supplyMap
   told e l =
-      ap (λ (x : List ℕ). mark x (c .units .hex u)) e
-      ∙ tab-at (b .map .hexes) (λ h. cond (Supply.supplied (scene b) n h) 1 0) (c .units .hex u) (omega (arith, area))
+      ap (λ (x : List ℕ). mark x (c .units .state .hex u)) e
+      ∙ tab-at (b .map .hexes) (λ h. cond (Supply.supplied (scene b) n h) 1 0) (c .units .state .hex u) (omega (arith, area))
       ∙ ap (λ (h : ℕ). cond (Supply.supplied (scene b) n h) 1 0) place
 
-  judged-yes : c .units .nationality u ≡ n → Supply.supplied (scene b) n (b .units .hex u) ≡ true → with supplied (c .units .marks u) ≡ judgedMarks b u
+  judged-yes : c .units .counter .nationality u ≡ n → Supply.supplied (scene b) n (b .units .state .hex u) ≡ true → with supplied (c .units .state .marks u) ≡ judgedMarks b u
   unfolding judgedMarks
   judged-yes e t =
       let k = sym nation ∙ e in
       rw (k, t) (ap (with supplied) (w .marks k))
 
-  judged-no : c .units .nationality u ≡ n → Supply.supplied (scene b) n (b .units .hex u) ≡ false → without supplied (c .units .marks u) ≡ judgedMarks b u
+  judged-no : c .units .counter .nationality u ≡ n → Supply.supplied (scene b) n (b .units .state .hex u) ≡ false → without supplied (c .units .state .marks u) ≡ judgedMarks b u
   unfolding judgedMarks
   judged-no e t =
       let k = sym nation ∙ e in
@@ -240,7 +240,7 @@ module _ {p map : List ℕ} {n u : ℕ} where
             judged =
                 λ b w e.
                 taken p u (mapped-on w k (hexes-most h) l)
-                (judged-yes w k (one-true (Supply.supplied (scene b) n (b .units .hex u)) (sym (told w e l) ∙ one)))
+                (judged-yes w k (one-true (Supply.supplied (scene b) n (b .units .state .hex u)) (sym (told w e l) ∙ one)))
                 g;
           }
 
@@ -250,7 +250,7 @@ module _ {p map : List ℕ} {n u : ℕ} where
             judged =
                 λ b w e.
                 taken p u (mapped-on w k (hexes-most h) l)
-                (judged-no w k (not-one (Supply.supplied (scene b) n (b .units .hex u)) (λ z. d (told w e l ∙ z))))
+                (judged-no w k (not-one (Supply.supplied (scene b) n (b .units .state .hex u)) (λ z. d (told w e l ∙ z))))
                 g;
           }
 

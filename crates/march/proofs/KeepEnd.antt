@@ -56,14 +56,14 @@ markings-cond false f s = s
 -- they leave a lawful board, where units stand as before and the desk is the same
 record Marked (c d : Board) : Type 0 where
   lawful : Lawful d
-  hex : d .units .hex ≡ c .units .hex
+  hex : d .units .state .hex ≡ c .units .state .hex
   desk : d .desk ≡ c .desk
 
-all-marked : {b c : Board} {xs : List Change} → Markings b xs → Lawful c → c .units .hex ≡ b .units .hex → Marked c (changes c xs)
+all-marked : {b c : Board} {xs : List Change} → Markings b xs → Lawful c → c .units .state .hex ≡ b .units .state .hex → Marked c (changes c xs)
 unfolding changes change
 all-marked none l e = record { lawful = l; hex = refl; desk = refl }
 all-marked {b} {c} (more {u} {m} k s) l e =
-    let h : c .units .hex u ≡ b .units .hex u = λ i. e i u in
+    let h : c .units .state .hex u ≡ b .units .state .hex u = λ i. e i u in
     let o = lawful-marked l u m (record { marks = k .marks; destroyed = λ z. k .destroyed (sym h ∙ z) }) in
     let r = all-marked s o e in
     record { lawful = r .lawful; hex = r .hex; desk = r .desk }
@@ -88,7 +88,7 @@ module _ {b : Board} (l : Lawful b) where
   rest-marks zero h = none
   rest-marks (suc n) h =
       let o = l .units .each n (omega arith) in
-      let m = b .units .marks n in
+      let m = b .units .state .marks n in
       markings-then (rest-marks n (omega arith))
       (more
       (record {
@@ -100,14 +100,14 @@ module _ {b : Board} (l : Lawful b) where
   judged-small : (u : ℕ) → u < b .units .count → judgedMarks b u < 16
   unfolding judgedMarks
   judged-small u h =
-      supplied-small (Supply.supplied (scene b) (b .units .nationality u) (b .units .hex u)) (rested (b .units .marks u))
-      (rested-small (b .units .marks u) (l .units .each u h .counter .marks))
+      supplied-small (Supply.supplied (scene b) (b .units .counter .nationality u) (b .units .state .hex u)) (rested (b .units .state .marks u))
+      (rested-small (b .units .state .marks u) (l .units .each u h .counter .marks))
 
-  mapped-of : (n u : ℕ) → mappedOf b n u ≡ true → b .units .hex u ≡ nowhere → ⊥
+  mapped-of : (n u : ℕ) → mappedOf b n u ≡ true → b .units .state .hex u ≡ nowhere → ⊥
   unfolding mappedOf
   mapped-of n u e =
-      eqb-false (b .units .hex u) nowhere
-      (not-true (eqb (b .units .hex u) nowhere) (both-yes (eqb (b .units .nationality u) n) (not (eqb (b .units .hex u) nowhere)) e .1))
+      eqb-false (b .units .state .hex u) nowhere
+      (not-true (eqb (b .units .state .hex u) nowhere) (both-yes (eqb (b .units .counter .nationality u) n) (not (eqb (b .units .state .hex u) nowhere)) e .1))
 
   judge-marks : (n k : ℕ) → k ≤ b .units .count → Markings b (judgeAll b n k)
   unfolding judgeAll
@@ -150,7 +150,7 @@ module _ {b : Board} (l : Lawful b) where
       (record { turn = k .turn; late = k .lastTurn .low; force = k .force; phase = k .phase })
       e
 
-  lawful-end : b .desk .stage ≡ 0 → isLast (clock b) (b .desk .lastTurn) ≡ false → Lawful (changes b (endChanges b))
+  lawful-end : b .desk .battle .stage ≡ 0 → isLast (clock b) (b .desk .lastTurn) ≡ false → Lawful (changes b (endChanges b))
   unfolding endChanges changes change
   lawful-end z e =
       let r = all-marked (rest-marks l (b .units .count) (omega arith)) l refl in
@@ -171,12 +171,12 @@ kept-end {p} l a =
     (λ _.
     kept-past a (not (eqb (length l) (b .map .hexes)))
     (λ _.
-    kept-past a (not (eqb (b .desk .stage) 0))
+    kept-past a (not (eqb (b .desk .battle .stage) 0))
     (λ z.
     kept-past a (isLast (clock b) (b .desk .lastTurn))
     (λ e.
     kept-ruled a (endChanges b)
-    (lawful-end (a .lawful) (eqb-true (b .desk .stage) 0 (not-false (eqb (b .desk .stage) 0) z)) e)))))
+    (lawful-end (a .lawful) (eqb-true (b .desk .battle .stage) 0 (not-false (eqb (b .desk .battle .stage) 0) z)) e)))))
 
 pub end-keeps : (p l : List ℕ) → Accepted p → Accepted (outcome p l (endVerdict p (length l)) .position)
 end-keeps p l a = kept-end l a .ok

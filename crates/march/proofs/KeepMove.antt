@@ -47,7 +47,7 @@ use Rattle.ruling.proofs.Kept.{Kept, kept-past, kept-along, kept-ruled}
 -- where a move has come to: a hex to stand on, with none but units of unit u's force
 record Fair (b : Board) (u h : ℕ) : Type 0 where
   stands : standable b h ≡ true
-  own : (w : ℕ) → w < b .units .count → b .units .hex w ≡ h → forceOf b w ≡ forceOf b u
+  own : (w : ℕ) → w < b .units .count → b .units .state .hex w ≡ h → forceOf b w ≡ forceOf b u
 
 module _ (b : Board) where
   -- a hex that the step's questions let through
@@ -56,18 +56,18 @@ module _ (b : Board) where
   step-stands h x e = both-yes (joined (b .map) h x) (standable b x) (not-false (joined (b .map) h x && standable b x) e) .1
 
   -- a board and a unit that the questions before let through
-  quiet : not (mayMoveNow b) ≡ false → b .desk .stage ≡ 0
+  quiet : not (mayMoveNow b) ≡ false → b .desk .battle .stage ≡ 0
   unfolding mayMoveNow
   quiet e =
-      let t = eqb (b .desk .phase) 0 || eqb (b .desk .phase) 2 in
-      let m = not-false (eqb (b .desk .stage) 0 && t) e in
-      eqb-true (b .desk .stage) 0 (both-yes (eqb (b .desk .stage) 0) t m .0)
+      let t = eqb (b .desk .clock .phase) 0 || eqb (b .desk .clock .phase) 2 in
+      let m = not-false (eqb (b .desk .battle .stage) 0 && t) e in
+      eqb-true (b .desk .battle .stage) 0 (both-yes (eqb (b .desk .battle .stage) 0) t m .0)
 
-  mapped : (u : ℕ) → notPhasing b u ≡ false → b .units .hex u ≡ nowhere → ⊥
+  mapped : (u : ℕ) → notPhasing b u ≡ false → b .units .state .hex u ≡ nowhere → ⊥
   unfolding notPhasing
   mapped u e =
-      eqb-false (b .units .hex u) nowhere
-      (neither (eqb (b .units .hex u) nowhere) (not (eqb (forceOf b u) (b .desk .force))) e .0)
+      eqb-false (b .units .state .hex u) nowhere
+      (neither (eqb (b .units .state .hex u) nowhere) (not (eqb (forceOf b u) (b .desk .clock .force))) e .0)
 
 with-moved : (m : ℕ) → m < 16 → with moved m < 16
 unfolding with
@@ -75,7 +75,7 @@ with-moved m l = omega arith
 
 module _ {b : Board} (l : Lawful b) (u : ℕ) (n : u < b .units .count) where
   -- where the unit stands before the first step
-  fair-start : (b .units .hex u ≡ nowhere → ⊥) → Fair b u (b .units .hex u)
+  fair-start : (b .units .state .hex u ≡ nowhere → ⊥) → Fair b u (b .units .state .hex u)
   fair-start m =
       record {
         stands = l .units .each u n .stand .mapped m .stands;
@@ -85,17 +85,17 @@ module _ {b : Board} (l : Lawful b) (u : ℕ) (n : u < b .units .count) where
             (λ z. absurd (l .units .pairs u n w k .two (λ f. z (sym f)) .apart m e));
       }
 
-  lawful-move : (h : ℕ) → Room b u h → b .desk .stage ≡ 0 → Lawful (changes b (moveChanges b u h))
+  lawful-move : (h : ℕ) → Room b u h → b .desk .battle .stage ≡ 0 → Lawful (changes b (moveChanges b u h))
   unfolding changes moveChanges
   lawful-move h r z =
-      lawful-marked (lawful-placed l u h n r (λ e. absurd (omega arith))) u (with moved (b .units .marks u))
+      lawful-marked (lawful-placed l u h n r (λ e. absurd (omega arith))) u (with moved (b .units .state .marks u))
       (record {
-        marks = with-moved (b .units .marks u) (l .units .each u n .counter .marks);
+        marks = with-moved (b .units .state .marks u) (l .units .each u n .counter .marks);
         destroyed = λ e. absurd (r .hex (sym (placed-hex u h n r) ∙ e));
       })
 
 module _ {p l : List ℕ} (a : Accepted p) (u : ℕ) where
-  kept-arrival : (last h : ℕ) → u < board p .units .count → board p .desk .stage ≡ 0 → Fair (board p) u h → Kept p l (arrival (board p) u last h)
+  kept-arrival : (last h : ℕ) → u < board p .units .count → board p .desk .battle .stage ≡ 0 → Fair (board p) u h → Kept p l (arrival (board p) u last h)
   unfolding arrival
   kept-arrival last h n z f =
       kept-past a (leb 3 (others (board p) u h))
@@ -146,7 +146,7 @@ module _ {p l : List ℕ} (a : Accepted p) (u : ℕ) where
       (λ m.
       kept-past a (forbidden b u)
       (λ _.
-      kept-along a (λ (s : Leg). Fair b u (s .at)) kept-step (leg (b .units .hex u) 0)
+      kept-along a (λ (s : Leg). Fair b u (s .at)) kept-step (leg (b .units .state .hex u) 0)
       (fair-start (a .lawful) u n (mapped b u m))
       path
       1

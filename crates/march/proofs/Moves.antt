@@ -31,25 +31,25 @@ module _ (path : List ℕ) where
 
 module _ (b : Board) where
   -- another stage, phase 0, and a later phase
-  pub may-not : (b .desk .stage ≡ 0 → ⊥) → mayMoveNow b ≡ false
+  pub may-not : (b .desk .battle .stage ≡ 0 → ⊥) → mayMoveNow b ≡ false
   unfolding mayMoveNow
-  may-not e = simp (ne-eqb (b .desk .stage) 0 e)
+  may-not e = simp (ne-eqb (b .desk .battle .stage) 0 e)
 
-  pub may-first : b .desk .stage ≡ 0 → b .desk .phase ≡ 0 → mayMoveNow b ≡ true
+  pub may-first : b .desk .battle .stage ≡ 0 → b .desk .clock .phase ≡ 0 → mayMoveNow b ≡ true
   unfolding mayMoveNow
-  may-first e f = simp (eq-eqb (b .desk .stage) 0 e, eq-eqb (b .desk .phase) 0 f)
+  may-first e f = simp (eq-eqb (b .desk .battle .stage) 0 e, eq-eqb (b .desk .clock .phase) 0 f)
 
-  pub may-later : b .desk .stage ≡ 0 → (b .desk .phase ≡ 0 → ⊥) → mayMoveNow b ≡ eqb (b .desk .phase) 2
+  pub may-later : b .desk .battle .stage ≡ 0 → (b .desk .clock .phase ≡ 0 → ⊥) → mayMoveNow b ≡ eqb (b .desk .clock .phase) 2
   unfolding mayMoveNow
-  may-later e f = simp (eq-eqb (b .desk .stage) 0 e, ne-eqb (b .desk .phase) 0 f)
+  may-later e f = simp (eq-eqb (b .desk .battle .stage) 0 e, ne-eqb (b .desk .clock .phase) 0 f)
 
 module _ (b : Board) (u : ℕ) where
   -- the type forbids it, or the mark is asked
-  pub forbidden-type : movesIn (b .desk .phase) (b .units .kind u) ≡ false → forbidden b u ≡ true
+  pub forbidden-type : movesIn (b .desk .clock .phase) (b .units .counter .kind u) ≡ false → forbidden b u ≡ true
   unfolding forbidden
   forbidden-type e = simp e
 
-  pub forbidden-mark : movesIn (b .desk .phase) (b .units .kind u) ≡ true → forbidden b u ≡ has moved (b .units .marks u)
+  pub forbidden-mark : movesIn (b .desk .clock .phase) (b .units .counter .kind u) ≡ true → forbidden b u ≡ has moved (b .units .state .marks u)
   unfolding forbidden
   forbidden-mark e = simp e
 

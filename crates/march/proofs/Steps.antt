@@ -39,7 +39,7 @@ module _ (b : Board) (s : ℕ) where
 -- the working allowance, read by the mark and the allowance
 pub allowed-read :
     (b : Board) (u : ℕ) {s : Bool} {n r : ℕ}
-    → s ≡ has supplied (b .units .marks u) → Read (b .units .allowance u) 256 n → Read (working b u s n) 65536 r
+    → s ≡ has supplied (b .units .state .marks u) → Read (b .units .counter .allowance u) 256 n → Read (working b u s n) 65536 r
     → Read (allowed b u) 256 r
 unfolding allowed
 allowed-read b u {s} {n} e f w =

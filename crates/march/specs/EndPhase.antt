@@ -20,7 +20,7 @@ use Rattle.clock.specs.Clock.{nextClock, isLast, judgesSupply}
 
 -- the clock on the desk
 abbrev pub clock : Board → Clock
-clock b = record { turn = b .desk .turn; force = b .desk .force; phase = b .desk .phase }
+clock b = record { turn = b .desk .clock .turn; force = b .desk .clock .force; phase = b .desk .clock .phase }
 
 -- "clears moved and fought"
 unfoldable pub rested : ℕ → ℕ
@@ -29,18 +29,18 @@ rested m = without moved (without fought m)
 -- "on all units": the units 0 to n - 1, in order
 unfoldable pub restAll : Board → ℕ → List Change
 restAll b zero = []
-restAll b (suc n) = restAll b n ++ (marked n (rested (b .units .marks n)) ∷ [])
+restAll b (suc n) = restAll b n ++ (marked n (rested (b .units .state .marks n)) ∷ [])
 
 -- the marks of unit u after its own nationality's supply is judged: "sets or clears supplied"
 unfoldable pub judgedMarks : Board → ℕ → ℕ
 judgedMarks b u =
-    cond (Supply.supplied (scene b) (b .units .nationality u) (b .units .hex u))
-    (with supplied (rested (b .units .marks u)))
-    (without supplied (rested (b .units .marks u)))
+    cond (Supply.supplied (scene b) (b .units .counter .nationality u) (b .units .state .hex u))
+    (with supplied (rested (b .units .state .marks u)))
+    (without supplied (rested (b .units .state .marks u)))
 
 -- unit u is of nationality n, and on the map
 unfoldable pub mappedOf : Board → ℕ → ℕ → Bool
-mappedOf b n u = eqb (b .units .nationality u) n && not (eqb (b .units .hex u) nowhere)
+mappedOf b n u = eqb (b .units .counter .nationality u) n && not (eqb (b .units .state .hex u) nowhere)
 
 -- the supply of nationality n judged on its mapped units below k, in order
 unfoldable pub judgeAll : Board → ℕ → ℕ → List Change
@@ -67,7 +67,7 @@ endChanges b =
 unfoldable pub endRule : Board → ℕ → Verdict
 endRule b long =
     refuseIf (not (eqb long (b .map .hexes))) 3 0
-    (refuseIf (not (eqb (b .desk .stage) 0)) 2 0
+    (refuseIf (not (eqb (b .desk .battle .stage) 0)) 2 0
     (refuseIf (isLast (clock b) (b .desk .lastTurn)) 16 0
     (judge (rule [] (endChanges b) (replicate (b .map .hexes) 0)))))
 

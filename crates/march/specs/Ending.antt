@@ -25,8 +25,8 @@ pub record ClockOf (b : Board) (c : Clock) : Type 0 where
 -- marks are rested and not judged yet.
 pub record Waits (b b′ : Board) (n u : ℕ) : Type 0 where
   pub scenes : scene b′ ≡ scene b
-  pub stands : (b .units .hex u ≡ nowhere → ⊥) → b .units .hex u < b .map .hexes
-  pub marks : b .units .nationality u ≡ n → b′ .units .marks u ≡ rested (b .units .marks u)
+  pub stands : (b .units .state .hex u ≡ nowhere → ⊥) → b .units .state .hex u < b .map .hexes
+  pub marks : b .units .counter .nationality u ≡ n → b′ .units .state .marks u ≡ rested (b .units .state .marks u)
 
 -- and so do all units
 pub record Since (b b′ : Board) (n : ℕ) : Type 0 where

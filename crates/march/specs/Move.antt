@@ -29,7 +29,7 @@ pathLength path = leb 1 (length path) && leb (length path) 30
 
 -- "wrong stage (move .. 0) or phase (move 0 or 2)"
 unfoldable pub mayMoveNow : Board → Bool
-mayMoveNow b = eqb (b .desk .stage) 0 && (eqb (b .desk .phase) 0 || eqb (b .desk .phase) 2)
+mayMoveNow b = eqb (b .desk .battle .stage) 0 && (eqb (b .desk .clock .phase) 0 || eqb (b .desk .clock .phase) 2)
 
 -- whether the type moves in the phase: "may move by land (all but 5)", "moves in phase 2 (0, 1)"
 unfoldable pub movesIn : ℕ → ℕ → Bool
@@ -37,7 +37,7 @@ movesIn phase kind = movesByLand kind && (not (eqb phase 2) || movesInPhase2 kin
 
 -- "type or mark forbids it: moved for a move"
 unfoldable pub forbidden : Board → ℕ → Bool
-forbidden b u = not (movesIn (b .desk .phase) (b .units .kind u)) || has moved (b .units .marks u)
+forbidden b u = not (movesIn (b .desk .clock .phase) (b .units .counter .kind u)) || has moved (b .units .state .marks u)
 
 -- where a move has come to: the hex, and what it has spent
 pub record Leg : Type 0 where
@@ -51,7 +51,7 @@ unfoldable pub afterStep : Board → Leg → ℕ → Leg
 afterStep b l x = leg x (l .spent + stepCost b (l .at) x)
 
 unfoldable pub allowed : Board → ℕ → ℕ
-allowed b u = working b u (has supplied (b .units .marks u)) (b .units .allowance u)
+allowed b u = working b u (has supplied (b .units .state .marks u)) (b .units .counter .allowance u)
 
 -- "Only the last hex may be in an Enemy zone; a zone at the start is free": a step after the first may not leave one
 unfoldable pub leavesZone : Board → ℕ → Leg → ℕ → Bool
@@ -72,7 +72,7 @@ step b u l x k rest =
 
 -- the questions of every step
 unfoldable pub steps : Board → ℕ → List ℕ → (Leg → Verdict) → Verdict
-steps b u path rest = along (step b u) (afterStep b) (leg (b .units .hex u) 0) path 1 rest
+steps b u path rest = along (step b u) (afterStep b) (leg (b .units .state .hex u) 0) path 1 rest
 
 -- all the questions of a move but 11, and what follows where the path ends: "move 4, 5, each step 9, 7, 8, 10"
 unfoldable pub moveChecks : Board → ℕ → List ℕ → (Leg → Verdict) → Verdict
@@ -86,7 +86,7 @@ moveChecks b u path rest =
 
 -- "Sets moved": the unit's hex and its moved mark, nothing else
 unfoldable pub moveChanges : Board → ℕ → ℕ → List Change
-moveChanges b u h = placed u h ∷ marked u (with moved (b .units .marks u)) ∷ []
+moveChanges b u h = placed u h ∷ marked u (with moved (b .units .state .marks u)) ∷ []
 
 -- "three others already there", "for a move's 11 the last place"; then the move is made
 unfoldable pub arrival : Board → ℕ → ℕ → ℕ → Verdict

@@ -60,7 +60,7 @@ module _ (c : Chart) (s : ℕ) where
 
 -- what an attacker crosses, read
 pub crossed-read :
-    (b : Board) (target u : ℕ) {h d s r : ℕ} → h ≡ b .units .hex u → d ≡ bearing (b .map) h target → s ≡ side (b .map) h d → r ≡ sideMultiple (b .chart) s
+    (b : Board) (target u : ℕ) {h d s r : ℕ} → h ≡ b .units .state .hex u → d ≡ bearing (b .map) h target → s ≡ side (b .map) h d → r ≡ sideMultiple (b .chart) s
     → r ≡ crossed b target u
 unfolding crossed
 crossed-read b target u {h} {d} e f g k =

@@ -10,7 +10,7 @@ use Rattle.position.specs.Ground.{joined}
 
 -- unit u is "adjacent over an unblocked side" to the target
 abbrev pub Adjacent : Board → ℕ → ℕ → Type 0
-Adjacent b target u = joined (b .map) (b .units .hex u) target ≡ true
+Adjacent b target u = joined (b .map) (b .units .state .hex u) target ≡ true
 
 abbrev pub AllAdjacent : Board → ℕ → List ℕ → Type 0
 AllAdjacent b target units = (i : ℕ) → i < length units → Adjacent b target (getD units i 0)

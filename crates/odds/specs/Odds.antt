@@ -21,7 +21,7 @@ sideMultiple c s = cond (eqb s riverSide) (c .multiple river) (cond (eqb s major
 
 -- the multiple that unit u crosses to the target
 unfoldable pub crossed : Board → ℕ → ℕ → ℕ
-crossed b target u = sideMultiple (b .chart) (side (b .map) (b .units .hex u) (bearing (b .map) (b .units .hex u) target))
+crossed b target u = sideMultiple (b .chart) (side (b .map) (b .units .state .hex u) (bearing (b .map) (b .units .state .hex u) target))
 
 -- the smallest of m and the others; and of a list, 0 for none
 unfoldable pub smallestFrom : ℕ → List ℕ → ℕ

@@ -21,18 +21,18 @@ use Rattle.chains.specs.Stand.{apart, firm, bars, stand}
 
 -- a unit elsewhere; one on the hex that does not owe; and one that does, which is of the group if the hex is the group's
 module _ (b : Board) (a h u : ℕ) where
-  pub apart-elsewhere : (b .units .hex u ≡ h → ⊥) → apart b a h u ≡ false
+  pub apart-elsewhere : (b .units .state .hex u ≡ h → ⊥) → apart b a h u ≡ false
   unfolding apart standsOn
-  apart-elsewhere e = simp (ne-eqb (b .units .hex u) h e)
+  apart-elsewhere e = simp (ne-eqb (b .units .state .hex u) h e)
 
-  module _ (e : b .units .hex u ≡ h) where
-    pub apart-stays : (b .units .role u ≡ 1 → ⊥) → apart b a h u ≡ true
+  module _ (e : b .units .state .hex u ≡ h) where
+    pub apart-stays : (b .units .state .role u ≡ 1 → ⊥) → apart b a h u ≡ true
     unfolding apart standsOn owesAt
-    apart-stays r = simp (eq-eqb (b .units .hex u) h e, ne-eqb (b .units .role u) 1 r)
+    apart-stays r = simp (eq-eqb (b .units .state .hex u) h e, ne-eqb (b .units .state .role u) 1 r)
 
-    pub apart-owes : b .units .role u ≡ 1 → apart b a h u ≡ not (eqb h a)
+    pub apart-owes : b .units .state .role u ≡ 1 → apart b a h u ≡ not (eqb h a)
     unfolding apart standsOn owesAt
-    apart-owes r = simp (e, eq-eqb h h refl, eq-eqb (b .units .role u) 1 r)
+    apart-owes r = simp (e, eq-eqb h h refl, eq-eqb (b .units .state .role u) 1 r)
 
 -- a unit of another force, a supply unit, and any other
 module _ (b : Board) (f u : ℕ) where
@@ -41,13 +41,13 @@ module _ (b : Board) (f u : ℕ) where
   firm-other e = simp (ne-eqb (forceOf b u) f e)
 
   module _ (e : forceOf b u ≡ f) where
-    pub firm-supply : b .units .kind u ≡ 5 → firm b f u ≡ true
+    pub firm-supply : b .units .counter .kind u ≡ 5 → firm b f u ≡ true
     unfolding firm
-    firm-supply k = simp (eq-eqb (forceOf b u) f e, eq-eqb (b .units .kind u) 5 k)
+    firm-supply k = simp (eq-eqb (forceOf b u) f e, eq-eqb (b .units .counter .kind u) 5 k)
 
-    pub firm-owes : (b .units .kind u ≡ 5 → ⊥) → firm b f u ≡ eqb (b .units .role u) 1
+    pub firm-owes : (b .units .counter .kind u ≡ 5 → ⊥) → firm b f u ≡ eqb (b .units .state .role u) 1
     unfolding firm
-    firm-owes k = simp (eq-eqb (forceOf b u) f e, ne-eqb (b .units .kind u) 5 k)
+    firm-owes k = simp (eq-eqb (forceOf b u) f e, ne-eqb (b .units .counter .kind u) 5 k)
 
 module _ (b : Board) (f a h u : ℕ) where
   pub bars-not : apart b a h u ≡ false → bars b f a h u ≡ false

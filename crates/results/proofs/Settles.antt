@@ -105,20 +105,20 @@ likened-turned {b} {c} o u x =
     record {
       marks =
           λ w.
-          upd-case (λ m. with fought m / 2 ≡ with fought (b .units .marks w) / 2) (c .units .count) (c .units .marks) u (with tried (c .units .marks u)) w
-          (λ _ e. fought-tried (c .units .marks u) ∙ o .marks u ∙ ap (λ (y : ℕ). with fought (b .units .marks y) / 2) (sym e))
+          upd-case (λ m. with fought m / 2 ≡ with fought (b .units .state .marks w) / 2) (c .units .count) (c .units .state .marks) u (with tried (c .units .state .marks u)) w
+          (λ _ e. fought-tried (c .units .state .marks u) ∙ o .marks u ∙ ap (λ (y : ℕ). with fought (b .units .state .marks y) / 2) (sym e))
           (o .marks w);
     }
 
-likened-fought : {b c : Board} → Likened b c → (u : ℕ) → Likened b (change c (marked u (with fought (b .units .marks u))))
+likened-fought : {b c : Board} → Likened b c → (u : ℕ) → Likened b (change c (marked u (with fought (b .units .state .marks u))))
 unfolding change
 likened-fought {b} {c} o u =
-    let m = b .units .marks u in
+    let m = b .units .state .marks u in
     record {
       marks =
           λ w.
-          upd-case (λ y. with fought y / 2 ≡ with fought (b .units .marks w) / 2) (c .units .count) (c .units .marks) u (faced (c .units .marks u) (with fought m)) w
-          (λ _ e. fought-faced (c .units .marks u) m ∙ ap (λ (y : ℕ). with fought (b .units .marks y) / 2) (sym e))
+          upd-case (λ y. with fought y / 2 ≡ with fought (b .units .state .marks w) / 2) (c .units .count) (c .units .state .marks) u (faced (c .units .state .marks u) (with fought m)) w
+          (λ _ e. fought-faced (c .units .state .marks u) m ∙ ap (λ (y : ℕ). with fought (b .units .state .marks y) / 2) (sym e))
           (o .marks w);
     }
 
@@ -170,9 +170,9 @@ marking-more {p} {us} {q} {r} {v} {i} {u} {m} {x} o l e f g h =
       made =
           λ b k.
           let n = o .made b k in
-          let y : ℕ → Change = λ w. marked w (with fought (b .units .marks w)) in
+          let y : ℕ → Change = λ w. marked w (with fought (b .units .state .marks w)) in
           let z : r ≡ make q (y u) =
-          h ∙ marked-same q u x (with fought (b .units .marks u)) (ap (λ (w : ℕ). w / 2) (g ∙ ap (with fought) f) ∙ n .1 .marks u)
+          h ∙ marked-same q u x (with fought (b .units .state .marks u)) (ap (λ (w : ℕ). w / 2) (g ∙ ap (with fought) f) ∙ n .1 .marks u)
           in (
             z ∙ ap₂ (λ (s : List ℕ) (w : ℕ). make s (y w)) (n .0) e ∙ sym (makes-more y p us i l),
             rw (ap board z ∙ board-make (o .laid .shaped) (y u)) (likened-fought (n .1) u),
@@ -269,7 +269,7 @@ module _ {p us q : List ℕ} {v : View} {i r : ℕ} (s : Shaped p) (o : Routing 
   stays : (u : ℕ) → hex q u ≡ hex p u
   stays u =
       let hs = onceEach [] (map (hex p) (take i us)) in
-      ap (λ (b : Board). b .units .hex u) (ap board (o .made) ∙ board-makes s (routedFrom 0 hs))
+      ap (λ (b : Board). b .units .state .hex u) (ap board (o .made) ∙ board-makes s (routedFrom 0 hs))
       ∙ ap (λ (x : Units). x .hex u) (routed-units (board p) 0 hs)
 
   written : map (hex p) (take (i + 1) us) ≡ map (hex p) (take i us) ++ (hex p (getD us i 0) ∷ [])
@@ -330,7 +330,7 @@ routing-all {p} {us} {i = i} o l = o .made ∙ ap (λ (x : List ℕ). makes p (r
 
 -- the attackers destroyed, the defenders destroyed, and nobody
 module _ (b : Board) (target : ℕ) (units : List ℕ) (o : Upshot) where
-  pub routes-attackers : o .attackers ≡ lost → routesWritten b target units o ≡ onceEach [] (map (b .units .hex) units)
+  pub routes-attackers : o .attackers ≡ lost → routesWritten b target units o ≡ onceEach [] (map (b .units .state .hex) units)
   unfolding routesWritten
   routes-attackers e = simp (eq-eqb (o .attackers) lost e)
 
@@ -354,7 +354,7 @@ fought-scene : (b c : Board) (us : List ℕ) → scene (changes c (foughtBy b us
 unfolding foughtBy changes
 fought-scene b c [] = refl
 fought-scene b c (u ∷ us) =
-    let x = marked u (with fought (b .units .marks u)) in
+    let x = marked u (with fought (b .units .state .marks u)) in
     fought-scene b (change c x) us ∙ scene-marks c {x = x} still
 
 pub laid-then : {p q : List ℕ} {v : View} (xs : List Change) → Laid p v → q ≡ makes p xs → Laid q v

@@ -38,7 +38,7 @@ needOf o attack defence = cond (eqb (o .stage) 2) (cond (eqb (o .attackers) lost
 
 -- "All participants turn over and get fought."
 unfoldable pub foughtBy : Board → List ℕ → List Change
-foughtBy b us = map (λ u. marked u (with fought (b .units .marks u))) us
+foughtBy b us = map (λ u. marked u (with fought (b .units .state .marks u))) us
 
 -- what becomes of unit u of a side
 unfoldable pub suffers : ℕ → ℕ → Change
@@ -58,7 +58,7 @@ onceEach seen (x ∷ xs) = onceEach (addOnce seen x) xs
 -- "A side destroyed by the result writes its hex alone as a route (attackers' hexes in list order, once each, even if others remain there)"
 unfoldable pub routesWritten : Board → ℕ → List ℕ → Upshot → List ℕ
 routesWritten b target units o =
-    cond (eqb (o .attackers) lost) (onceEach [] (map (b .units .hex) units)) (cond (eqb (o .defenders) lost) (target ∷ []) [])
+    cond (eqb (o .attackers) lost) (onceEach [] (map (b .units .state .hex) units)) (cond (eqb (o .defenders) lost) (target ∷ []) [])
 
 -- route r and the next are these hexes, each alone
 unfoldable pub routedFrom : ℕ → List ℕ → List Change

@@ -13,7 +13,7 @@ use Rattle.results.specs.Results.{foughtBy}
 
 -- board c has the marks of board b, but for tried and fought
 pub record Likened (b c : Board) : Type 0 where
-  pub marks : (u : ℕ) → with fought (c .units .marks u) / 2 ≡ with fought (b .units .marks u) / 2
+  pub marks : (u : ℕ) → with fought (c .units .state .marks u) / 2 ≡ with fought (b .units .state .marks u) / 2
 
 -- the units us get fought, by the marks that they had on a board b that this call began with
 pub record MarksAll (p us q : List ℕ) : Type 0 where

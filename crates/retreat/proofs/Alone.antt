@@ -49,11 +49,11 @@ module _ (b : Board) (f start x : ℕ) (other : x ≡ start → ⊥) (l : IsLoos
   no-depot =
       any-never (supplyUnitOn (scene b) f x) (b .units .count)
       (λ w c.
-      same-or (b .units .hex w) x
+      same-or (b .units .state .hex w) x
       (λ e.
       let k = light-is b f w (l .light w c (apart-here b start x w other e)) .kind in
       either (eqb (forceIn (scene b) w) f)
-      (λ z. simp (stands-here (scene b) x w e, z, ne-eqb (b .units .kind w) supplyKind k))
+      (λ z. simp (stands-here (scene b) x w e, z, ne-eqb (b .units .counter .kind w) supplyKind k))
       (λ z. simp (stands-here (scene b) x w e, z)))
       (λ e. simp (stands-off (scene b) x w e)))
 
@@ -104,6 +104,6 @@ module _ (b : Board) (f start : ℕ) (nobody : Nobody b f start) where
 
 -- the group has no series of pushes then
 pub alone-series :
-    (b : Board) (h : ℕ) → b .desk .owed ≤ 3 → Nobody b (groupForce b h) h → hasRoute b h ≡ false → hasSeries b h ≡ false
+    (b : Board) (h : ℕ) → b .desk .battle .owed ≤ 3 → Nobody b (groupForce b h) h → hasRoute b h ≡ false → hasSeries b h ≡ false
 unfolding hasRoute hasSeries
-alone-series b h l n e = alone-none b (groupForce b h) h n (b .desk .owed) l e
+alone-series b h l n e = alone-none b (groupForce b h) h n (b .desk .battle .owed) l e

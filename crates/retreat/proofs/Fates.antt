@@ -71,10 +71,10 @@ module _ (b : Board) (h : ℕ) (route : List ℕ) where
 -- the fate of a group, as the tests come one after another
 module _ (b : Board) (h : ℕ) (route pushes : List ℕ) where
   abbrev pub fits : Bool
-  fits = legal b (groupForce b h) h (b .desk .owed) route && none pushes
+  fits = legal b (groupForce b h) h (b .desk .battle .owed) route && none pushes
 
   abbrev pub serves : Bool
-  serves = legalPushes b (groupForce b h) h (b .desk .owed) route pushes
+  serves = legalPushes b (groupForce b h) h (b .desk .battle .owed) route pushes
 
   abbrev pub parts : Bool
   parts = isPart b h route && none pushes
@@ -130,11 +130,11 @@ module _ (b : Board) (h : ℕ) (route pushes : List ℕ) where
     pub fate-served :
         hasRoute b h ≡ false
         → servedFate (lostFate (partRoute b (groupForce b h) h route) pushes)
-        (served b (groupForce b h) h (b .desk .owed) route pushes)
+        (served b (groupForce b h) h (b .desk .battle .owed) route pushes)
         ≡ fateOf b h route pushes
     unfolding served hasSeries
     fate-served r =
-        either (pushesServe b (groupForce b h) h (b .desk .owed))
+        either (pushesServe b (groupForce b h) h (b .desk .battle .owed))
         (λ s.
         either serves
         (λ f. simp (s, f) (sym (fate-pushing (spared-series b h w s) r f)))
@@ -144,13 +144,13 @@ module _ (b : Board) (h : ℕ) (route pushes : List ℕ) where
     -- where one does
     module _ (r : hasRoute b h ≡ true) where
       pub fate-legal :
-          legal b (groupForce b h) h (b .desk .owed) route ≡ true → cond (none pushes) Vacant NoRoute ≡ fateOf b h route pushes
+          legal b (groupForce b h) h (b .desk .battle .owed) route ≡ true → cond (none pushes) Vacant NoRoute ≡ fateOf b h route pushes
       fate-legal f =
           either (none pushes)
           (λ e. simp e (sym (fate-vacant (spared-route b h w r) r (simp (f, e)))))
           (λ e. simp e (sym (fate-no-route (spared-route b h w r) r (simp (f, e)))))
 
-      pub fate-illegal : legal b (groupForce b h) h (b .desk .owed) route ≡ false → NoRoute ≡ fateOf b h route pushes
+      pub fate-illegal : legal b (groupForce b h) h (b .desk .battle .owed) route ≡ false → NoRoute ≡ fateOf b h route pushes
       fate-illegal f = sym (fate-no-route (spared-route b h w r) r (simp f))
 
 -- what a fate says of the tests of 14 and 17, and of what follows them

@@ -39,7 +39,7 @@ module _ (b : Board) (h u : ℕ) where
   unfolding walksFrom
   walks-not e = simp e
 
-  pub walks-kind : owesAt b h u ≡ true → walksFrom b h u ≡ not (eqb (b .units .kind u) 5)
+  pub walks-kind : owesAt b h u ≡ true → walksFrom b h u ≡ not (eqb (b .units .counter .kind u) 5)
   unfolding walksFrom
   walks-kind e = simp e
 
@@ -96,20 +96,20 @@ outlook-opens b f h n route (Alone run) o = o .0
 
 -- what is asked of a vacant route
 pub none-found :
-    (b : Board) (h : ℕ) → hasRoute b h ≡ false → found (firstRoute b (groupForce b h) h (b .desk .owed)) ≡ false
+    (b : Board) (h : ℕ) → hasRoute b h ≡ false → found (firstRoute b (groupForce b h) h (b .desk .battle .owed)) ≡ false
 unfolding hasRoute
 none-found b h e = e
 
 -- and what each outlook says of the group
 module _ (b : Board) (h : ℕ) (route : List ℕ) where
   abbrev Says : Outlook → Type 0
-  Says r = OutlookOf b (groupForce b h) h (b .desk .owed) route r
+  Says r = OutlookOf b (groupForce b h) h (b .desk .battle .owed) route r
 
-  pub told-legal : Says Legal → (hasRoute b h ≡ true) × (legal b (groupForce b h) h (b .desk .owed) route ≡ true)
+  pub told-legal : Says Legal → (hasRoute b h ≡ true) × (legal b (groupForce b h) h (b .desk .battle .owed) route ≡ true)
   unfolding hasRoute
   told-legal o = o
 
-  pub told-illegal : Says Illegal → (hasRoute b h ≡ true) × (legal b (groupForce b h) h (b .desk .owed) route ≡ false)
+  pub told-illegal : Says Illegal → (hasRoute b h ≡ true) × (legal b (groupForce b h) h (b .desk .battle .owed) route ≡ false)
   unfolding hasRoute
   told-illegal o = o
 
@@ -124,8 +124,8 @@ module _ (b : Board) (h : ℕ) (route : List ℕ) where
 
 -- and what comes of pushes, of them
 pub served-as :
-    (b : Board) (h : ℕ) (route pushes : List ℕ) {f n : ℕ} {y : Served} → f ≡ groupForce b h → n ≡ b .desk .owed
-    → y ≡ served b f h n route pushes → y ≡ served b (groupForce b h) h (b .desk .owed) route pushes
+    (b : Board) (h : ℕ) (route pushes : List ℕ) {f n : ℕ} {y : Served} → f ≡ groupForce b h → n ≡ b .desk .battle .owed
+    → y ≡ served b f h n route pushes → y ≡ served b (groupForce b h) h (b .desk .battle .owed) route pushes
 served-as b h route pushes ef en ey = ey ∙ ap₂ (λ (f n : ℕ). served b f h n route pushes) ef en
 
 -- the questions of the group, in their order
@@ -159,24 +159,24 @@ module _ (p : List ℕ) (b : Board) (h : ℕ) (route pushes : List ℕ) where
           stops-pushes s l v = numbers (o l _ _ _ _ (s l _))
 
           module _ (i : Passes p (onMapFrom b pushes (length route + 1))) where
-            pub stops-stage : (b .desk .stage ≡ 1 → ⊥) → Stops p (groupChecks b h route pushes) 2 0
-            stops-stage e l v = numbers (o l _ _ _ _ (i l _ _ _ _ (stop (ap not (ne-eqb (b .desk .stage) 1 e)))))
+            pub stops-stage : (b .desk .battle .stage ≡ 1 → ⊥) → Stops p (groupChecks b h route pushes) 2 0
+            stops-stage e l v = numbers (o l _ _ _ _ (i l _ _ _ _ (stop (ap not (ne-eqb (b .desk .battle .stage) 1 e)))))
 
-            module _ (e : b .desk .stage ≡ 1) where
+            module _ (e : b .desk .battle .stage ≡ 1) where
               pub stops-role : any (owesAt b h) (b .units .count) ≡ false → Stops p (groupChecks b h route pushes) 4 0
               stops-role f l v =
-                  numbers (o l _ _ _ _ (i l _ _ _ _ (pass (ap not (eq-eqb (b .desk .stage) 1 e)) (stop (ap not f)))))
+                  numbers (o l _ _ _ _ (i l _ _ _ _ (pass (ap not (eq-eqb (b .desk .battle .stage) 1 e)) (stop (ap not f)))))
 
               pub passes-group :
                   any (owesAt b h) (b .units .count) ≡ true → Passes p (groupChecks b h route pushes) × Owing b h
               passes-group f = (
                 λ l v a q x w.
-                    numbers (o l _ a q x (i l _ a q x (pass (ap not (eq-eqb (b .desk .stage) 1 e)) (pass (ap not f) w)))),
+                    numbers (o l _ a q x (i l _ a q x (pass (ap not (eq-eqb (b .desk .battle .stage) 1 e)) (pass (ap not f) w)))),
                 record { there = k; now = e },
               )
 
 -- "Stage 1: n is 1..3", and a hex is a 16-bit number
-pub owed-of : {p : List ℕ} {h : ℕ} → Accepted p → Owing (board p) h → In 1 (board p .desk .owed) 3
+pub owed-of : {p : List ℕ} {h : ℕ} → Accepted p → Owing (board p) h → In 1 (board p .desk .battle .owed) 3
 owed-of a o = a .lawful .stage .during .retreats (o .now) .owed
 
 pub small-hex : {p : List ℕ} {v : View} {h : ℕ} → Laid p v → Owing (board p) h → h < 65536

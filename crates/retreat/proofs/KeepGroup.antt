@@ -68,7 +68,7 @@ module _ {o b : Board} (s : Since o b) (most : o .map .hexes ≤ nowhere) (h : �
       (stands : standable b x ≡ true)
       (v : vacant (scene b) x ≡ true) where
     abbrev supply : ℕ → Bool
-    supply u = eqb (d .units .kind u) supplyKind
+    supply u = eqb (d .units .counter .kind u) supplyKind
 
     goes : Goes x supply true (leaves d x)
     unfolding leaves
@@ -100,23 +100,23 @@ module _ {o b : Board} (s : Since o b) (most : o .map .hexes ≤ nowhere) (h : �
 module _ {o b c : Board} {h : ℕ} (x : Left o b h c) (u : ℕ) (m : Owes b h u) where
   pub left-holders : holders c 1 < holders b 1
   left-holders =
-      let t = equals (b .units .role) 1 in
-      let s = equals (c .units .role) 1 in
+      let t = equals (b .units .state .role) 1 in
+      let s = equals (c .units .state .role) 1 in
       let n = b .units .count in
-      let k = tally-but-hit t u n (m .0) (equals-yes (b .units .role) 1 u (owes-role b u h (m .1))) in
+      let k = tally-but-hit t u n (m .0) (equals-yes (b .units .state .role) 1 u (owes-role b u h (m .1))) in
       let i =
       tally-le s (but t u) n
       (λ w l e.
-      let r = equals-is (c .units .role) 1 w e in
+      let r = equals-is (c .units .state .role) 1 w e in
       either (owesAt b h w)
       (λ q. absurd (omega (arith, x .gone w l q)))
       (λ q.
       but-other t u w (λ z. not-both (owesAt b h u) (m .1) (ap (owesAt b h) (sym z) ∙ q))
-      ∙ equals-yes (b .units .role) 1 w (sym (x .roles w l q) ∙ r)))
+      ∙ equals-yes (b .units .state .role) 1 w (sym (x .roles w l q) ∙ r)))
       in
       omega (arith, holders-is b 1, holders-is c 1, ap (tally s) (x .fixed .count))
 
-  not-owes : (w : ℕ) → (b .units .hex w ≡ h → ⊥) → owesAt b h w ≡ false
+  not-owes : (w : ℕ) → (b .units .state .hex w ≡ h → ⊥) → owesAt b h w ≡ false
   not-owes w f = either (owesAt b h w) (λ q. absurd (f (owes-hex b w h q))) (λ q. q)
 
   pub left-owing : owingHexes c + 1 ≤ owingHexes b
@@ -129,7 +129,7 @@ module _ {o b c : Board} {h : ℕ} (x : Left o b h c) (u : ℕ) (m : Owes b h u)
       either (owesAt b h w)
       (λ q. absurd (omega (arith, x .gone w n q)))
       (λ q.
-      let r : b .units .role w ≡ 1 = sym (x .roles w n q) ∙ e in
+      let r : b .units .state .role w ≡ 1 = sym (x .roles w n q) ∙ e in
       (r, x .still w n q r, λ z. not-both (owesAt b h w) (owes b w h r z) q)))
       u
       (m .0)

@@ -81,7 +81,7 @@ module _ (b : Board) (h x y z : ℕ) where
   abbrev noted : Board
   noted = change b (routed (routes b) h x y z)
 
-  noted-stage : (noted .desk .stage ≡ b .desk .stage) × (noted .desk .owed ≡ b .desk .owed) × (noted .desk .need ≡ b .desk .need)
+  noted-stage : (noted .desk .battle .stage ≡ b .desk .battle .stage) × (noted .desk .battle .owed ≡ b .desk .battle .owed) × (noted .desk .battle .need ≡ b .desk .battle .need)
   unfolding change
   noted-stage = (refl, refl, refl)
 
@@ -122,8 +122,8 @@ routes-desk b c e = ap (λ (d : Desk). tally (λ r. not (eqb (d .route r 0) nowh
 holds-some : (b : Board) → (holders b 1 ≡ 0 → ⊥) → 1 ≤ owingHexes b
 unfolding holders
 holds-some b n =
-    let s = tally-some (λ u. eqb (b .units .role u) 1) (b .units .count) (omega arith) in
-    owing-some b (s .at) (s .below) (eqb-true (b .units .role (s .at)) 1 (s .passes))
+    let s = tally-some (λ u. eqb (b .units .state .role u) 1) (b .units .count) (omega arith) in
+    owing-some b (s .at) (s .below) (eqb-true (b .units .state .role (s .at)) 1 (s .passes))
 
 -- a retreat starts at no distance
 far-start : (b : Board) (h : ℕ) → landOf b h .far h ≡ 0
@@ -133,10 +133,10 @@ far-start b h = same-zero (b .map .width) h
 -- board c since board b, the retreats not over and fewer units owing
 pub record Lighter (b c : Board) : Type 0 where
   pub since : Since b c
-  pub stage : c .desk .stage ≡ 1
+  pub stage : c .desk .battle .stage ≡ 1
   pub fewer : holders c 1 < holders b 1
 
-module _ {b : Board} (l : Lawful b) (most : b .map .hexes ≤ nowhere) (e : b .desk .stage ≡ 1) (h u : ℕ) (m : Owes b h u) where
+module _ {b : Board} (l : Lawful b) (most : b .map .hexes ≤ nowhere) (e : b .desk .battle .stage ≡ 1) (h u : ℕ) (m : Owes b h u) where
   stands : standable b h ≡ true
   stands = start-stands l h u m
 
@@ -155,7 +155,7 @@ module _ {b : Board} (l : Lawful b) (most : b .map .hexes ≤ nowhere) (e : b .d
         ∙ routes-more b (routes b) h x y z (routes-room l e) real
         (routes-empty (l .routes) (routes b) (omega arith) (routes-room l e))
 
-    as-before : (c .desk .stage ≡ 1) × (c .desk .owed ≡ b .desk .owed) × (c .desk .need ≡ 0)
+    as-before : (c .desk .battle .stage ≡ 1) × (c .desk .battle .owed ≡ b .desk .battle .owed) × (c .desk .battle .need ≡ 0)
     as-before =
         let k = noted-stage b h x y z in (
           ap (λ (d : Desk). d .stage) (o .desk) ∙ k .0 ∙ e,
@@ -199,7 +199,7 @@ module _ {b : Board} (l : Lawful b) (most : b .map .hexes ≤ nowhere) (e : b .d
         rw (sym (noted-group b h x y z)) (doomed-left (since-written l most e h x y z stands (k 0) (k 1) (k 2)) most h)
 
   -- it goes along a vacant route
-  module _ (f : ℕ) (route : List ℕ) (r : LegalRoute b f h (b .desk .owed) route) where
+  module _ (f : ℕ) (route : List ℕ) (r : LegalRoute b f h (b .desk .battle .owed) route) where
     off : Left b (noted b h (getD route 0 nowhere) (getD route 1 nowhere) (getD route 2 nowhere)) h (changes b (retreatChanges b h route))
     unfolding retreatChanges noteOf changes endOf
     off =
@@ -208,7 +208,7 @@ module _ {b : Board} (l : Lawful b) (most : b .map .hexes ≤ nowhere) (e : b .d
         let z = getD route 2 nowhere in
         let k = run-follows most real (r .run) in
         let w = l .stage .during .retreats e .owed in
-        let i = b .desk .owed - 1 in
+        let i = b .desk .battle .owed - 1 in
         let v = run-refuge most (r .run) i (omega (arith, r .long, w .low)) in
         let end = getD route i nowhere in
         rw (sym (noted-group b h x y z))
@@ -217,7 +217,7 @@ module _ {b : Board} (l : Lawful b) (most : b .map .hexes ≤ nowhere) (e : b .d
         (noted-vacant b h x y z end ∙ refuge-vacant b f end v))
 
   -- or pushes
-  module _ (f : ℕ) (own : OwnGroup b f h) (route pushes : List ℕ) (r : LegalSeries b f h (b .desk .owed) route pushes) where
+  module _ (f : ℕ) (own : OwnGroup b f h) (route pushes : List ℕ) (r : LegalSeries b f h (b .desk .battle .owed) route pushes) where
     pushed :
         Left b (noted b h (getD route 0 nowhere) (getD route 1 nowhere) (getD route 2 nowhere)) h (changes b (pushChanges b h route pushes))
     unfolding pushChanges noteOf changes
@@ -244,20 +244,20 @@ module _ {b : Board} (l : Lawful b) (most : b .map .hexes ≤ nowhere) (e : b .d
       (λ w. rw (none-nil route (sym (part-supply b h route w) ∙ z)) (h, stay))
 
   is-legal : (route pushes : List ℕ) → notVacant b h route pushes ≡ false → doomed b h ≡ false → hasRoute b h ≡ true
-      → LegalRoute b (groupForce b h) h (b .desk .owed) route
+      → LegalRoute b (groupForce b h) h (b .desk .battle .owed) route
   unfolding notVacant
   is-legal route pushes n d s =
-      let t = legal b (groupForce b h) h (b .desk .owed) route in
+      let t = legal b (groupForce b h) h (b .desk .battle .owed) route in
       let q : not (t && none pushes) ≡ false = simp (d, s) at n in
-      legal-right b (groupForce b h) h (b .desk .owed) route .0 (both-yes t (none pushes) (not-false (t && none pushes) q) .0)
+      legal-right b (groupForce b h) h (b .desk .battle .owed) route .0 (both-yes t (none pushes) (not-false (t && none pushes) q) .0)
 
   is-pushed : (route pushes : List ℕ) → notPushed b h route pushes ≡ false → doomed b h ≡ false → hasRoute b h ≡ false
-      → LegalSeries b (groupForce b h) h (b .desk .owed) route pushes
+      → LegalSeries b (groupForce b h) h (b .desk .battle .owed) route pushes
   unfolding notPushed
   is-pushed route pushes n d s =
-      let t = legalPushes b (groupForce b h) h (b .desk .owed) route pushes in
+      let t = legalPushes b (groupForce b h) h (b .desk .battle .owed) route pushes in
       let q : not t ≡ false = simp (d, s) at n in
-      legal-pushes-right b (groupForce b h) h (b .desk .owed) route pushes .0 (not-false t q)
+      legal-pushes-right b (groupForce b h) h (b .desk .battle .owed) route pushes .0 (not-false t q)
 
   module _ (route pushes : List ℕ) (part14 : notPart b h route pushes ≡ false) (vacant14 : notVacant b h route pushes ≡ false) (pushed17 : notPushed b h route pushes ≡ false) where
     abbrev first : ℕ
@@ -314,7 +314,7 @@ module _ {p : List ℕ} (a : Accepted p) (h : ℕ) (route pushes : List ℕ) whe
       (λ _ _.
       kept-along a (λ _. Unit {0}) (λ s x k v _ f. kept-past a (leb (b .map .hexes) x) (λ _. f tt)) 0 tt pushes (length route + 1) _
       (λ _ _.
-      kept-past a (not (eqb (b .desk .stage) 1))
+      kept-past a (not (eqb (b .desk .battle .stage) 1))
       (λ e.
       kept-past a (not (any (owesAt b h) (b .units .count)))
       (λ f.
@@ -327,7 +327,7 @@ module _ {p : List ℕ} (a : Accepted p) (h : ℕ) (route pushes : List ℕ) whe
       let s = any-some (owesAt b h) (b .units .count) (not-false (any (owesAt b h) (b .units .count)) f) in
       kept-ruled a (thenOn b (leaveChanges b h route pushes))
       (lawful-retreat (a .lawful) (omega (arith, hexes-most (a .shaped)))
-      (eqb-true (b .desk .stage) 1 (not-false (eqb (b .desk .stage) 1) e))
+      (eqb-true (b .desk .battle .stage) 1 (not-false (eqb (b .desk .battle .stage) 1) e))
       h
       (s .at)
       (s .below, s .passes)

@@ -53,27 +53,27 @@ own-leaves c end =
     record {
       off =
           λ b u w n.
-          either (eqb (c .units .kind u) 5)
+          either (eqb (c .units .counter .kind u) 5)
           (λ e. rw e (destroyed-else b u w n))
           (λ e. rw e (same-trans (placed-else b u end w n) (assigned-else (change b (placed u end)) u 0 w n)));
     }
 
-pub leaves-same : (b c : Board) (end u : ℕ) → c .units .kind ≡ b .units .kind → leaves c end u ≡ leaves b end u
+pub leaves-same : (b c : Board) (end u : ℕ) → c .units .counter .kind ≡ b .units .counter .kind → leaves c end u ≡ leaves b end u
 unfolding leaves
 leaves-same b c end u e =
     ap (λ (k : ℕ → ℕ). cond (eqb (k u) 5) (destroyed u ∷ []) (placed u end ∷ assigned u 0 ∷ [])) e
 
 -- a supply unit, and one that goes
 module _ (p : List ℕ) (end u : ℕ) where
-  pub leave-supply : {q : List ℕ} → board p .units .kind u ≡ 5 → q ≡ make p (destroyed u) → q ≡ makes p (leaves (board p) end u)
+  pub leave-supply : {q : List ℕ} → board p .units .counter .kind u ≡ 5 → q ≡ make p (destroyed u) → q ≡ makes p (leaves (board p) end u)
   unfolding leaves makes
-  leave-supply e f = simp (eq-eqb (board p .units .kind u) 5 e) f
+  leave-supply e f = simp (eq-eqb (board p .units .counter .kind u) 5 e) f
 
   pub leave-walks :
-      {q r : List ℕ} → (board p .units .kind u ≡ 5 → ⊥) → q ≡ make p (placed u end) → r ≡ make q (assigned u 0)
+      {q r : List ℕ} → (board p .units .counter .kind u ≡ 5 → ⊥) → q ≡ make p (placed u end) → r ≡ make q (assigned u 0)
       → r ≡ makes p (leaves (board p) end u)
   unfolding leaves makes
-  leave-walks n e f = simp (ne-eqb (board p .units .kind u) 5 n) (f ∙ ap (λ (l : List ℕ). make l (assigned u 0)) e)
+  leave-walks n e f = simp (ne-eqb (board p .units .counter .kind u) 5 n) (f ∙ ap (λ (l : List ℕ). make l (assigned u 0)) e)
 
 pub falls-made : (p : List ℕ) (u : ℕ) {q : List ℕ} → q ≡ make p (destroyed u) → q ≡ makes p (falls u)
 unfolding makes
@@ -166,6 +166,6 @@ fallen {p} s h route e f =
 
 -- where the route ends, of the numbers as they were read
 pub ends :
-    (b : Board) (route : List ℕ) {n end : ℕ} → n ≡ b .desk .owed → end ≡ getD route (n - 1) nowhere → end ≡ endOf b route
+    (b : Board) (route : List ℕ) {n end : ℕ} → n ≡ b .desk .battle .owed → end ≡ getD route (n - 1) nowhere → end ≡ endOf b route
 unfolding endOf
 ends b route en e = e ∙ ap (λ (n : ℕ). getD route (n - 1) nowhere) en

@@ -56,10 +56,10 @@ module _ {p : List ℕ} {h : ℕ} {route pushes : List ℕ} (d : Due p h route p
       ∙ four h route j l
 
   -- and when the stage has passed on, unless it is quiet
-  passed : (changes fallen (passesOn fallen) .desk .stage ≡ 0 → ⊥) → Shown (routes (board p)) h route (changes fallen (passesOn fallen))
+  passed : (changes fallen (passesOn fallen) .desk .battle .stage ≡ 0 → ⊥) → Shown (routes (board p)) h route (changes fallen (passesOn fallen))
   unfolding change
   passed =
-      passed-by (λ c. (c .desk .stage ≡ 0 → ⊥) → Shown (routes (board p)) h route c) fallen
+      passed-by (λ c. (c .desk .battle .stage ≡ 0 → ⊥) → Shown (routes (board p)) h route c) fallen
       (λ _ _ n. absurd (n refl))
       (λ _ _ _. shown)
       (λ _ _. shown)
@@ -82,5 +82,5 @@ road-right p h route pushes d a n =
     record {
       longest = q .1;
       written = λ j l.
-          ap (λ (c : Board). c .desk .route (routes b) j) e ∙ passed d g (λ z. n (ap (λ (c : Board). c .desk .stage) e ∙ z)) j l;
+          ap (λ (c : Board). c .desk .route (routes b) j) e ∙ passed d g (λ z. n (ap (λ (c : Board). c .desk .battle .stage) e ∙ z)) j l;
     }

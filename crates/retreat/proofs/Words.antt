@@ -84,14 +84,14 @@ module _ (b : Board) (h : ℕ) where
   only-supply : any (walksFrom b h) (b .units .count) ≡ false → OnlySupply b h
   only-supply e u l o =
       let z = any-false (walksFrom b h) (b .units .count) u e l in
-      eqb-true (b .units .kind u) 5 (not-false (eqb (b .units .kind u) 5) (sym (walks-kind b h u o) ∙ z))
+      eqb-true (b .units .counter .kind u) 5 (not-false (eqb (b .units .counter .kind u) 5) (sym (walks-kind b h u o) ∙ z))
 
   none-walks : OnlySupply b h → any (walksFrom b h) (b .units .count) ≡ false
   none-walks s =
       any-never (walksFrom b h) (b .units .count)
       (λ u l.
       either (owesAt b h u)
-      (λ e. walks-kind b h u e ∙ ap not (eq-eqb (b .units .kind u) 5 (s u l e)))
+      (λ e. walks-kind b h u e ∙ ap not (eq-eqb (b .units .counter .kind u) 5 (s u l e)))
       (λ e. walks-not b h u e))
 
   walks : (OnlySupply b h → ⊥) → any (walksFrom b h) (b .units .count) ≡ true
@@ -99,11 +99,11 @@ module _ (b : Board) (h : ℕ) where
 
   pub route-right : (hasRoute b h ≡ true) ↔ Vacant b h
   unfolding hasRoute
-  route-right = found-right b (groupForce b h) h (b .desk .owed)
+  route-right = found-right b (groupForce b h) h (b .desk .battle .owed)
 
   pub series-right : (hasSeries b h ≡ true) ↔ Pushed b h
   unfolding hasSeries
-  series-right = serves-right b (groupForce b h) h (b .desk .owed)
+  series-right = serves-right b (groupForce b h) h (b .desk .battle .owed)
 
 -- a test that is true exactly of P fails exactly where P does not hold
 fails : {P : Type 0} (t : Bool) → (t ≡ true) ↔ P → (t ≡ false) ↔ (P → ⊥)
@@ -170,7 +170,7 @@ with-none t pushes r = (
 
 fits-right : (b : Board) (h : ℕ) (route pushes : List ℕ) → (fits b h route pushes ≡ true) ↔ LegalFor b h route × (pushes ≡ [])
 fits-right b h route pushes =
-    with-none (legal b (groupForce b h) h (b .desk .owed) route) pushes (legal-right b (groupForce b h) h (b .desk .owed) route)
+    with-none (legal b (groupForce b h) h (b .desk .battle .owed) route) pushes (legal-right b (groupForce b h) h (b .desk .battle .owed) route)
 
 part-for : (b : Board) (h : ℕ) (route : List ℕ) → (isPart b h route ≡ true) ↔ PartFor b h route
 part-for b h route =
@@ -245,7 +245,7 @@ pushed-right p h route pushes d m y n =
     let b = board p in
     let r = fails (hasRoute b h) (route-right b h) .1 m in
     let e = spared-series b h (walks b h n) (series-right b h .1 y) in
-    let t = legal-pushes-right b (groupForce b h) h (b .desk .owed) route pushes in
+    let t = legal-pushes-right b (groupForce b h) h (b .desk .battle .owed) route pushes in
     let yes : serves b h route pushes ≡ true → answerTo p h route pushes ≡ accepted (1 ∷ endOf b route ∷ []) =
     λ f. answered d (fate-pushing b h route pushes e r f) in
     let no : serves b h route pushes ≡ false → answerTo p h route pushes ≡ refused 17 0 =

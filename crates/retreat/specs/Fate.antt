@@ -20,11 +20,11 @@ lostFate part pushes = cond (part && none pushes) Lost NoRoute
 -- by route alone, where a vacant one exists
 unfoldable pub routeFate : Board → ℕ → List ℕ → List ℕ → Fate
 routeFate b h route pushes =
-    cond (legal b (groupForce b h) h (b .desk .owed) route && none pushes) Vacant NoRoute
+    cond (legal b (groupForce b h) h (b .desk .battle .owed) route && none pushes) Vacant NoRoute
 
 -- by pushes, where only they serve
 unfoldable pub pushFate : Board → ℕ → List ℕ → List ℕ → Fate
-pushFate b h route pushes = cond (legalPushes b (groupForce b h) h (b .desk .owed) route pushes) Pushing NoPushes
+pushFate b h route pushes = cond (legalPushes b (groupForce b h) h (b .desk .battle .owed) route pushes) Pushing NoPushes
 
 -- the fate that an answer about pushes comes to; `lost` is that of a group whom none serve
 abbrev pub servedFate : Fate → Served → Fate

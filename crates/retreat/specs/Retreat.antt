@@ -29,15 +29,15 @@ use Rattle.aftermath.specs.Stage.{thenOn}
 
 -- a unit owes in hex h that is no supply unit
 unfoldable pub walksFrom : Board → ℕ → ℕ → Bool
-walksFrom b h u = owesAt b h u && not (eqb (b .units .kind u) supplyKind)
+walksFrom b h u = owesAt b h u && not (eqb (b .units .counter .kind u) supplyKind)
 
 -- a vacant route exists for the group in hex h
 unfoldable pub hasRoute : Board → ℕ → Bool
-hasRoute b h = found (firstRoute b (groupForce b h) h (b .desk .owed))
+hasRoute b h = found (firstRoute b (groupForce b h) h (b .desk .battle .owed))
 
 -- "such a series of pushes exists"
 unfoldable pub hasSeries : Board → ℕ → Bool
-hasSeries b h = pushesServe b (groupForce b h) h (b .desk .owed)
+hasSeries b h = pushesServe b (groupForce b h) h (b .desk .battle .owed)
 
 -- "The group is destroyed exactly if neither a vacant route nor such a series of pushes exists", or if "only supply units owe"
 unfoldable pub doomed : Board → ℕ → Bool
@@ -54,20 +54,20 @@ notPart b h route pushes = doomed b h && not (isPart b h route && none pushes)
 -- "If a vacant route exists, the route must be one and the pushes empty, else 14"
 unfoldable pub notVacant : Board → ℕ → List ℕ → List ℕ → Bool
 notVacant b h route pushes =
-    not (doomed b h) && (hasRoute b h && not (legal b (groupForce b h) h (b .desk .owed) route && none pushes))
+    not (doomed b h) && (hasRoute b h && not (legal b (groupForce b h) h (b .desk .battle .owed) route && none pushes))
 
 -- "If only pushes serve, route and pushes must be legal together, else 17"
 unfoldable pub notPushed : Board → ℕ → List ℕ → List ℕ → Bool
 notPushed b h route pushes =
-    not (doomed b h) && (not (hasRoute b h) && not (legalPushes b (groupForce b h) h (b .desk .owed) route pushes))
+    not (doomed b h) && (not (hasRoute b h) && not (legalPushes b (groupForce b h) h (b .desk .battle .owed) route pushes))
 
 -- where the route ends
 unfoldable pub endOf : Board → List ℕ → ℕ
-endOf b route = getD route (b .desk .owed - 1) nowhere
+endOf b route = getD route (b .desk .battle .owed - 1) nowhere
 
 -- "role now 0; supply units among them are destroyed"
 unfoldable pub leaves : Board → ℕ → ℕ → List Change
-leaves b end u = cond (eqb (b .units .kind u) supplyKind) (destroyed u ∷ []) (placed u end ∷ assigned u 0 ∷ [])
+leaves b end u = cond (eqb (b .units .counter .kind u) supplyKind) (destroyed u ∷ []) (placed u end ∷ assigned u 0 ∷ [])
 
 unfoldable pub goesOff : Board → ℕ → List ℕ → List Change
 goesOff b end [] = []
@@ -95,7 +95,7 @@ retreatValues b h route = cond (doomed b h) (2 ∷ []) (1 ∷ endOf b route ∷ 
 -- what the questions before that of the route leave known
 pub record Owing (b : Board) (h : ℕ) : Type 0 where
   pub there : h < b .map .hexes
-  pub now : b .desk .stage ≡ 1
+  pub now : b .desk .battle .stage ≡ 1
 
 -- a hex, a route of 0..3 and "pushes, a list of 0..9 hexes", places counted on through both; "wrong stage (.. retreat 1 ..)", then 4: "hex
 -- lacks the role asked"
@@ -106,7 +106,7 @@ groupChecks b h route pushes rest =
     (refuseIf (leb (b .map .hexes) h) 3 0
     (onMapAll b route
     (onMapFrom b pushes (length route + 1)
-    (refuseIf (not (eqb (b .desk .stage) 1)) 2 0 (refuseIf (not (any (owesAt b h) (b .units .count))) 4 0 rest))))))
+    (refuseIf (not (eqb (b .desk .battle .stage) 1)) 2 0 (refuseIf (not (any (owesAt b h) (b .units .count))) 4 0 rest))))))
 
 -- what the group does: it is destroyed, goes along a vacant route, or pushes
 unfoldable pub leaveChanges : Board → ℕ → List ℕ → List ℕ → List Change

@@ -23,7 +23,7 @@ use Rattle.retreat.specs.Retreat.{endOf, retreatVerdict}
 -- owes, a route of 0..3 and pushes of 0..9 hexes of the map
 pub record Due (p : List ℕ) (h : ℕ) (route pushes : List ℕ) : Type 0 where
   pub whole : Accepted p
-  pub stage : board p .desk .stage ≡ 1
+  pub stage : board p .desk .battle .stage ≡ 1
   pub there : h < board p .map .hexes
   pub unit : ℕ
   pub counted : unit < board p .units .count
@@ -35,21 +35,21 @@ pub record Due (p : List ℕ) (h : ℕ) (route pushes : List ℕ) : Type 0 where
 
 -- "only supply units owe"
 abbrev pub OnlySupply : Board → ℕ → Type 0
-OnlySupply b h = (u : ℕ) → u < b .units .count → owesAt b h u ≡ true → b .units .kind u ≡ supplyKind
+OnlySupply b h = (u : ℕ) → u < b .units .count → owesAt b h u ≡ true → b .units .counter .kind u ≡ supplyKind
 
 -- a route is legal for the group in hex h, and a vacant route exists
 abbrev pub LegalFor : Board → ℕ → List ℕ → Type 0
-LegalFor b h route = LegalRoute b (groupForce b h) h (b .desk .owed) route
+LegalFor b h route = LegalRoute b (groupForce b h) h (b .desk .battle .owed) route
 
 abbrev pub Vacant : Board → ℕ → Type 0
-Vacant b h = RouteExists b (groupForce b h) h (b .desk .owed)
+Vacant b h = RouteExists b (groupForce b h) h (b .desk .battle .owed)
 
 -- route and pushes are legal together, and "such a series of pushes exists"
 abbrev pub LegalWith : Board → ℕ → List ℕ → List ℕ → Type 0
-LegalWith b h route pushes = LegalSeries b (groupForce b h) h (b .desk .owed) route pushes
+LegalWith b h route pushes = LegalSeries b (groupForce b h) h (b .desk .battle .owed) route pushes
 
 abbrev pub Pushed : Board → ℕ → Type 0
-Pushed b h = SeriesExists b (groupForce b h) h (b .desk .owed)
+Pushed b h = SeriesExists b (groupForce b h) h (b .desk .battle .owed)
 
 -- "neither a vacant route nor such a series of pushes exists"
 abbrev pub Neither : Board → ℕ → Type 0
@@ -99,7 +99,7 @@ pub record Road (p : List ℕ) (h : ℕ) (route : List ℕ) (after : Board) : Ty
 abbrev pub RoadRight : Type 0
 RoadRight =
     (p : List ℕ) (h : ℕ) (route pushes : List ℕ) → Due p h route pushes → answerTo p h route pushes ≡ accepted (2 ∷ [])
-    → (boardAfter p h route pushes .desk .stage ≡ 0 → ⊥) → Road p h route (boardAfter p h route pushes)
+    → (boardAfter p h route pushes .desk .battle .stage ≡ 0 → ⊥) → Road p h route (boardAfter p h route pushes)
 
 -- if a vacant route exists, the group retreats to the route's end exactly if the route sent is one and no pushes were sent, and is refused
 -- by 14 exactly if not

@@ -108,7 +108,7 @@ fn no_run(p: &[u8], v: View, h: usize, n: usize, route: &[u16]) -> bool
 // Whether the route is a part route, where no vacant route exists; `run` tells whether it is a run. A longer run is looked for only if it
 // would be shorter than the route that is owed.
 fn is_part(p: &[u8], v: View, h: usize, run: bool, route: &[u16]) -> bool
-    requires { ⌜ Laid (now p) v × (h < v .hexes) × (board (now p) .desk .owed ≤ 3) × (hasRoute (board (now p)) h ≡ false) × (run ≡ isRun (board (now p)) (groupForce (board (now p)) h) h (now route)) ⌝ }
+    requires { ⌜ Laid (now p) v × (h < v .hexes) × (board (now p) .desk .battle .owed ≤ 3) × (hasRoute (board (now p)) h ≡ false) × (run ≡ isRun (board (now p)) (groupForce (board (now p)) h) h (now route)) ⌝ }
     ensures { λ r. ⌜ r ≡ partRoute (board (now (p .entry))) (groupForce (board (now (p .entry))) h) h (now (route .entry)) ⌝ }
 {
     if !run {
@@ -146,8 +146,8 @@ fn by_part(part: bool, pushes: &[u16]) -> Fate
 
 // What comes of it where no vacant route exists; `run` tells whether the route is a run.
 fn by_pushes(p: &[u8], v: View, h: usize, run: bool, route: &[u16], pushes: &[u16]) -> Fate
-    requires { ⌜ Laid (now p) v × (h < v .hexes) × (board (now p) .desk .owed ≤ 3) × (hasRoute (board (now p)) h ≡ false) × (run ≡ isRun (board (now p)) (groupForce (board (now p)) h) h (now route)) ⌝ }
-    ensures { λ r. ⌜ r ≡ servedFate (lostFate (partRoute (board (now (p .entry))) (groupForce (board (now (p .entry))) h) h (now (route .entry))) (now (pushes .entry))) (served (board (now (p .entry))) (groupForce (board (now (p .entry))) h) h (board (now (p .entry)) .desk .owed) (now (route .entry)) (now (pushes .entry))) ⌝ }
+    requires { ⌜ Laid (now p) v × (h < v .hexes) × (board (now p) .desk .battle .owed ≤ 3) × (hasRoute (board (now p)) h ≡ false) × (run ≡ isRun (board (now p)) (groupForce (board (now p)) h) h (now route)) ⌝ }
+    ensures { λ r. ⌜ r ≡ servedFate (lostFate (partRoute (board (now (p .entry))) (groupForce (board (now (p .entry))) h) h (now (route .entry))) (now (pushes .entry))) (served (board (now (p .entry))) (groupForce (board (now (p .entry))) h) h (board (now (p .entry)) .desk .battle .owed) (now (route .entry)) (now (pushes .entry))) ⌝ }
 {
     match pushes::judge(
         p,
@@ -167,7 +167,7 @@ fn by_pushes(p: &[u8], v: View, h: usize, run: bool, route: &[u16], pushes: &[u1
 // What comes of the group in hex `h`, which was sent this route and these pushes. Where only supply units owe, the part route is empty.
 // Where nobody near might be pushed, pushes are not looked for: a series without one would be a vacant route.
 pub fn decide(p: &[u8], v: View, h: usize, route: &[u16], pushes: &[u16]) -> Fate
-    requires { ⌜ Laid (now p) v × (h < v .hexes) × (1 ≤ board (now p) .desk .owed) × (board (now p) .desk .owed ≤ 3) ⌝ }
+    requires { ⌜ Laid (now p) v × (h < v .hexes) × (1 ≤ board (now p) .desk .battle .owed) × (board (now p) .desk .battle .owed ≤ 3) ⌝ }
     ensures { λ r. ⌜ r ≡ fateOf (board (now (p .entry))) h (now (route .entry)) (now (pushes .entry)) ⌝ }
 {
     if !any_walks(p, v, h) {

@@ -106,7 +106,7 @@ fn note(p: &mut [u8], v: View, h: usize, route: &[u16])
 
 // Where the route ends.
 fn end_of(p: &[u8], v: View, route: &[u16]) -> usize
-    requires { ⌜ Laid (now p) v × (1 ≤ board (now p) .desk .owed) ⌝ }
+    requires { ⌜ Laid (now p) v × (1 ≤ board (now p) .desk .battle .owed) ⌝ }
     ensures { λ r. ⌜ r ≡ endOf (board (now (p .entry))) (now (route .entry)) ⌝ }
 {
     hex_at(route, read::owed(p, v) - 1)
@@ -114,7 +114,7 @@ fn end_of(p: &[u8], v: View, route: &[u16]) -> usize
 
 // The group in hex `h` goes off along the vacant route; the answer is where it ends.
 pub fn go_off(p: &mut [u8], v: View, h: usize, route: &[u16]) -> usize
-    requires { ⌜ Laid (now p) v × (h < 65536) × (1 ≤ board (now p) .desk .owed) ⌝ }
+    requires { ⌜ Laid (now p) v × (h < 65536) × (1 ≤ board (now p) .desk .battle .owed) ⌝ }
     ensures { λ r. ⌜ (r ≡ endOf (board (now (p .entry))) (now (route .entry))) × (now (p .exit) ≡ makes (now (p .entry)) (thenOn (board (now (p .entry))) (retreatChanges (board (now (p .entry))) h (now (route .entry))))) ⌝ }
 {
     let end = end_of(p, v, route);
@@ -126,7 +126,7 @@ pub fn go_off(p: &mut [u8], v: View, h: usize, route: &[u16]) -> usize
 
 // The group in hex `h` goes off along the route and pushes friends out of it; the answer is where it ends.
 pub fn push_off(p: &mut [u8], v: View, h: usize, route: &[u16], pushes: &[u16]) -> usize
-    requires { ⌜ Laid (now p) v × (h < 65536) × (1 ≤ board (now p) .desk .owed) ⌝ }
+    requires { ⌜ Laid (now p) v × (h < 65536) × (1 ≤ board (now p) .desk .battle .owed) ⌝ }
     ensures { λ r. ⌜ (r ≡ endOf (board (now (p .entry))) (now (route .entry))) × (now (p .exit) ≡ makes (now (p .entry)) (thenOn (board (now (p .entry))) (pushChanges (board (now (p .entry))) h (now (route .entry)) (now (pushes .entry))))) ⌝ }
 {
     let end = end_of(p, v, route);

@@ -42,25 +42,25 @@ use Rattle.rules.proofs.OnwardRetreat.{retreat-goes}
 
 -- the order for each stage, and what is lent with it
 module _ (b : Board) where
-  order-quiet : b .desk .stage ≡ 0 → (onward b ≡ endPhase) × (lentOnward b ≡ replicate (b .map .hexes) 0)
+  order-quiet : b .desk .battle .stage ≡ 0 → (onward b ≡ endPhase) × (lentOnward b ≡ replicate (b .map .hexes) 0)
   unfolding onward lentOnward
   order-quiet e = (rw e refl, rw e refl)
 
-  order-retreats : b .desk .stage ≡ 1 → (onward b ≡ retreatOnward b) × (lentOnward b ≡ [])
+  order-retreats : b .desk .battle .stage ≡ 1 → (onward b ≡ retreatOnward b) × (lentOnward b ≡ [])
   unfolding onward lentOnward
   order-retreats e = (rw e refl, rw e refl)
 
-  order-losses : b .desk .stage ≡ 2 → (onward b ≡ losses (allOwing b)) × (lentOnward b ≡ [])
+  order-losses : b .desk .battle .stage ≡ 2 → (onward b ≡ losses (allOwing b)) × (lentOnward b ≡ [])
   unfolding onward lentOnward
   order-losses e = (rw e refl, rw e refl)
 
-  order-advances : b .desk .stage ≡ 3 → (onward b ≡ close) × (lentOnward b ≡ [])
+  order-advances : b .desk .battle .stage ≡ 3 → (onward b ≡ close) × (lentOnward b ≡ [])
   unfolding onward lentOnward
   order-advances e = (rw e refl, rw e refl)
 
-  not-last : over b ≡ false → b .desk .stage ≡ 0 → isLast (clock b) (b .desk .lastTurn) ≡ false
+  not-last : over b ≡ false → b .desk .battle .stage ≡ 0 → isLast (clock b) (b .desk .lastTurn) ≡ false
   unfolding over
-  not-last o e = simp (eq-eqb (b .desk .stage) 0 e) at o
+  not-last o e = simp (eq-eqb (b .desk .battle .stage) 0 e) at o
 
 goes-as :
     {p : List ℕ} {o : Order} {l : List ℕ} → (onward (board p) ≡ o) × (lentOnward (board p) ≡ l)
@@ -72,16 +72,16 @@ goes : (p : List ℕ) → Accepted p → over (board p) ≡ false → Goes p (on
 goes p a o =
     let b = board p in
     let k = a .lawful .clock .stage in
-    same-or (b .desk .stage) 0
+    same-or (b .desk .battle .stage) 0
     (λ e. goes-as (order-quiet b e) (end-goes a e (not-last b o e)))
     (λ n.
-    same-or (b .desk .stage) 1
+    same-or (b .desk .battle .stage) 1
     (λ e. goes-as (order-retreats b e) (retreat-goes a e))
     (λ m.
-    same-or (b .desk .stage) 2
+    same-or (b .desk .battle .stage) 2
     (λ e. goes-as (order-losses b e) (losses-go a e))
     (λ i.
-    let e : b .desk .stage ≡ 3 = omega arith in
+    let e : b .desk .battle .stage ≡ 3 = omega arith in
     goes-as (order-advances b e) (close-goes a e))))
 
 is-accepted : {a : Ruling} {vs : List ℕ} → a ≡ accepted vs → IsAccepted a

@@ -24,7 +24,7 @@ use Rattle.rules.specs.Onward.{battleLeft, left, phasesLeft}
 use Rattle.rules.proofs.OnwardCall.{Goes, goes-met}
 use Rattle.rules.proofs.OnwardStage.{left-quiet}
 
-module _ {b : Board} (l : Lawful b) (e : b .desk .stage ≡ 0) (more : isLast (clock b) (b .desk .lastTurn) ≡ false) where
+module _ {b : Board} (l : Lawful b) (e : b .desk .battle .stage ≡ 0) (more : isLast (clock b) (b .desk .lastTurn) ≡ false) where
   -- the board with another clock
   abbrev at : Clock → Board
   at c = withDesk b (withClock (b .desk) (c .turn) (c .force) (c .phase))
@@ -56,7 +56,7 @@ module _ {b : Board} (l : Lawful b) (e : b .desk .stage ≡ 0) (more : isLast (c
   end-falls = omega (arith, end-phases, end-quiet)
 
 pub end-goes :
-    {p : List ℕ} → Accepted p → board p .desk .stage ≡ 0 → isLast (clock (board p)) (board p .desk .lastTurn) ≡ false
+    {p : List ℕ} → Accepted p → board p .desk .battle .stage ≡ 0 → isLast (clock (board p)) (board p .desk .lastTurn) ≡ false
     → Goes p (record { order = endPhase; lent = replicate (board p .map .hexes) 0 })
 unfolding ruleOf endRule
 end-goes {p} a e more =
@@ -66,5 +66,5 @@ end-goes {p} a e more =
     goes-met (a .shaped) (record { order = endPhase; lent = l }) (endChanges b)
     (pass (broken-false a)
     (pass (ap not (eq-eqb (length l) n (length-replicate {A = ℕ} n 0)))
-    (pass (ap not (eq-eqb (b .desk .stage) 0 e)) (pass more (ruled refl)))))
+    (pass (ap not (eq-eqb (b .desk .battle .stage) 0 e)) (pass more (ruled refl)))))
     (end-falls (a .lawful) e more)

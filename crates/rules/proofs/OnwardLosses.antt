@@ -21,14 +21,14 @@ use Rattle.rules.proofs.OnwardCall.{Goes, goes-met}
 use Rattle.rules.proofs.OnwardStage.{falls-then-on, left-losses}
 
 losses-fall :
-    {b : Board} → Lawful b → b .map .hexes ≤ nowhere → b .desk .stage ≡ 2 → (units : List ℕ)
+    {b : Board} → Lawful b → b .map .hexes ≤ nowhere → b .desk .battle .stage ≡ 2 → (units : List ℕ)
     → left (changes b (thenOn b (lossChanges b units))) < left b
 losses-fall {b} l most e units =
     falls-then-on (lossChanges b units) (since-losses l most e units) (omega (arith, left-losses b e))
     (λ _. omega (arith, left-losses b e))
     (λ n. absurd (n (losses-owing l most e units)))
 
-pub losses-go : {p : List ℕ} → Accepted p → board p .desk .stage ≡ 2 → Goes p (record { order = losses (allOwing (board p)); lent = [] })
+pub losses-go : {p : List ℕ} → Accepted p → board p .desk .battle .stage ≡ 2 → Goes p (record { order = losses (allOwing (board p)); lent = [] })
 unfolding ruleOf lossesRule allOwing
 losses-go {p} a e =
     let b = board p in

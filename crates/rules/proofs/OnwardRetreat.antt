@@ -52,11 +52,11 @@ use Rattle.rules.proofs.OnwardStage.{falls-then-on, left-retreats}
 
 -- what the two questions ask
 module _ (b : Board) (h : ℕ) where
-  has-found : hasRoute b h ≡ true → found (firstRoute b (groupForce b h) h (b .desk .owed)) ≡ true
+  has-found : hasRoute b h ≡ true → found (firstRoute b (groupForce b h) h (b .desk .battle .owed)) ≡ true
   unfolding hasRoute
   has-found e = e
 
-  has-served : hasSeries b h ≡ true → pushesServe b (groupForce b h) h (b .desk .owed) ≡ true
+  has-served : hasSeries b h ≡ true → pushesServe b (groupForce b h) h (b .desk .battle .owed) ≡ true
   unfolding hasSeries
   has-served e = e
 
@@ -69,10 +69,10 @@ module _ (b : Board) (h : ℕ) where
       (λ s. either w (λ y. not-both false (sym (simp (y, r, s) at e)) refl) (λ y. not-both false (sym (simp y at e)) refl))
 
   -- and who is destroyed though others than supply units owe has no vacant route
-  lost-none : doomed b h ≡ true → any (walksFrom b h) (b .units .count) ≡ true → found (firstRoute b (groupForce b h) h (b .desk .owed)) ≡ false
+  lost-none : doomed b h ≡ true → any (walksFrom b h) (b .units .count) ≡ true → found (firstRoute b (groupForce b h) h (b .desk .battle .owed)) ≡ false
   unfolding doomed hasRoute
   lost-none e w =
-      let t = found (firstRoute b (groupForce b h) h (b .desk .owed)) in
+      let t = found (firstRoute b (groupForce b h) h (b .desk .battle .owed)) in
       either t (λ y. not-both false (simp (w, y) at e) refl) (λ y. y)
 
 -- the first unit that owes, where a hex owes
@@ -91,7 +91,7 @@ module _ (b : Board) (some : 1 ≤ owingHexes b) where
   unfolding firstOwing allOwing Losses.owes
   leads =
       let k = sieve-at (Losses.owes b) (b .units .count) 0 (omega (arith, some-owes)) in
-      (k .below, owes b leader (b .units .hex leader) (eqb-true (b .units .role leader) 1 (k .passes)) refl)
+      (k .below, owes b leader (b .units .state .hex leader) (eqb-true (b .units .state .role leader) 1 (k .passes)) refl)
 
 -- a route of n hexes, read off the three places of an answer
 sent-same : (n : ℕ) (route : List ℕ) → length route ≡ n → n ≤ 3 → sentRoute n (routeOf route) ≡ route
@@ -112,19 +112,19 @@ sent-legally b f h n l (Route x y z) t s =
 sent-legally b f h n l Nothing t s = not-both false t refl
 
 -- the run of as many steps as the group makes is legal where a legal route exists, and else a part route
-module _ (b : Board) (h : ℕ) (l : b .desk .owed ≤ 3) where
-  run-legally : found (firstRoute b (groupForce b h) h (b .desk .owed)) ≡ true → LegalRoute b (groupForce b h) h (b .desk .owed) (runFor b h)
+module _ (b : Board) (h : ℕ) (l : b .desk .battle .owed ≤ 3) where
+  run-legally : found (firstRoute b (groupForce b h) h (b .desk .battle .owed)) ≡ true → LegalRoute b (groupForce b h) h (b .desk .battle .owed) (runFor b h)
   unfolding runFor
   run-legally e =
       let f = groupForce b h in
-      let n = b .desk .owed in
+      let n = b .desk .battle .owed in
       rw (reach-here b f h n e) (sent-legally b f h n l (firstRoute b f h n) e (first-right b f h n))
 
-  part-legally : found (firstRoute b (groupForce b h) h (b .desk .owed)) ≡ false → PartRoute b (groupForce b h) h (runFor b h)
+  part-legally : found (firstRoute b (groupForce b h) h (b .desk .battle .owed)) ≡ false → PartRoute b (groupForce b h) h (runFor b h)
   unfolding runFor
   part-legally e =
       let f = groupForce b h in
-      let n = b .desk .owed in
+      let n = b .desk .battle .owed in
       let k = reach b f h n in
       let r = reach-right b f h n e in
       record {
@@ -137,12 +137,12 @@ module _ (b : Board) (h : ℕ) (l : b .desk .owed ≤ 3) where
 data Given (b : Board) (h : ℕ) (route pushes : List ℕ) : Type 0 where
   lastly : doomed b h ≡ true → isPart b h route ≡ true → {last : ℕ} → Run b (groupForce b h) h 0 h route last → length route ≤ 3 → pushes ≡ []
       → Given b h route pushes
-  vacantly : doomed b h ≡ false → hasRoute b h ≡ true → LegalRoute b (groupForce b h) h (b .desk .owed) route → pushes ≡ []
+  vacantly : doomed b h ≡ false → hasRoute b h ≡ true → LegalRoute b (groupForce b h) h (b .desk .battle .owed) route → pushes ≡ []
       → Given b h route pushes
-  pushing : doomed b h ≡ false → hasRoute b h ≡ false → LegalSeries b (groupForce b h) h (b .desk .owed) route pushes
+  pushing : doomed b h ≡ false → hasRoute b h ≡ false → LegalSeries b (groupForce b h) h (b .desk .battle .owed) route pushes
       → Given b h route pushes
 
-module _ {b : Board} (h : ℕ) (l : b .desk .owed ≤ 3) {route pushes : List ℕ} where
+module _ {b : Board} (h : ℕ) (l : b .desk .battle .owed ≤ 3) {route pushes : List ℕ} where
   given-short : Given b h route pushes → (length route ≤ 3) × (length pushes ≤ 9)
   given-short (lastly d e k s q) = (s, rw q (omega arith))
   given-short (vacantly d e k q) = (omega (arith, k .long), rw q (omega arith))
@@ -163,23 +163,23 @@ module _ {b : Board} (h : ℕ) (l : b .desk .owed ≤ 3) {route pushes : List �
   given-vacant : Given b h route pushes → notVacant b h route pushes ≡ false
   unfolding notVacant
   given-vacant (lastly d e k s q) = simp d
-  given-vacant (vacantly d e k q) = simp (d, e, q, legal-right b (groupForce b h) h (b .desk .owed) route .1 k)
+  given-vacant (vacantly d e k q) = simp (d, e, q, legal-right b (groupForce b h) h (b .desk .battle .owed) route .1 k)
   given-vacant (pushing d e k) = simp (d, e)
 
   given-pushed : Given b h route pushes → notPushed b h route pushes ≡ false
   unfolding notPushed
   given-pushed (lastly d e k s q) = simp d
   given-pushed (vacantly d e k q) = simp (d, e)
-  given-pushed (pushing d e k) = simp (d, e, legal-pushes-right b (groupForce b h) h (b .desk .owed) route pushes .1 k)
+  given-pushed (pushing d e k) = simp (d, e, legal-pushes-right b (groupForce b h) h (b .desk .battle .owed) route pushes .1 k)
 
-module _ {b : Board} (l : Lawful b) (most : b .map .hexes ≤ nowhere) (e : b .desk .stage ≡ 1) (h u : ℕ) (m : Owes b h u) where
+module _ {b : Board} (l : Lawful b) (most : b .map .hexes ≤ nowhere) (e : b .desk .battle .stage ≡ 1) (h u : ℕ) (m : Owes b h u) where
   abbrev sent : List ℕ
   sent = routeFor b h
 
   abbrev shoved : List ℕ
   shoved = pushesFor b h
 
-  owed : In 1 (b .desk .owed) 3
+  owed : In 1 (b .desk .battle .owed) 3
   owed = l .stage .during .retreats e .owed
 
   is-last : doomed b h ≡ true → Given b h (lastRoad b h) []
@@ -189,7 +189,7 @@ module _ {b : Board} (l : Lawful b) (most : b .map .hexes ≤ nowhere) (e : b .d
       (λ w.
       let z = lost-none b h d w in
       let r = part-legally b h (owed .high) z in
-      let s = none-shorter b (groupForce b h) h (r .steps) (b .desk .owed) z (r .longest .some) in
+      let s = none-shorter b (groupForce b h) h (r .steps) (b .desk .battle .owed) z (r .longest .some) in
       simp w
       (lastly d (part-walks b h (runFor b h) w ∙ part-right b (groupForce b h) h (runFor b h) .1 r) (r .run .run)
       (omega (arith, owed .high, r .run .long))
@@ -200,7 +200,7 @@ module _ {b : Board} (l : Lawful b) (most : b .map .hexes ≤ nowhere) (e : b .d
   unfolding routeFor pushesFor pushedFor
   is-given =
       let f = groupForce b h in
-      let n = b .desk .owed in
+      let n = b .desk .battle .owed in
       either (doomed b h)
       (λ d. simp d (is-last d))
       (λ d.
@@ -218,7 +218,7 @@ module _ {b : Board} (l : Lawful b) (most : b .map .hexes ≤ nowhere) (e : b .d
       falls-then-on xs (o .since) (omega arith) (λ _. omega arith)
       (λ _. omega (arith, left-retreats (changes b xs) (o .stage), o .fewer))
 
-module _ {p : List ℕ} (a : Accepted p) (e : board p .desk .stage ≡ 1) where
+module _ {p : List ℕ} (a : Accepted p) (e : board p .desk .battle .stage ≡ 1) where
   abbrev start : ℕ
   start = firstOwing (board p)
 

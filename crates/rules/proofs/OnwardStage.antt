@@ -16,19 +16,19 @@ use Rattle.aftermath.proofs.KeepStage.{passed-by}
 use Rattle.rules.specs.Onward.{battleLeft, left, phasesLeft}
 
 module _ (b : Board) where
-  pub left-quiet : b .desk .stage ≡ 0 → battleLeft b ≡ 0
+  pub left-quiet : b .desk .battle .stage ≡ 0 → battleLeft b ≡ 0
   unfolding battleLeft
   left-quiet e = rw e refl
 
-  pub left-retreats : b .desk .stage ≡ 1 → battleLeft b ≡ 2 + holders b 1
+  pub left-retreats : b .desk .battle .stage ≡ 1 → battleLeft b ≡ 2 + holders b 1
   unfolding battleLeft
   left-retreats e = rw e refl
 
-  pub left-losses : b .desk .stage ≡ 2 → battleLeft b ≡ 2
+  pub left-losses : b .desk .battle .stage ≡ 2 → battleLeft b ≡ 2
   unfolding battleLeft
   left-losses e = rw e refl
 
-  pub left-advances : b .desk .stage ≡ 3 → battleLeft b ≡ 1
+  pub left-advances : b .desk .battle .stage ≡ 3 → battleLeft b ≡ 1
   unfolding battleLeft
   left-advances e = rw e refl
 

@@ -30,7 +30,7 @@ use Rattle.rules.specs.Order.Order.{endPhase, retreat, losses, close}
 
 -- "16 | last phase of the last turn": the game is over, the end of its phase is refused
 unfoldable pub over : Board → Bool
-over b = eqb (b .desk .stage) 0 && isLast (clock b) (b .desk .lastTurn)
+over b = eqb (b .desk .battle .stage) 0 && isLast (clock b) (b .desk .lastTurn)
 
 -- "Role 1 owes": all that owe, in counter order
 unfoldable pub allOwing : Board → List ℕ
@@ -38,7 +38,7 @@ allOwing b = sieve (owes b) (b .units .count)
 
 -- the hex of the first of them
 unfoldable pub firstOwing : Board → ℕ
-firstOwing b = b .units .hex (getD (allOwing b) 0 0)
+firstOwing b = b .units .state .hex (getD (allOwing b) 0 0)
 
 -- "a route of 0..3": the n hexes of a route that was found
 unfoldable pub sentRoute : ℕ → Found → List ℕ
@@ -47,12 +47,12 @@ sentRoute n Nothing = []
 
 -- a series of pushes for the group of hex h
 unfoldable pub pushedFor : Board → ℕ → Sought
-pushedFor b h = seriesFor b (groupForce b h) h (b .desk .owed)
+pushedFor b h = seriesFor b (groupForce b h) h (b .desk .battle .owed)
 
 -- the first run of as many steps as the group of hex h makes: a vacant route, or else "as long as the longest such run"
 unfoldable pub runFor : Board → ℕ → List ℕ
 runFor b h =
-    let k = reach b (groupForce b h) h (b .desk .owed) in sentRoute k (firstRoute b (groupForce b h) h k)
+    let k = reach b (groupForce b h) h (b .desk .battle .owed) in sentRoute k (firstRoute b (groupForce b h) h k)
 
 -- "empty where only supply units owe"
 unfoldable pub lastRoad : Board → ℕ → List ℕ
@@ -74,12 +74,12 @@ retreatOnward b = retreat (firstOwing b) (routeFor b (firstOwing b)) (pushesFor 
 -- "wrong stage (move, attack, end phase 0; retreat 1; losses 2; advance, close 3)": an order for each stage, and losses that name all
 unfoldable pub onward : Board → Order
 onward b =
-    cond (eqb (b .desk .stage) 0) endPhase
-    (cond (eqb (b .desk .stage) 1) (retreatOnward b) (cond (eqb (b .desk .stage) 2) (losses (allOwing b)) close))
+    cond (eqb (b .desk .battle .stage) 0) endPhase
+    (cond (eqb (b .desk .battle .stage) 1) (retreatOnward b) (cond (eqb (b .desk .battle .stage) 2) (losses (allOwing b)) close))
 
 -- "end phase borrow a scratch of exactly width x height bytes"; the other orders borrow nothing
 unfoldable pub lentOnward : Board → List ℕ
-lentOnward b = cond (eqb (b .desk .stage) 0) (replicate (b .map .hexes) 0) []
+lentOnward b = cond (eqb (b .desk .battle .stage) 0) (replicate (b .map .hexes) 0) []
 
 unfoldable pub onwardCall : List ℕ → Sent Order
 onwardCall p = record { order = onward (board p); lent = lentOnward (board p) }
@@ -87,13 +87,13 @@ onwardCall p = record { order = onward (board p); lent = lentOnward (board p) }
 -- "passes 0, 1, 2, then the next force, and after force 3 the next turn": the phases from this one to the last
 unfoldable pub phasesLeft : Board → ℕ
 phasesLeft b =
-    12 * (b .desk .lastTurn - b .desk .turn) + (3 * (3 - b .desk .force) + (2 - b .desk .phase))
+    12 * (b .desk .lastTurn - b .desk .clock .turn) + (3 * (3 - b .desk .clock .force) + (2 - b .desk .clock .phase))
 
 -- "Stages: 0 quiet, 1 retreats, 2 losses, 3 advances": the calls that a battle may still take
 unfoldable pub battleLeft : Board → ℕ
 battleLeft b =
-    cond (eqb (b .desk .stage) 0) 0
-    (cond (eqb (b .desk .stage) 1) (2 + holders b 1) (cond (eqb (b .desk .stage) 2) 2 1))
+    cond (eqb (b .desk .battle .stage) 0) 0
+    (cond (eqb (b .desk .battle .stage) 1) (2 + holders b 1) (cond (eqb (b .desk .battle .stage) 2) 2 1))
 
 unfoldable pub left : Board → ℕ
 left b = phasesLeft b + battleLeft b

@@ -23,7 +23,7 @@ use Rattle.ruling.proofs.Kept.{Kept}
 pub record Uncovered (p q us : List ℕ) : Type 0 where
   pub accepted : Accepted q
   pub still : Still (board p) (board q)
-  pub seen : Each (λ u. u < board q .units .count → has tried (board q .units .marks u) ≡ true) us
+  pub seen : Each (λ u. u < board q .units .count → has tried (board q .units .state .marks u) ≡ true) us
 
 pub uncovered : {p : List ℕ} → Accepted p → (us : List ℕ) → Uncovered p (turnedAll p us) us
 unfolding turnedAll
@@ -40,7 +40,7 @@ uncovered {p} a (u ∷ us) =
       seen = (
         λ l.
             let h = turned-tried (board p) u x (omega (arith, t .fixed .count)) in
-            r .still .face u (subst (λ (c : Board). has tried (c .units .marks u) ≡ true) (sym (m .board)) h),
+            r .still .face u (subst (λ (c : Board). has tried (c .units .state .marks u) ≡ true) (sym (m .board)) h),
         r .seen,
       );
     }

@@ -37,9 +37,9 @@ pub record Pushes (o b : Board) (f : ℕ) (c : Board) : Type 0 where
   pub since : Since o c
   pub fixed : Fixed b c
   pub desk : c .desk ≡ b .desk
-  pub roles : (w : ℕ) → w < b .units .count → c .units .role w ≡ b .units .role w
-  pub still : (w : ℕ) → w < b .units .count → b .units .role w ≡ 1 → c .units .hex w ≡ b .units .hex w
-  pub others : (w : ℕ) → w < b .units .count → (forceOf b w ≡ f → ⊥) → c .units .hex w ≡ b .units .hex w
+  pub roles : (w : ℕ) → w < b .units .count → c .units .state .role w ≡ b .units .state .role w
+  pub still : (w : ℕ) → w < b .units .count → b .units .state .role w ≡ 1 → c .units .state .hex w ≡ b .units .state .hex w
+  pub others : (w : ℕ) → w < b .units .count → (forceOf b w ≡ f → ⊥) → c .units .state .hex w ≡ b .units .state .hex w
 
 -- and hex x is empty, while a stack that can be pushed stands in hex y
 pub record Shifted (o b : Board) (f a x y : ℕ) (c : Board) : Type 0 where
@@ -68,9 +68,9 @@ module _ {o b : Board} (s : Since o b) (most : o .map .hexes ≤ nowhere) (f a :
     abbrev moved : Board
     moved = changes b (stackTo b h z)
 
-    on-hex : (w : ℕ) → w < b .units .count → standsOn (scene b) h w ≡ true → b .units .hex w ≡ h
+    on-hex : (w : ℕ) → w < b .units .count → standsOn (scene b) h w ≡ true → b .units .state .hex w ≡ h
     unfolding standsOn
-    on-hex w l e = eqb-true (b .units .hex w) h e
+    on-hex w l e = eqb-true (b .units .state .hex w) h e
 
     goes : Goes z (λ u. false) false (shifts z)
     unfolding shifts
@@ -84,23 +84,23 @@ module _ {o b : Board} (s : Since o b) (most : o .map .hexes ≤ nowhere) (f a :
         (sieve-each t (b .units .count))
         (sieve-names t (b .units .count))
 
-    light : (w : ℕ) → w < b .units .count → b .units .hex w ≡ h → Light b f w
+    light : (w : ℕ) → w < b .units .count → b .units .state .hex w ≡ h → Light b f w
     light w l e = light-is b f w (i .light w l (apart-here b a h w n e))
 
     -- a unit of the stack has gone, any other stands where it stood
     fate :
-        {A : Type 0} (w : ℕ) → w < b .units .count → (b .units .hex w ≡ h → moved .units .hex w ≡ z → A)
-        → ((b .units .hex w ≡ h → ⊥) → moved .units .hex w ≡ b .units .hex w → A) → A
+        {A : Type 0} (w : ℕ) → w < b .units .count → (b .units .state .hex w ≡ h → moved .units .state .hex w ≡ z → A)
+        → ((b .units .state .hex w ≡ h → ⊥) → moved .units .state .hex w ≡ b .units .state .hex w → A) → A
     fate w l here else =
         let t = standsOn (scene b) h in
         either (t w)
         (λ e. here (on-hex w l e) (going .went w l e refl (named-nil w) .0))
         (λ e.
-        same-or (b .units .hex w) h
+        same-or (b .units .state .hex w) h
         (λ y. not-both (t w) (stands-here (scene b) h w y) e)
         (λ y. else y (going .kept w e .hex)))
 
-    role-same : (w : ℕ) → w < b .units .count → moved .units .role w ≡ b .units .role w
+    role-same : (w : ℕ) → w < b .units .count → moved .units .state .role w ≡ b .units .state .role w
     role-same w l =
         let t = standsOn (scene b) h in
         either (t w) (λ e. going .held w l e refl refl) (λ e. going .kept w e .role)
@@ -125,7 +125,7 @@ module _ {o b : Board} (s : Since o b) (most : o .map .hexes ≤ nowhere) (f a :
     count : moved .units .count ≡ b .units .count
     count = pushed .fixed .count
 
-    empty-hex : (w : ℕ) → w < b .units .count → moved .units .hex w ≡ h → ⊥
+    empty-hex : (w : ℕ) → w < b .units .count → moved .units .state .hex w ≡ h → ⊥
     empty-hex w l e = fate w l (λ _ y. apart-hex (sym e ∙ y)) (λ y r. y (sym r ∙ e))
 
     freed : stand moved f a h ≡ Free
@@ -136,11 +136,11 @@ module _ {o b : Board} (s : Since o b) (most : o .map .hexes ≤ nowhere) (f a :
           none = λ w l. let k : w < b .units .count = omega (arith, count) in apart-off moved a h w (empty-hex w k);
         })
 
-    owes-not : (w : ℕ) → w < b .units .count → b .units .hex w ≡ h → owesAt moved a w ≡ false
+    owes-not : (w : ℕ) → w < b .units .count → b .units .state .hex w ≡ h → owesAt moved a w ≡ false
     unfolding owesAt
-    owes-not w l e = simp (ne-eqb (moved .units .role w) 1 (λ y. light w l e .role (sym (role-same w l) ∙ y)))
+    owes-not w l e = simp (ne-eqb (moved .units .state .role w) 1 (λ y. light w l e .role (sym (role-same w l) ∙ y)))
 
-    apart-z : (w : ℕ) → w < b .units .count → b .units .hex w ≡ h → apart moved a z w ≡ true
+    apart-z : (w : ℕ) → w < b .units .count → b .units .state .hex w ≡ h → apart moved a z w ≡ true
     unfolding apart
     apart-z w l e =
         simp (owes-not w l e, stands-here (scene moved) z w (fate w l (λ _ y. y) (λ y _. absurd (y e))))

@@ -28,16 +28,16 @@ pub record Left (o b : Board) (a : ℕ) (c : Board) : Type 0 where
   pub since : Since o c
   pub fixed : Fixed b c
   pub desk : c .desk ≡ b .desk
-  pub gone : (w : ℕ) → w < b .units .count → owesAt b a w ≡ true → c .units .role w ≡ 0
-  pub roles : (w : ℕ) → w < b .units .count → owesAt b a w ≡ false → c .units .role w ≡ b .units .role w
-  pub still : (w : ℕ) → w < b .units .count → owesAt b a w ≡ false → b .units .role w ≡ 1 → c .units .hex w ≡ b .units .hex w
+  pub gone : (w : ℕ) → w < b .units .count → owesAt b a w ≡ true → c .units .state .role w ≡ 0
+  pub roles : (w : ℕ) → w < b .units .count → owesAt b a w ≡ false → c .units .state .role w ≡ b .units .state .role w
+  pub still : (w : ℕ) → w < b .units .count → owesAt b a w ≡ false → b .units .state .role w ≡ 1 → c .units .state .hex w ≡ b .units .state .hex w
 
 -- a change of one unit after which it has no role
 record Ending (g : ℕ → Change) : Type 0 where
   pub since : {o c : Board} → o .map .hexes ≤ nowhere → Since o c → (u : ℕ) → Since o (change c (g u))
   pub desk : (c : Board) (u : ℕ) → change c (g u) .desk ≡ c .desk
   pub else : (c : Board) (u w : ℕ) → (w ≡ u → ⊥) → Same (c .units) (change c (g u) .units) w
-  pub none : (c : Board) (u : ℕ) → u < c .units .count → change c (g u) .units .role u ≡ 0
+  pub none : (c : Board) (u : ℕ) → u < c .units .count → change c (g u) .units .state .role u ≡ 0
 
 freeing : Ending (λ u. assigned u 0)
 freeing =
@@ -62,7 +62,7 @@ record Leaving (o b : Board) (a : ℕ) (us : List ℕ) (c : Board) : Type 0 wher
   pub since : Since o c
   pub fixed : Fixed b c
   pub desk : c .desk ≡ b .desk
-  pub gone : (w : ℕ) → w < b .units .count → owesAt b a w ≡ true → named us w ≡ false → c .units .role w ≡ 0
+  pub gone : (w : ℕ) → w < b .units .count → owesAt b a w ≡ true → named us w ≡ false → c .units .state .role w ≡ 0
   pub kept : (w : ℕ) → owesAt b a w ≡ false → Same (b .units) (c .units) w
 
 module _ {o b : Board} (most : o .map .hexes ≤ nowhere) (a : ℕ) where
@@ -78,7 +78,7 @@ module _ {o b : Board} (most : o .map .hexes ≤ nowhere) (a : ℕ) where
           gone =
               λ w l q f.
               same-or w u
-              (λ z. ap (change c (g u) .units .role) z ∙ y .none c u (omega (arith, x .fixed .count)))
+              (λ z. ap (change c (g u) .units .state .role) z ∙ y .none c u (omega (arith, x .fixed .count)))
               (λ z. y .else c u w z .role ∙ x .gone w l q (named-past u us w (λ r. z (sym r)) ∙ f));
           kept = λ w q. same-trans (x .kept w q) (y .else c u w (λ z. not-both (owesAt b a u) e (ap (owesAt b a) (sym z) ∙ q)));
         }

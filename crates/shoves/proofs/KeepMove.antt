@@ -32,7 +32,7 @@ use Rattle.shoves.specs.Group.{gather}
 use Rattle.shoves.proofs.Sweeps.{placed-else}
 
 -- nobody stands on a vacant hex
-pub vacant-none : (b : Board) (h w : ℕ) → vacant (scene b) h ≡ true → w < b .units .count → b .units .hex w ≡ h → ⊥
+pub vacant-none : (b : Board) (h w : ℕ) → vacant (scene b) h ≡ true → w < b .units .count → b .units .state .hex w ≡ h → ⊥
 unfolding vacant
 vacant-none b h w e l z =
     let t = standsOn (scene b) h in
@@ -40,7 +40,7 @@ vacant-none b h w e l z =
 
 -- placing a unit leaves every role
 module _ (c : Board) (u x : ℕ) where
-  placed-role : (w : ℕ) → change c (placed u x) .units .role w ≡ c .units .role w
+  placed-role : (w : ℕ) → change c (placed u x) .units .state .role w ≡ c .units .state .role w
   unfolding change
   placed-role w = either (ltb x (c .map .hexes)) (λ e. simp e) (λ e. simp e)
 
@@ -64,13 +64,13 @@ pub record Going (a b : Board) (x : ℕ) (t k : ℕ → Bool) (freed : Bool) (us
   pub fixed : Fixed b c
   pub desk : c .desk ≡ b .desk
   pub kept : (w : ℕ) → t w ≡ false → Same (b .units) (c .units) w
-  pub held : (w : ℕ) → w < b .units .count → t w ≡ true → k w ≡ false → freed ≡ false → c .units .role w ≡ b .units .role w
+  pub held : (w : ℕ) → w < b .units .count → t w ≡ true → k w ≡ false → freed ≡ false → c .units .state .role w ≡ b .units .state .role w
   pub went :
       (w : ℕ) → w < b .units .count → t w ≡ true → k w ≡ false → named us w ≡ false
-      → (c .units .hex w ≡ x) × (c .units .role w ≡ roleThen freed (b .units .role w))
+      → (c .units .state .hex w ≡ x) × (c .units .state .role w ≡ roleThen freed (b .units .state .role w))
   pub lost :
       (w : ℕ) → w < b .units .count → t w ≡ true → k w ≡ true → named us w ≡ false
-      → (c .units .hex w ≡ nowhere) × (c .units .role w ≡ 0)
+      → (c .units .state .hex w ≡ nowhere) × (c .units .state .role w ≡ 0)
 
 -- how each of them goes
 pub record Goes (x : ℕ) (k : ℕ → Bool) (freed : Bool) (g : ℕ → List Change) : Type 0 where
@@ -82,8 +82,8 @@ record Went (a b : Board) (x : ℕ) (freed : Bool) (u : ℕ) (c e : Board) : Typ
   pub fixed : Fixed c e
   pub desk : e .desk ≡ c .desk
   pub else : (w : ℕ) → (w ≡ u → ⊥) → Same (c .units) (e .units) w
-  pub hex : e .units .hex u ≡ x
-  pub role : e .units .role u ≡ roleThen freed (c .units .role u)
+  pub hex : e .units .state .hex u ≡ x
+  pub role : e .units .state .role u ≡ roleThen freed (c .units .state .role u)
 
 module _
     {a b : Board}
@@ -92,7 +92,7 @@ module _
     (h x : ℕ)
     (t k : ℕ → Bool)
     (freed : Bool)
-    (from : (w : ℕ) → w < b .units .count → t w ≡ true → b .units .hex w ≡ h)
+    (from : (w : ℕ) → w < b .units .count → t w ≡ true → b .units .state .hex w ≡ h)
     (real : h ≡ nowhere → ⊥)
     (stands : standable b x ≡ true)
     (v : vacant (scene b) x ≡ true) where
@@ -106,21 +106,21 @@ module _
         let z = from u m e in
         omega (arith, there .room, ap (crowd b) z, crowd-with b u h m z)
 
-    own : (w : ℕ) → w < b .units .count → b .units .hex w ≡ h → forceOf b w ≡ forceOf b u
+    own : (w : ℕ) → w < b .units .count → b .units .state .hex w ≡ h → forceOf b w ≡ forceOf b u
     own w n z =
         same-or (forceOf b w) (forceOf b u) (λ q. q)
         (λ d.
         absurd
         (s .units .pairs u m w n .two (λ q. d (sym q)) .apart (λ q. real (sym (from u m e) ∙ q)) (z ∙ sym (from u m e))))
 
-  arrived : {us : List ℕ} {c : Board} → Going a b x t k freed us c → (w : ℕ) → w < b .units .count → c .units .hex w ≡ x → b .units .hex w ≡ h
+  arrived : {us : List ℕ} {c : Board} → Going a b x t k freed us c → (w : ℕ) → w < b .units .count → c .units .state .hex w ≡ x → b .units .state .hex w ≡ h
   arrived o w n z =
       either (t w) (λ e. from w n e) (λ e. absurd (vacant-none b x w v n (sym (o .kept w e .hex) ∙ z)))
 
   fewer : {us : List ℕ} {c : Board} → Going a b x t k freed us c → (u : ℕ) → others c u x ≤ others b u h
   fewer {c = c} o u =
-      let y = equals (c .units .hex) x in
-      let q = equals (b .units .hex) h in
+      let y = equals (c .units .state .hex) x in
+      let q = equals (b .units .state .hex) h in
       rw (others-is c u x, others-is b u h, o .fixed .count)
       (tally-le (but y u) (but q u) (b .units .count)
       (λ w n e.
@@ -128,7 +128,7 @@ module _
       (λ z. not-both (but y u w) e (but-self y u w z))
       (λ z.
       but-other q u w z
-      ∙ equals-yes (b .units .hex) h w (arrived o w n (equals-is (c .units .hex) x w (sym (but-other y u w z) ∙ e))))))
+      ∙ equals-yes (b .units .state .hex) h w (arrived o w n (equals-is (c .units .state .hex) x w (sym (but-other y u w z) ∙ e))))))
 
   room : {us : List ℕ} {c : Board} → Going a b x t k freed us c → (u : ℕ) → u < b .units .count → t u ≡ true → Room c u x
   room o u m e =
@@ -183,14 +183,14 @@ module _
               λ w l q i j.
               same-or w u
               (λ z.
-              ap (d .units .role) z ∙ y .role ∙ ap (λ (r : Bool). roleThen r (c .units .role u)) j
+              ap (d .units .state .role) z ∙ y .role ∙ ap (λ (r : Bool). roleThen r (c .units .state .role u)) j
               ∙ o .held u m e f j
-              ∙ ap (b .units .role) (sym z))
+              ∙ ap (b .units .state .role) (sym z))
               (λ z. y .else w z .role ∙ o .held w l q i j);
           went =
               λ w l q i j.
               same-or w u
-              (λ z. (ap (d .units .hex) z ∙ y .hex, ap (d .units .role) z ∙ y .role ∙ then-same ∙ ap (λ (r : ℕ). roleThen freed (b .units .role r)) (sym z)))
+              (λ z. (ap (d .units .state .hex) z ∙ y .hex, ap (d .units .state .role) z ∙ y .role ∙ then-same ∙ ap (λ (r : ℕ). roleThen freed (b .units .state .role r)) (sym z)))
               (λ z.
               let r = o .went w l q i (named-past u us w (λ r. z (sym r)) ∙ j) in
               (y .else w z .hex ∙ r .0, y .else w z .role ∙ r .1));
@@ -203,7 +203,7 @@ module _
               (y .else w z .hex ∙ r .0, y .else w z .role ∙ r .1));
         }
       where
-        then-same : roleThen freed (c .units .role u) ≡ roleThen freed (b .units .role u)
+        then-same : roleThen freed (c .units .state .role u) ≡ roleThen freed (b .units .state .role u)
         then-same = either freed (λ z. simp z) (λ z. simp z (o .held u m e f z))
 
   going-destroyed :
@@ -227,7 +227,7 @@ module _
         lost =
             λ w l q i j.
             same-or w u
-            (λ z. (ap (change c (destroyed u) .units .hex) z ∙ y .lost refl .hex, ap (change c (destroyed u) .units .role) z ∙ y .role))
+            (λ z. (ap (change c (destroyed u) .units .state .hex) z ∙ y .lost refl .hex, ap (change c (destroyed u) .units .state .role) z ∙ y .role))
             (λ z. let r = o .lost w l q i (named-past u us w (λ r. z (sym r)) ∙ j) in (off w z .hex ∙ r .0, off w z .role ∙ r .1));
       }
 

@@ -46,9 +46,9 @@ after-step {o} {b} {c} {d} {f} {a} {x} s y =
 pub pushes-owes : {o b c : Board} {f : ℕ} → Pushes o b f c → (a w : ℕ) → w < b .units .count → owesAt c a w ≡ owesAt b a w
 unfolding owesAt
 pushes-owes {b = b} x a w l =
-    same-or (b .units .role w) 1
+    same-or (b .units .state .role w) 1
     (λ e. simp (x .roles w l, x .still w l e))
-    (λ e. simp (x .roles w l, ne-eqb (b .units .role w) 1 e))
+    (λ e. simp (x .roles w l, ne-eqb (b .units .state .role w) 1 e))
 
 -- and what comes after them
 after-pushes : {o b c d : Board} {f a : ℕ} → Pushes o b f c → Left o c a d → Left o b a d

@@ -39,11 +39,11 @@ pub record Stepped (o b : Board) (f a x : ℕ) (c : Board) : Type 0 where
   pub desk : c .desk ≡ b .desk
   pub kept : (w : ℕ) → owesAt b a w ≡ false → Same (b .units) (c .units) w
   pub left : (w : ℕ) → w < b .units .count → owesAt b a w ≡ false → owesAt c x w ≡ false
-  pub gone : (w : ℕ) → w < b .units .count → owesAt b a w ≡ true → owesAt c x w ≡ false → c .units .role w ≡ 0
+  pub gone : (w : ℕ) → w < b .units .count → owesAt b a w ≡ true → owesAt c x w ≡ false → c .units .state .role w ≡ 0
   pub own : OwnGroup c f x
   pub stands : stand c f x ≡ stand b f a
 
-stands-by : (b c : Board) (h w : ℕ) → c .units .hex w ≡ b .units .hex w → standsOn (scene c) h w ≡ standsOn (scene b) h w
+stands-by : (b c : Board) (h w : ℕ) → c .units .state .hex w ≡ b .units .state .hex w → standsOn (scene c) h w ≡ standsOn (scene b) h w
 unfolding standsOn
 stands-by b c h w e = ap (λ (x : ℕ). eqb x h) e
 
@@ -60,7 +60,7 @@ module _
   moved = changes b (groupTo b a x)
 
   abbrev supply : ℕ → Bool
-  supply u = eqb (b .units .kind u) supplyKind
+  supply u = eqb (b .units .counter .kind u) supplyKind
 
   goes : Goes x supply false (goesTo b x)
   unfolding goesTo
@@ -77,7 +77,7 @@ module _
   -- a unit of the group is destroyed or owes in hex x now
   lost :
       (w : ℕ) → w < b .units .count → owesAt b a w ≡ true → supply w ≡ true
-      → (moved .units .hex w ≡ nowhere) × (moved .units .role w ≡ 0)
+      → (moved .units .state .hex w ≡ nowhere) × (moved .units .state .role w ≡ 0)
   lost w l e k = going .lost w l e k (named-nil w)
 
   pub went : (w : ℕ) → w < b .units .count → owesAt b a w ≡ true → supply w ≡ false → owesAt moved x w ≡ true
@@ -92,7 +92,7 @@ module _
       (λ y. absurd (vacant-none b x w v l (sym (going .kept w e .hex) ∙ owes-hex moved w x y)))
       (λ y. y)
 
-  hexes : (w : ℕ) → w < b .units .count → (forceOf b w ≡ f → ⊥) → moved .units .hex w ≡ b .units .hex w
+  hexes : (w : ℕ) → w < b .units .count → (forceOf b w ≡ f → ⊥) → moved .units .state .hex w ≡ b .units .state .hex w
   hexes w l n = either (owesAt b a w) (λ e. absurd (n (mine w l e))) (λ e. going .kept w e .hex)
 
   bear : (y : ℕ) → bears moved f y ≡ bears b f y

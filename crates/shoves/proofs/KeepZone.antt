@@ -75,7 +75,7 @@ module _ {f : ℕ} {s t : Scene} (k : Beyond f s t) where
 
 -- a hex bears as before once units of force f have moved
 pub bears-same :
-    {b c : Board} (f : ℕ) → Fixed b c → ((w : ℕ) → w < b .units .count → (forceOf b w ≡ f → ⊥) → c .units .hex w ≡ b .units .hex w)
+    {b c : Board} (f : ℕ) → Fixed b c → ((w : ℕ) → w < b .units .count → (forceOf b w ≡ f → ⊥) → c .units .state .hex w ≡ b .units .state .hex w)
     → (h : ℕ) → bears c f h ≡ bears b f h
 unfolding bears enemy
 bears-same {b} {c} f x o h =

@@ -60,7 +60,7 @@ land-same s start = simp (s .fixed .map)
 
 -- what is known of a group by one unit of it that is no supply unit
 module _ {b : Board} {f a u : ℕ} (units : UnitsOk b) (r : Retreats b f a u) where
-  owing : b .units .role u ≡ 0 → ⊥
+  owing : b .units .state .role u ≡ 0 → ⊥
   owing e = omega (arith, owes-role b u a (r .owes))
 
   real : a ≡ nowhere → ⊥
@@ -101,7 +101,7 @@ module _ {o b : Board} {f a u : ℕ} (small : o .map .hexes ≤ nowhere) (k : Si
       let i = real (k .units) r in
       let m = mine (k .units) r in
       let c = stepped k small f a x i m (q .0) (q .1) in
-      let y = ne-eqb (b .units .kind u) supplyKind (r .kind) in
+      let y = ne-eqb (b .units .counter .kind u) supplyKind (r .kind) in
       record {
         since = c .since;
         retreats = retreats-by (c .fixed) r (went k small f a x i m (q .0) (q .1) u (r .counted) (r .owes) y);

@@ -36,7 +36,7 @@ use Rattle.shoves.proofs.Standing.{
 }
 
 -- a hex in which a unit stands is not vacant
-pub held-by : (b : Board) (z w : ℕ) → w < b .units .count → b .units .hex w ≡ z → vacant (scene b) z ≡ false
+pub held-by : (b : Board) (z w : ℕ) → w < b .units .count → b .units .state .hex w ≡ z → vacant (scene b) z ≡ false
 held-by b z w l e = either (vacant (scene b) z) (λ v. absurd (vacant-none b z w v l e)) (λ v. v)
 
 -- a refuge is vacant and bears
@@ -73,7 +73,7 @@ module _ (b : Board) (f a z : ℕ) where
         })
 
     -- every unit of a loose hex can be pushed
-    light-there : IsLoose b f a z → (w : ℕ) → w < b .units .count → b .units .hex w ≡ z → Light b f w
+    light-there : IsLoose b f a z → (w : ℕ) → w < b .units .count → b .units .state .hex w ≡ z → Light b f w
     light-there i w l e = light-is b f w (i .light w l (apart-here b a z w n e))
 
     pub loose-can : stand b f a z ≡ Loose → CanBePushed b f z

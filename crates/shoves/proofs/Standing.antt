@@ -21,18 +21,18 @@ use Rattle.chains.specs.Stand.{apart, firm, bars, stand, isFree, isLoose}
 -- a unit can be pushed: of the force, no supply unit, and it owes nothing
 pub record Light (b : Board) (f u : ℕ) : Type 0 where
   pub own : forceOf b u ≡ f
-  pub kind : b .units .kind u ≡ supplyKind → ⊥
-  pub role : b .units .role u ≡ 1 → ⊥
+  pub kind : b .units .counter .kind u ≡ supplyKind → ⊥
+  pub role : b .units .state .role u ≡ 1 → ⊥
 
 pub light-is : (b : Board) (f u : ℕ) → firm b f u ≡ false → Light b f u
 unfolding firm
 light-is b f u e =
-    let i = neither (not (eqb (forceOf b u) f)) (eqb (b .units .kind u) supplyKind || eqb (b .units .role u) 1) e in
-    let j = neither (eqb (b .units .kind u) supplyKind) (eqb (b .units .role u) 1) (i .1) in
+    let i = neither (not (eqb (forceOf b u) f)) (eqb (b .units .counter .kind u) supplyKind || eqb (b .units .state .role u) 1) e in
+    let j = neither (eqb (b .units .counter .kind u) supplyKind) (eqb (b .units .state .role u) 1) (i .1) in
     record {
       own = eqb-true (forceOf b u) f (not-false (eqb (forceOf b u) f) (i .0));
-      kind = λ z. not-both (eqb (b .units .kind u) supplyKind) (eq-eqb (b .units .kind u) supplyKind z) (j .0);
-      role = λ z. not-both (eqb (b .units .role u) 1) (eq-eqb (b .units .role u) 1 z) (j .1);
+      kind = λ z. not-both (eqb (b .units .counter .kind u) supplyKind) (eq-eqb (b .units .counter .kind u) supplyKind z) (j .0);
+      role = λ z. not-both (eqb (b .units .state .role u) 1) (eq-eqb (b .units .state .role u) 1 z) (j .1);
     }
 
 -- such a unit is not firm
@@ -41,22 +41,22 @@ unfolding firm
 is-light b f u l =
     simp (
       eq-eqb (forceOf b u) f (l .own),
-      ne-eqb (b .units .kind u) supplyKind (l .kind),
-      ne-eqb (b .units .role u) 1 (l .role),
+      ne-eqb (b .units .counter .kind u) supplyKind (l .kind),
+      ne-eqb (b .units .state .role u) 1 (l .role),
     )
 
-pub firm-same : {b c : Board} (f u : ℕ) → Fixed b c → c .units .role u ≡ b .units .role u → firm c f u ≡ firm b f u
+pub firm-same : {b c : Board} (f u : ℕ) → Fixed b c → c .units .state .role u ≡ b .units .state .role u → firm c f u ≡ firm b f u
 unfolding firm
 firm-same f u x e = simp (force-by x u, ap (λ (q : ℕ → ℕ). q u) (x .kind), e)
 
 module _ (b : Board) (a h w : ℕ) where
   -- elsewhere than in the group's hex every unit is apart
-  pub apart-here : (h ≡ a → ⊥) → b .units .hex w ≡ h → apart b a h w ≡ true
+  pub apart-here : (h ≡ a → ⊥) → b .units .state .hex w ≡ h → apart b a h w ≡ true
   unfolding apart owesAt
   apart-here n e =
-      simp (stands-here (scene b) h w e, e, ne-eqb h a n) (either (eqb (b .units .role w) 1) (λ z. simp z) (λ z. simp z))
+      simp (stands-here (scene b) h w e, e, ne-eqb h a n) (either (eqb (b .units .state .role w) 1) (λ z. simp z) (λ z. simp z))
 
-  pub apart-off : (b .units .hex w ≡ h → ⊥) → apart b a h w ≡ false
+  pub apart-off : (b .units .state .hex w ≡ h → ⊥) → apart b a h w ≡ false
   unfolding apart
   apart-off n = simp (stands-off (scene b) h w n)
 
@@ -68,13 +68,13 @@ module _ (b : Board) (a h w : ℕ) where
   unfolding apart
   apart-else e = simp e (either (standsOn (scene b) h w) (λ z. simp z) (λ z. simp z))
 
-  pub apart-stands : apart b a h w ≡ true → b .units .hex w ≡ h
+  pub apart-stands : apart b a h w ≡ true → b .units .state .hex w ≡ h
   unfolding apart standsOn
-  apart-stands e = eqb-true (b .units .hex w) h (both-yes (eqb (b .units .hex w) h) (not (owesAt b a w)) e .0)
+  apart-stands e = eqb-true (b .units .state .hex w) h (both-yes (eqb (b .units .state .hex w) h) (not (owesAt b a w)) e .0)
 
 -- a unit that stands where it stood, with the role that it had
 pub apart-same :
-    (b c : Board) (a h w : ℕ) → c .units .hex w ≡ b .units .hex w → c .units .role w ≡ b .units .role w → apart c a h w ≡ apart b a h w
+    (b c : Board) (a h w : ℕ) → c .units .state .hex w ≡ b .units .state .hex w → c .units .state .role w ≡ b .units .state .role w → apart c a h w ≡ apart b a h w
 unfolding apart owesAt standsOn
 apart-same b c a h w e r = simp (e, r)
 
@@ -156,7 +156,7 @@ module _ (b : Board) (f a h : ℕ) where
       simp
       (any-never (standsOn (scene b) h) (b .units .count)
       (λ w l.
-      same-or (b .units .hex w) h
+      same-or (b .units .state .hex w) h
       (λ z. not-both (apart b a h w) (apart-here b a h w n z) (i .none w l))
       (stands-off (scene b) h w)))
 
@@ -180,7 +180,7 @@ not-shut b f a h n = either (bears b f h) (λ e. e) (λ e. absurd (n (stand-shut
 pub stand-same :
     {b c : Board} (f a e h : ℕ) → Fixed b c → bears c f h ≡ bears b f h
     → ((w : ℕ) → w < b .units .count → apart c e h w ≡ apart b a h w)
-    → ((w : ℕ) → w < b .units .count → apart b a h w ≡ true → c .units .role w ≡ b .units .role w)
+    → ((w : ℕ) → w < b .units .count → apart b a h w ≡ true → c .units .state .role w ≡ b .units .state .role w)
     → stand c f e h ≡ stand b f a h
 unfolding stand bars
 stand-same {b} {c} f a e h x q s r =

@@ -46,7 +46,7 @@ pub record Sweep (t : Board → ℕ → Bool) (g : ℕ → List Change) (p : Lis
   pub laid : Laid q v
   pub made : q ≡ makes p (gather g (sieve (t (board p)) u))
   pub ahead : (w : ℕ) → u ≤ w → t (board q) w ≡ t (board p) w
-  pub kinds : board q .units .kind ≡ board p .units .kind
+  pub kinds : board q .units .counter .kind ≡ board p .units .counter .kind
 
 module _ {t : Board → ℕ → Bool} {g : ℕ → List Change} {p : List ℕ} {v : View} where
   -- at its beginning
@@ -72,7 +72,7 @@ module _ {t : Board → ℕ → Bool} {g : ℕ → List Change} {p : List ℕ} {
               ap (λ (b : Board). t b w) z
               ∙ a .same (board q) (changes (board q) (g u)) w (i .off (board q) u w (λ y. omega arith))
               ∙ o .ahead w (omega arith);
-          kinds = ap (λ (b : Board). b .units .kind) z ∙ fixed-changes (g u) (board q) .kind ∙ o .kinds;
+          kinds = ap (λ (b : Board). b .units .counter .kind) z ∙ fixed-changes (g u) (board q) .kind ∙ o .kinds;
         }
 
     miss : t (board p) u ≡ false → r ≡ q → Sweep t g p v (u + 1) r
@@ -123,7 +123,7 @@ pub placed-else : (b : Board) (u h w : ℕ) → (w ≡ u → ⊥) → Same (b .u
 unfolding change
 placed-else b u h w n =
     either (ltb h (b .map .hexes))
-    (λ e. rw e (record { hex = upd-else (b .units .count) (b .units .hex) u h w (λ _ z. n z); marks = refl; role = refl }))
+    (λ e. rw e (record { hex = upd-else (b .units .count) (b .units .state .hex) u h w (λ _ z. n z); marks = refl; role = refl }))
     (λ e. rw e (record { hex = refl; marks = refl; role = refl }))
 
 pub own-shifts : (z : ℕ) → Own (shifts z)
@@ -136,7 +136,7 @@ own-goes c x =
     record {
       off =
           λ b u w n.
-          either (eqb (c .units .kind u) 5)
+          either (eqb (c .units .counter .kind u) 5)
           (λ e. rw e (destroyed-else b u w n))
           (λ e. rw e (placed-else b u x w n));
     }

@@ -26,11 +26,11 @@ pub record CanBePushed (b : Board) (f z : ℕ) : Type 0 where
   pub bear : bears b f z ≡ true
   pub unit : ℕ
   pub counted : unit < b .units .count
-  pub there : b .units .hex unit ≡ z
+  pub there : b .units .state .hex unit ≡ z
   -- "held by the force"
-  pub own : (w : ℕ) → w < b .units .count → b .units .hex w ≡ z → forceOf b w ≡ f
-  pub kind : (w : ℕ) → w < b .units .count → b .units .hex w ≡ z → b .units .kind w ≡ supplyKind → ⊥
-  pub role : (w : ℕ) → w < b .units .count → b .units .hex w ≡ z → b .units .role w ≡ 1 → ⊥
+  pub own : (w : ℕ) → w < b .units .count → b .units .state .hex w ≡ z → forceOf b w ≡ f
+  pub kind : (w : ℕ) → w < b .units .count → b .units .state .hex w ≡ z → b .units .counter .kind w ≡ supplyKind → ⊥
+  pub role : (w : ℕ) → w < b .units .count → b .units .state .hex w ≡ z → b .units .state .role w ≡ 1 → ⊥
 
 -- "if any bearing vacant hex lies beside it over an unblocked side": none does beside hex h
 abbrev pub NoRefuge : Board → ℕ → ℕ → Type 0
@@ -77,7 +77,7 @@ pub record Retreats (b : Board) (f a u : ℕ) : Type 0 where
   pub counted : u < b .units .count
   pub owes : owesAt b a u ≡ true
   pub own : forceOf b u ≡ f
-  pub kind : b .units .kind u ≡ supplyKind → ⊥
+  pub kind : b .units .counter .kind u ≡ supplyKind → ⊥
 
 -- The two say the same. Proved in proofs/Played.antt, and so is the next.
 abbrev pub PlayedRight : Type 0

@@ -54,7 +54,7 @@ pub record ChainEnds (b : Board) (h : ℕ) (ps : List ℕ) (k e : ℕ) : Type 0 
 
 -- "supply units among them are destroyed", as the group leaves; the others go to hex x
 unfoldable pub goesTo : Board → ℕ → ℕ → List Change
-goesTo b x u = cond (eqb (b .units .kind u) supplyKind) (destroyed u ∷ []) (placed u x ∷ [])
+goesTo b x u = cond (eqb (b .units .counter .kind u) supplyKind) (destroyed u ∷ []) (placed u x ∷ [])
 
 -- the group of hex a goes to hex x
 unfoldable pub groupTo : Board → ℕ → ℕ → List Change

@@ -12,13 +12,13 @@ use Rattle.story.specs.declared.Odds.{Odds}
 -- unit u, as the board shows it
 pub record UnitOf (b : Board) (u : ℕ) (r : Unit) : Type 0 where
   pub number : r .number ≡ u
-  pub nationality : r .nationality ≡ b .units .nationality u
-  pub kind : r .kind ≡ b .units .kind u
-  pub hex : r .hex ≡ b .units .hex u
-  pub shown : r .shown ≡ b .units .shown u
-  pub allowance : r .allowance ≡ b .units .allowance u
-  pub marks : r .marks ≡ b .units .marks u
-  pub role : r .role ≡ b .units .role u
+  pub nationality : r .nationality ≡ b .units .counter .nationality u
+  pub kind : r .kind ≡ b .units .counter .kind u
+  pub hex : r .hex ≡ b .units .state .hex u
+  pub shown : r .shown ≡ b .units .state .shown u
+  pub allowance : r .allowance ≡ b .units .counter .allowance u
+  pub marks : r .marks ≡ b .units .state .marks u
+  pub role : r .role ≡ b .units .state .role u
 
 -- hex h, as the board shows it
 pub record TileOf (b : Board) (h : ℕ) (r : Tile) : Type 0 where
@@ -31,13 +31,13 @@ pub record TileOf (b : Board) (h : ℕ) (r : Tile) : Type 0 where
 
 -- the desk, as the board shows it
 pub record DeskOf (b : Board) (r : Desk) : Type 0 where
-  pub turn : r .turn ≡ b .desk .turn
+  pub turn : r .turn ≡ b .desk .clock .turn
   pub lastTurn : r .last ≡ b .desk .lastTurn
-  pub force : r .force ≡ b .desk .force
-  pub phase : r .phase ≡ b .desk .phase
-  pub stage : r .stage ≡ b .desk .stage
-  pub owed : r .owed ≡ b .desk .owed
-  pub need : r .need ≡ b .desk .need
+  pub force : r .force ≡ b .desk .clock .force
+  pub phase : r .phase ≡ b .desk .clock .phase
+  pub stage : r .stage ≡ b .desk .battle .stage
+  pub owed : r .owed ≡ b .desk .battle .owed
+  pub need : r .need ≡ b .desk .battle .need
 
 -- the odds of column c, counted from 0, as the board shows them
 pub record OddsOf (b : Board) (c : ℕ) (r : Odds) : Type 0 where

@@ -53,7 +53,7 @@ unfolding closeVerdict closeRule
 returns-2 c =
     let a = c .before .before .before .before .before .before .before .before .before .args in
     pass (broken-false (whole (c .before .before .before) .0))
-    (stop (ap not (ne-eqb (board (a .p .now) .desk .stage) 3 (λ e. c .if1 .taken (c .before .stage .ensures .is ∙ e)))))
+    (stop (ap not (ne-eqb (board (a .p .now) .desk .battle .stage) 3 (λ e. c .if1 .taken (c .before .stage .ensures .is ∙ e)))))
 
 reassign-requires : tie.Need-reassign-requires
 reassign-requires c κs = (whole (c .before .before .before .before) .1, omega arith)
@@ -72,7 +72,7 @@ returns-3 c =
     let a = c .before .before .before .before .before .before .before .before .before .before .before .before .before .before .before .before .before .args in
     let w = whole (c .before .before .before .before .before .before .before .before .before .before .before) in
     pass (broken-false (w .0))
-    (pass (ap not (eq-eqb (board (a .p .now) .desk .stage) 3 (sym (c .before .before .before .before .before .before .before .before .before .stage .ensures .is) ∙ c .before .before .before .before .before .before .before .before .if1 .left)))
+    (pass (ap not (eq-eqb (board (a .p .now) .desk .battle .stage) 3 (sym (c .before .before .before .before .before .before .before .before .before .stage .ensures .is) ∙ c .before .before .before .before .before .before .before .before .if1 .left)))
     (ruled
     (then-on (w .1 .shaped) (closeChanges (board (a .p .now)))
     (c .before .before .before .before .before .before .reassign .ensures ∙ ap (makes (a .p .now)) (closed-is (board (a .p .now))))

@@ -50,7 +50,7 @@ returns-3 c =
     λ l v.
     pass (there (c .before .before))
     (pass (mapped (c .before .before))
-    (stop (ap not (ne-eqb (board (a .p .now) .desk .stage) 3 (λ e. c .if3 .taken (c .before .stage .ensures .is ∙ e))))))
+    (stop (ap not (ne-eqb (board (a .p .now) .desk .battle .stage) 3 (λ e. c .if3 .taken (c .before .stage .ensures .is ∙ e))))))
 
 judge-unit-requires : tie.Need-judge-unit-requires
 judge-unit-requires c κs = search needs
@@ -63,7 +63,7 @@ returns-4 c =
     (λ l v r q m w.
     pass (there (c .before .before .before))
     (pass (mapped (c .before .before .before))
-    (pass (ap not (eq-eqb (board (a .p .now) .desk .stage) 3 (sym (c .before .before .stage .ensures .is) ∙ c .before .if3 .left))) w)))
+    (pass (ap not (eq-eqb (board (a .p .now) .desk .battle .stage) 3 (sym (c .before .before .stage .ensures .is) ∙ c .before .if3 .left))) w)))
     (λ n. n)
     (c .judge-unit .result) (c .judge-unit .ensures)
 

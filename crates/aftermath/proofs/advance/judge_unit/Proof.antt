@@ -22,7 +22,7 @@ may c = ap not (advance-may _ _ (sym (c .before .role .ensures .is) ∙ c .if1 .
 
 asked : (c : tie.After-moves-by-land) →
     let a = c .before .before .before .before .before .args in
-    not (movesByLand (board (a .p .now) .units .kind (a .u))) ≡ not (c .moves-by-land .result)
+    not (movesByLand (board (a .p .now) .units .counter .kind (a .u))) ≡ not (c .moves-by-land .result)
 asked c = sym (ap not (c .moves-by-land .ensures ∙ ap movesByLand (c .before .kind .ensures .is)))
 
 role-requires : tie.Need-role-requires

@@ -12,7 +12,7 @@ use Rattle.aftermath.proofs.advance.serves.Tie as tie
 -- where the route starts was asked
 beside : (c : tie.After-joined) →
     let a = c .before .before .before .before .args in
-    joined (board (a .p .now) .map) (board (a .p .now) .units .hex (a .u)) (board (a .p .now) .desk .route (a .r) 0) ≡ c .joined .result
+    joined (board (a .p .now) .map) (board (a .p .now) .units .state .hex (a .u)) (board (a .p .now) .desk .route (a .r) 0) ≡ c .joined .result
 beside c =
     let a = c .before .before .before .before .args in
     sym (c .joined .ensures

@@ -14,7 +14,7 @@ use Rattle.battle.proofs.asking.cannot_attack.Tie as tie
 -- the answer for the unit's type
 asked : (c : tie.After-may-attack) →
     let a = c .before .before .before .args in
-    c .may-attack .result ≡ mayAttack (board (a .p .now) .units .kind (a .u))
+    c .may-attack .result ≡ mayAttack (board (a .p .now) .units .counter .kind (a .u))
 asked c = c .may-attack .ensures ∙ ap mayAttack (c .before .kind .ensures .is)
 
 kind-requires : tie.Need-kind-requires

@@ -14,7 +14,7 @@ use Rattle.battle.proofs.asking.no_target.Tie as tie
 -- whether an Enemy stands there
 held : (c : tie.After-holds-enemy) →
     let a = c .before .before .before .args in
-    holdsEnemy (scene (board (a .p .now))) (board (a .p .now) .desk .force) (a .target) ≡ c .holds-enemy .result
+    holdsEnemy (scene (board (a .p .now))) (board (a .p .now) .desk .clock .force) (a .target) ≡ c .holds-enemy .result
 held c =
     let a = c .before .before .before .args in
     sym (c .holds-enemy .ensures ∙ ap (λ (f : ℕ). holdsEnemy (scene (board (a .p .now))) f (a .target)) (c .before .phasing .ensures .is))

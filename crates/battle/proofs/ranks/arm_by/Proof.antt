@@ -68,7 +68,7 @@ loop-less c = search needs
 loop-again : tie.Need-loop-again Inv-loop μ-loop
 loop-again c =
     let b = board (c .before .before .before .before .before .before .before .before .args .p .now) in
-    let e : c .before .nationality .result ≡ b .units .nationality (getD (c .before .before .before .before .before .before .before .before .args .who .now) (c .before .before .before .before .before .loop .i) 0) = c .before .nationality .ensures .is ∙ ap (b .units .nationality) (c .before .before .word .ensures .is) in
+    let e : c .before .nationality .result ≡ b .units .counter .nationality (getD (c .before .before .before .before .before .before .before .before .args .who .now) (c .before .before .before .before .before .loop .i) 0) = c .before .nationality .ensures .is ∙ ap (b .units .counter .nationality) (c .before .before .word .ensures .is) in
     ⊎-elim
     (λ w. arming-hit (c .before .before .before .before .before .before .before .before .pre .1) (c .before .before .before .before .before .loop .inv) (omega arith) (sym e ∙ w .0 .taken) (w .3 .ensures .is ∙ ap₂ (strengthOf b) (c .before .before .word .ensures .is) (w .2 .ensures .is)) (w .4))
     (λ w. arming-miss (c .before .before .before .before .before .before .before .before .pre .1) (c .before .before .before .before .before .loop .inv) (omega arith) (λ z. w .0 .left (e ∙ z)) (w .1))

@@ -20,7 +20,7 @@ shared-slice-read-working : tie.Need-shared-slice-read-working
 shared-slice-read-working c =
     let a = c .before .before .before .before .args in
     let b = board (a .p .now) in
-    omega (arith, map-size (scene b) (b .units .nationality (a .u)) 0 (a .map .now) (c .before .before .before .before .pre .3), c .before .before .before .before .pre .2 .mapped, c .before .hex .ensures .is)
+    omega (arith, map-size (scene b) (b .units .counter .nationality (a .u)) 0 (a .map .now) (c .before .before .before .before .pre .3), c .before .before .before .before .pre .2 .mapped, c .before .hex .ensures .is)
 
 working-requires : tie.Need-working-requires
 working-requires c κs = search needs
@@ -29,10 +29,10 @@ returns : tie.Need-returns
 returns c =
     let a = c .before .before .before .before .before .args in
     let b = board (a .p .now) in
-    let n = b .units .nationality (a .u) in
+    let n = b .units .counter .nationality (a .u) in
     let o = c .working .ensures in
     record {
-      is = armed-is b (a .u) (a .printed) (ap (λ (h : ℕ). eqb (getD (a .map .now) h 0) 1) (c .before .before .hex .ensures .is) ∙ map-says (scene b) n (b .units .hex (a .u)) (a .map .now) (c .before .before .before .before .before .pre .3) (c .before .before .before .before .before .pre .2 .mapped)) (o .is);
+      is = armed-is b (a .u) (a .printed) (ap (λ (h : ℕ). eqb (getD (a .map .now) h 0) 1) (c .before .before .hex .ensures .is) ∙ map-says (scene b) n (b .units .state .hex (a .u)) (a .map .now) (c .before .before .before .before .before .pre .3) (c .before .before .before .before .before .pre .2 .mapped)) (o .is);
       small = omega (arith, o .is, c .before .before .before .before .before .pre .1, working-most b (a .u) (eqb (getD (a .map .now) (c .before .before .hex .result) 0) 1) (a .printed));
     }
 

@@ -27,7 +27,7 @@ of-nation : (c : tie.After-nationality Inv-loop μ-loop) →
 unfolding nationAt
 of-nation c =
     let a = c .before .before .before .before .before .before .args in
-    ap (λ (x : ℕ). eqb x (a .nation)) (sym (c .nationality .ensures .is ∙ ap (board (a .p .now) .units .nationality) (c .before .word .ensures .is)))
+    ap (λ (x : ℕ). eqb x (a .nation)) (sym (c .nationality .ensures .is ∙ ap (board (a .p .now) .units .counter .nationality) (c .before .word .ensures .is)))
 
 loop-holds : tie.Need-loop-holds Inv-loop μ-loop
 loop-holds c = none-yet

@@ -15,7 +15,7 @@ use Rattle.march.proofs.moving.forbidden.Tie as tie
 asked : (c : tie.After-moves-in) →
     let a = c .before .before .before .before .args in
     let b = board (a .p .now) in
-    c .moves-in .result ≡ movesIn (b .desk .phase) (b .units .kind (a .u))
+    c .moves-in .result ≡ movesIn (b .desk .clock .phase) (b .units .counter .kind (a .u))
 asked c = c .moves-in .ensures ∙ ap₂ movesIn (c .before .before .phase .ensures .is) (c .before .kind .ensures .is)
 
 phase-requires : tie.Need-phase-requires

@@ -16,7 +16,7 @@ use Rattle.march.proofs.moving.steps.Tie as tie
 
 abbrev Inv-loop : tie.InvT-loop
 Inv-loop p v u path at₀ spent₀ i₀ i-end at spent i =
-    Gone p (step (board p) u) (afterStep (board p)) (leg (board p .units .hex u) 0) path i (leg at spent) × (spent < 256)
+    Gone p (step (board p) u) (afterStep (board p)) (leg (board p .units .state .hex u) 0) path i (leg at spent) × (spent < 256)
 
 abbrev μ-loop : tie.MeasureT-loop
 μ-loop p v u path at₀ spent₀ i₀ i-end at spent i = i-end - i
@@ -38,7 +38,7 @@ loop-holds : tie.Need-loop-holds Inv-loop μ-loop
 loop-holds c =
     let a = c .before .before .before .args in
     let b = board (a .p .now) in
-    let first = leg (b .units .hex (a .u)) 0 in (
+    let first = leg (b .units .state .hex (a .u)) 0 in (
       subst (λ (h : ℕ). Gone (a .p .now) (step b (a .u)) (afterStep b) first (a .path .now) 0 (leg h 0)) (sym (c .hex .ensures .is)) gone-none,
       omega arith,
     )

@@ -17,7 +17,7 @@ known :
     (c : tie.After-judge)
     → let s = c .before .before .before .before .before .before .args in
     let b = board (s .p .now) in
-    c .judge .result ≡ served b (groupForce b (s .h)) (s .h) (b .desk .owed) (s .route .now) (s .pushes .now)
+    c .judge .result ≡ served b (groupForce b (s .h)) (s .h) (b .desk .battle .owed) (s .route .now) (s .pushes .now)
 known c =
     let s = c .before .before .before .before .before .before .args in
     served-as (board (s .p .now)) (s .h) (s .route .now) (s .pushes .now) (c .before .before .group-force .ensures)

@@ -48,7 +48,7 @@ seen :
     (c : tie.After-judge) {r : Outlook} → c .judge .result ≡ r
     → let s = c .before .before .before .before .before .before .before .args in
     let b = board (s .p .now) in
-    OutlookOf b (groupForce b (s .h)) (s .h) (b .desk .owed) (s .route .now) r
+    OutlookOf b (groupForce b (s .h)) (s .h) (b .desk .battle .owed) (s .route .now) r
 seen c {r} e =
     outlook-as _ _ _ r refl (c .before .owed .ensures .is) (subst (OutlookOf _ _ _ _ _) e (c .judge .ensures))
 
