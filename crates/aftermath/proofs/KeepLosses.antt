@@ -22,7 +22,7 @@ use Rattle.acceptance.proofs.Asking.{alone-of, roles-of, stacks-of, units-asked
 use Rattle.acceptance.proofs.Carries.{Fixed, changes-then, fixed-change, routes-ok-by}
 use Rattle.acceptance.proofs.Fates.{Fated, Same, alone-fated, alone-same, assigned-else, assigned-here, fated-same, roles-passed, same-trans, same-fated, stacks-fewer}
 use Rattle.acceptance.proofs.Owings.{holders-none, holders-nought}
-use Rattle.acceptance.proofs.Since.{OneClock, Since}
+use Rattle.acceptance.proofs.Since.{Since}
 use Rattle.acceptance.proofs.Stills.{fixed-refl, fixed-trans}
 use Rattle.ruling.specs.Verdict.{outcome}
 use Rattle.ruling.proofs.Kept.{Kept, kept-along, kept-past, kept-ruled}
@@ -156,7 +156,7 @@ module _
   since-promoted s =
       record {
         fixed = fixed-trans (s .fixed) (o .fixed);
-        clock = subst (OneClock _) (sym (o .desk)) (s .clock);
+        clock = ap (λ (k : Desk). k .clock) (o .desk) ∙ s .clock;
         units = units-promoted;
         routes = routes-ok-by (o .fixed) (ap (λ (k : Desk). k .route) (o .desk)) (s .routes);
       }

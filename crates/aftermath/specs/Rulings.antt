@@ -56,15 +56,17 @@ owing kind strength =
       units =
           record {
             count = 2;
-            nationality = λ u. 2;
-            kind = kind;
-            hex = λ u. 0;
-            shown = strength;
-            allowance = λ u. 0;
-            marks = λ u. 1;
-            role = λ u. 1;
+            counter = record { nationality = λ u. 2; kind = kind; allowance = λ u. 0 };
+            state = record { hex = λ u. 0; shown = strength; marks = λ u. 1; role = λ u. 1 };
           };
-      desk = record { turn = 1; lastTurn = 1; force = 2; phase = 1; stage = 2; owed = 0; need = 3; route = λ r j. nowhere; player = λ f. f };
+      desk =
+          record {
+            clock = record { turn = 1; force = 2; phase = 1 };
+            lastTurn = 1;
+            battle = record { stage = 2; owed = 0; need = 3 };
+            route = λ r j. nowhere;
+            player = λ f. f;
+          };
     }
 
 -- what is answered to a list of losses

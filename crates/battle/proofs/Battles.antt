@@ -256,11 +256,7 @@ module _ {b : Board} {target : ℕ} {units : List ℕ} (g : Ready b target units
         let r = routed-all (routesWritten b target units o) 0 marked .clock in
         record {
           clock =
-              record {
-                turn = ap (λ (x : Desk). x .turn) desk-settled ∙ r .turn ∙ ap (λ (x : Desk). x .turn) (shown .still .desk);
-                force = ap (λ (x : Desk). x .force) desk-settled ∙ r .force ∙ ap (λ (x : Desk). x .force) (shown .still .desk);
-                phase = ap (λ (x : Desk). x .phase) desk-settled ∙ r .phase ∙ ap (λ (x : Desk). x .phase) (shown .still .desk);
-              };
+              ap (λ (x : Desk). x .clock) desk-settled ∙ r ∙ ap (λ (x : Desk). x .clock) (shown .still .desk);
           stage = refl;
           owed = refl;
           need = n .exact;

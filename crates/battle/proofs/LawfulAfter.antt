@@ -18,7 +18,7 @@ use Rattle.acceptance.specs.Accepted.{UnitsOk, DuringOk, StageOk, RoutesOk, Law
 use Rattle.acceptance.specs.Asked.{AloneOk, StacksOk, OneForce, RolesOk}
 use Rattle.acceptance.proofs.Carries.{Fixed, force-by, routes-by}
 use Rattle.acceptance.proofs.Asking.{units-asked, alone-of, stacks-of}
-use Rattle.acceptance.proofs.Since.{OneClock, lawful-since}
+use Rattle.acceptance.proofs.Since.{lawful-since}
 use Rattle.acceptance.proofs.Owings.{owing-most, owing-some, holders-nought, holders-pos, holders-none}
 use Rattle.acceptance.proofs.Stills.{fixed-trans, Still}
 use Rattle.acceptance.proofs.Fates.{Same, Fated, alone-same, alone-fated, stacks-fewer}
@@ -117,7 +117,7 @@ pub record Sides (b m c : Board) (target : ℕ) (units : List ℕ) (o : Upshot) 
 
 -- and of the desk
 pub record Desked (b c : Board) (o : Upshot) : Type 0 where
-  pub clock : OneClock (b .desk) (c .desk)
+  pub clock : c .desk .clock ≡ b .desk .clock
   pub stage : c .desk .battle .stage ≡ o .stage
   pub owed : c .desk .battle .owed ≡ o .owed
   pub need : o .stage ≡ 2 → In 1 (c .desk .battle .need) 1080

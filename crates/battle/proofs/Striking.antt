@@ -18,7 +18,6 @@ use Rattle.position.proofs.Tallies.{not-both, same-or, either}
 use Rattle.acceptance.specs.Accepted.{RoutesOk, Lawful}
 use Rattle.acceptance.proofs.Carries.{Fixed, fixed-change, standable-by}
 use Rattle.acceptance.proofs.Lawfuls.{lawful-marked}
-use Rattle.acceptance.proofs.Since.{OneClock}
 use Rattle.acceptance.proofs.Stills.{fixed-trans, Still, still-refl, still-trans, marked-still}
 use Rattle.acceptance.proofs.Fates.{
   Same,
@@ -75,14 +74,14 @@ marked-all {b} l (u ∷ us) h {d} k s =
 -- hexes written as routes, each alone
 pub record Routed (d e : Board) : Type 0 where
   pub units : e .units ≡ d .units
-  pub clock : OneClock (d .desk) (e .desk)
+  pub clock : e .desk .clock ≡ d .desk .clock
 
 pub routed-all : (hs : List ℕ) (r : ℕ) (d : Board) → Routed d (changes d (routedFrom r hs))
 unfolding routedFrom changes change
-routed-all [] r d = record { units = refl; clock = record { turn = refl; force = refl; phase = refl } }
+routed-all [] r d = record { units = refl; clock = refl }
 routed-all (h ∷ hs) r d =
     let i = routed-all hs (r + 1) (change d (routed r h nowhere nowhere nowhere)) in
-    record { units = i .units; clock = record { turn = i .clock .turn; force = i .clock .force; phase = i .clock .phase } }
+    record { units = i .units; clock = i .clock }
 
 -- a hex to stand on, of the map
 pub record Footing (b : Board) (h : ℕ) : Type 0 where

@@ -111,13 +111,8 @@ crowded =
       units =
           record {
             count = 4;
-            nationality = fourOf 0 0 0 1;
-            kind = fourOf 2 2 5 2;
-            hex = fourOf 0 1 5 8;
-            shown = λ u. 0;
-            allowance = λ u. 0;
-            marks = λ u. 0;
-            role = fourOf 1 0 0 0;
+            counter = record { nationality = fourOf 0 0 0 1; kind = fourOf 2 2 5 2; allowance = λ u. 0 };
+            state = record { hex = fourOf 0 1 5 8; shown = λ u. 0; marks = λ u. 0; role = fourOf 1 0 0 0 };
           };
       desk = plain .desk;
     }

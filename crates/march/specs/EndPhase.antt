@@ -20,7 +20,7 @@ use Rattle.clock.specs.Clock.{nextClock, isLast, judgesSupply}
 
 -- the clock on the desk
 abbrev pub clock : Board → Clock
-clock b = record { turn = b .desk .clock .turn; force = b .desk .clock .force; phase = b .desk .clock .phase }
+clock b = b .desk .clock
 
 -- "clears moved and fought"
 unfoldable pub rested : ℕ → ℕ

@@ -270,7 +270,7 @@ module _ {p us q : List ℕ} {v : View} {i r : ℕ} (s : Shaped p) (o : Routing 
   stays u =
       let hs = onceEach [] (map (hex p) (take i us)) in
       ap (λ (b : Board). b .units .state .hex u) (ap board (o .made) ∙ board-makes s (routedFrom 0 hs))
-      ∙ ap (λ (x : Units). x .hex u) (routed-units (board p) 0 hs)
+      ∙ ap (λ (x : Units). x .state .hex u) (routed-units (board p) 0 hs)
 
   written : map (hex p) (take (i + 1) us) ≡ map (hex p) (take i us) ++ (hex p (getD us i 0) ∷ [])
   written = ap (map (hex p)) (take-more us i l) ∙ map-last (hex p) (take i us) (getD us i 0)

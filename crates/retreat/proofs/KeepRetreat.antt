@@ -158,9 +158,9 @@ module _ {b : Board} (l : Lawful b) (most : b .map .hexes ≤ nowhere) (e : b .d
     as-before : (c .desk .battle .stage ≡ 1) × (c .desk .battle .owed ≡ b .desk .battle .owed) × (c .desk .battle .need ≡ 0)
     as-before =
         let k = noted-stage b h x y z in (
-          ap (λ (d : Desk). d .stage) (o .desk) ∙ k .0 ∙ e,
-          ap (λ (d : Desk). d .owed) (o .desk) ∙ k .1,
-          ap (λ (d : Desk). d .need) (o .desk) ∙ k .2 ∙ l .stage .need (λ q. omega arith),
+          ap (λ (d : Desk). d .battle .stage) (o .desk) ∙ k .0 ∙ e,
+          ap (λ (d : Desk). d .battle .owed) (o .desk) ∙ k .1,
+          ap (λ (d : Desk). d .battle .need) (o .desk) ∙ k .2 ∙ l .stage .need (λ q. omega arith),
         )
 
     lighter : Lighter b c

@@ -90,10 +90,10 @@ module _ {p q : List ℕ} (s : Shaped p) (r a x y z : ℕ) (e : q ≡ make p (ro
 
   routed-group : (h : ℕ) → group (board q) h ≡ group (board p) h
   unfolding group owesAt
-  routed-group h = ap (λ (t : Units). sieve (λ u. eqb (t .role u) 1 && eqb (t .hex u) h) (t .count)) routed-units
+  routed-group h = ap (λ (t : Units). sieve (λ u. eqb (t .state .role u) 1 && eqb (t .state .hex u) h) (t .count)) routed-units
 
   leaves-routed : (end u : ℕ) → leaves (board q) end u ≡ leaves (board p) end u
-  leaves-routed end u = leaves-same (board p) (board q) end u (ap (λ (t : Units). t .kind) routed-units)
+  leaves-routed end u = leaves-same (board p) (board q) end u (ap (λ (t : Units). t .counter .kind) routed-units)
 
   goes-routed : (end : ℕ) (us : List ℕ) → goesOff (board q) end us ≡ goesOff (board p) end us
   unfolding goesOff

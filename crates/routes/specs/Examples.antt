@@ -35,13 +35,8 @@ watched =
       units =
           record {
             count = 3;
-            nationality = λ u. u;
-            kind = λ u. 2;
-            hex = standing;
-            shown = λ u. 0;
-            allowance = λ u. 0;
-            marks = λ u. 0;
-            role = λ u. 0;
+            counter = record { nationality = λ u. u; kind = λ u. 2; allowance = λ u. 0 };
+            state = record { hex = standing; shown = λ u. 0; marks = λ u. 0; role = λ u. 0 };
           };
       desk = plain .desk;
     }

@@ -36,15 +36,17 @@ plain =
       units =
           record {
             count = 0;
-            nationality = λ u. 0;
-            kind = λ u. 0;
-            hex = λ u. nowhere;
-            shown = λ u. 0;
-            allowance = λ u. 0;
-            marks = λ u. 0;
-            role = λ u. 0;
+            counter = record { nationality = λ u. 0; kind = λ u. 0; allowance = λ u. 0 };
+            state = record { hex = λ u. nowhere; shown = λ u. 0; marks = λ u. 0; role = λ u. 0 };
           };
-      desk = record { turn = 1; lastTurn = 1; force = 0; phase = 1; stage = 1; owed = 2; need = 0; route = λ r j. nowhere; player = λ f. f };
+      desk =
+          record {
+            clock = record { turn = 1; force = 0; phase = 1 };
+            lastTurn = 1;
+            battle = record { stage = 1; owed = 2; need = 0 };
+            route = λ r j. nowhere;
+            player = λ f. f;
+          };
     }
 
 -- "from 12, D2, route 7, 2 is legal by distance, 7, 8 is not"

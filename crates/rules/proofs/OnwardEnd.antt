@@ -49,7 +49,7 @@ module _ {b : Board} (l : Lawful b) (e : b .desk .battle .stage ≡ 0) (more : i
   end-phases = rw (end-desk b) next-phases
 
   end-quiet : battleLeft (changes b (endChanges b)) ≡ 0
-  end-quiet = left-quiet (changes b (endChanges b)) (ap (λ (d : Desk). d .stage) (end-desk b) ∙ e)
+  end-quiet = left-quiet (changes b (endChanges b)) (ap (λ (d : Desk). d .battle .stage) (end-desk b) ∙ e)
 
   end-falls : left (changes b (endChanges b)) < left b
   unfolding left

@@ -59,7 +59,7 @@ module _
     (later : (holders c 1 ≡ 0 → ⊥) → battleLeft c < battleLeft b) where
   phases-since : phasesLeft c ≡ phasesLeft b
   unfolding phasesLeft
-  phases-since = rw (s .clock .turn, s .clock .force, s .clock .phase, s .fixed .lastTurn) refl
+  phases-since = rw (s .clock, s .fixed .lastTurn) refl
 
   falls-passed : left (changes c (passesOn c)) < left b
   unfolding left

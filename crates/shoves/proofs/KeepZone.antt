@@ -11,7 +11,7 @@ use Rattle.position.specs.Tally.{any}
 use Rattle.position.specs.Board.{Board, Map, enemy, forceOf}
 use Rattle.position.specs.Ground.{beside, side}
 use Rattle.position.proofs.Tallies.{any-same, either, same-or}
-use Rattle.acceptance.proofs.Carries.{Fixed, standable-by}
+use Rattle.acceptance.proofs.Carries.{Fixed, nationality-by, kind-by, standable-by}
 use Rattle.field.specs.Scene.{Scene, forceIn}
 use Rattle.field.specs.Zone.{standsOn, ownOn, casterOn, holdsCaster, casterAt, castsOver, casts, enemyCasts, enemyZone}
 use Rattle.field.proofs.Zones.{force-in, enemy-other}
@@ -84,8 +84,8 @@ bears-same {b} {c} f x o h =
     (record {
       map = x .map;
       count = x .count;
-      nationality = x .nationality;
-      kind = x .kind;
+      nationality = nationality-by x;
+      kind = kind-by x;
       foe = λ g. ap (λ (q : ℕ → ℕ). not (eqb (q f) (q g))) (x .players);
       other = enemy-other b f;
       hex = λ w l n. o w l (λ z. n (sym (force-in b w) ∙ z));

@@ -13,9 +13,9 @@ use Rattle.position.specs.Ground.{next}
 use Rattle.position.specs.Crowd.{owesAt}
 use Rattle.position.proofs.Tallies.{not-both, same-or}
 use Rattle.acceptance.specs.Accepted.{UnitsOk}
-use Rattle.acceptance.proofs.Carries.{Fixed, force-by}
+use Rattle.acceptance.proofs.Carries.{Fixed, kind-by, force-by}
 use Rattle.acceptance.proofs.Owings.{owes-hex, owes-role}
-use Rattle.acceptance.proofs.Since.{Since, one-clock-refl}
+use Rattle.acceptance.proofs.Since.{Since}
 use Rattle.acceptance.proofs.Stills.{fixed-refl}
 use Rattle.field.specs.Listed.{named}
 use Rattle.field.specs.Scene.{scene}
@@ -84,7 +84,7 @@ retreats-by {u = u} k r e =
       counted = omega (arith, k .count, r .counted);
       owes = e;
       own = force-by k u ∙ r .own;
-      kind = λ q. r .kind (sym (ap (λ (g : ℕ → ℕ). g u) (k .kind)) ∙ q);
+      kind = λ q. r .kind (sym (ap (λ (g : ℕ → ℕ). g u) (kind-by k)) ∙ q);
     }
 
 -- board c, where the group of unit u has come to hex x, and the hexes are s to it
@@ -175,7 +175,7 @@ module _ {o : Board} (small : o .map .hexes ≤ nowhere) (f start u : ℕ) where
 -- both directions, from the first board on
 pub played-right : PlayedRight
 played-right b units routes small f start i a u r z route pushes =
-    let k : Since b b = record { fixed = fixed-refl b; clock = one-clock-refl (b .desk); units = units; routes = routes } in
+    let k : Since b b = record { fixed = fixed-refl b; clock = refl; units = units; routes = routes } in
     (λ s. series-played small f start u k r z s refl, λ p. played-series small f start u k r z p)
 
 -- and from the start of a retreat

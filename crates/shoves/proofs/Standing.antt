@@ -10,7 +10,7 @@ use Rattle.position.specs.Board.{Board, forceOf}
 use Rattle.position.specs.Crowd.{owesAt}
 use Rattle.position.specs.Tally.{any}
 use Rattle.position.proofs.Tallies.{any-false, any-never, any-same, any-some, any-true, both-yes, either, neither, not-both, same-or}
-use Rattle.acceptance.proofs.Carries.{Fixed, force-by}
+use Rattle.acceptance.proofs.Carries.{Fixed, kind-by, force-by}
 use Rattle.field.specs.Scene.{scene}
 use Rattle.field.specs.Zone.{standsOn, vacant}
 use Rattle.field.proofs.Zones.{stands-here, stands-off}
@@ -47,7 +47,7 @@ is-light b f u l =
 
 pub firm-same : {b c : Board} (f u : ℕ) → Fixed b c → c .units .state .role u ≡ b .units .state .role u → firm c f u ≡ firm b f u
 unfolding firm
-firm-same f u x e = simp (force-by x u, ap (λ (q : ℕ → ℕ). q u) (x .kind), e)
+firm-same f u x e = simp (force-by x u, ap (λ (q : ℕ → ℕ). q u) (kind-by x), e)
 
 module _ (b : Board) (a h w : ℕ) where
   -- elsewhere than in the group's hex every unit is apart

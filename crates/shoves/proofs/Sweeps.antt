@@ -17,6 +17,7 @@ use Rattle.position.proofs.Changes.{board-makes, laid-makes, makes-then}
 use Rattle.position.proofs.Effects.{upd-else}
 use Rattle.position.proofs.Tallies.{either}
 use Rattle.acceptance.proofs.Fates.{Same, assigned-else, destroyed-else}
+use Rattle.acceptance.proofs.Carries.{kind-by, kind-by}
 use Rattle.acceptance.proofs.Stills.{fixed-changes}
 use Rattle.field.specs.Listed.{sieve}
 use Rattle.field.specs.Scene.{scene}
@@ -72,7 +73,7 @@ module _ {t : Board → ℕ → Bool} {g : ℕ → List Change} {p : List ℕ} {
               ap (λ (b : Board). t b w) z
               ∙ a .same (board q) (changes (board q) (g u)) w (i .off (board q) u w (λ y. omega arith))
               ∙ o .ahead w (omega arith);
-          kinds = ap (λ (b : Board). b .units .counter .kind) z ∙ fixed-changes (g u) (board q) .kind ∙ o .kinds;
+          kinds = ap (λ (b : Board). b .units .counter .kind) z ∙ kind-by (fixed-changes (g u) (board q)) ∙ o .kinds;
         }
 
     miss : t (board p) u ≡ false → r ≡ q → Sweep t g p v (u + 1) r
