@@ -16,7 +16,7 @@ use Rattle.grid.specs.declared.Beside.the-variants.{At}
 use Rattle.position.proofs.Tallies.{same-or}
 use Rattle.walk.specs.Chain.{mark, Chain, OneIf, Reached}
 use Rattle.walk.specs.Chain.Chain.{source, beside}
-use Rattle.walk.specs.Trail.{enteredBy, Ready, Step, Last, Faith, Rest, Kept, Flooded, Seeded, Done, Settled}
+use Rattle.walk.specs.Trail.{enteredBy, Ready, Step, Last, Faith, Rest, Kept, Flooded, SourceFrom, Seeded, Done, Settled}
 use Rattle.walk.specs.Trail.Step.{down, back}
 use Rattle.walk.proofs.Marks.{le-or, mark-set, mark-in, weigh, weigh-less}
 use Rattle.position.proofs.Sides.{off-at}
@@ -145,18 +145,51 @@ pub record Seeding (next : ℕ → ℕ → Beside) (l : List ℕ) (i : ℕ) (buf
   pub none : (k : ℕ) → k < i → mark buf k ≡ 2 → ⊥
   pub most : i ≤ length buf
 
+-- the same, and hex i is a source itself, if any is left
+pub record Sowing (next : ℕ → ℕ → Beside) (l : List ℕ) (i : ℕ) (buf : List ℕ) : Type 0 where
+  pub past : Seeding next l i buf
+  pub there : i < length buf → mark buf i ≡ 2
+
+-- no source is left below hex i of the marks f
+pub record Sought (f : ℕ → ℕ) (a n i : ℕ) : Type 0 where
+  pub after : a ≤ i
+  pub most : i ≤ n
+  pub none : (k : ℕ) → a ≤ k → k < i → f k ≡ 2 → ⊥
+
+module _ {f : ℕ → ℕ} {a n : ℕ} where
+  pub sought-none : a ≤ n → Sought f a n a
+  sought-none p = record { after = omega arith; most = p; none = λ k q r. absurd (omega arith) }
+
+  pub sought-pass : {i : ℕ} → Sought f a n i → i < n → (f i ≡ 2 → ⊥) → Sought f a n (i + 1)
+  sought-pass {i} s p m =
+      record {
+        after = omega (arith, s .after);
+        most = omega arith;
+        none = λ k q r c. same-or k i (λ e. m (ap f (sym e) ∙ c)) (λ d. s .none k q (omega arith) c);
+      }
+
+  pub sought-found : {i : ℕ} → Sought f a n i → f i ≡ 2 → SourceFrom f a n i
+  sought-found s e = record { after = s .after; most = s .most; none = s .none; there = λ p. e }
+
+  pub sought-all : {i : ℕ} → Sought f a n i → n ≤ i → SourceFrom f a n i
+  sought-all s p = record { after = s .after; most = s .most; none = s .none; there = λ q. absurd (omega arith) }
+
 module _ {next : ℕ → ℕ → Beside} {l : List ℕ} where
   pub seed-none : Rest next (mark l) → Seeding next l 0 l
   seed-none c = record { kept = kept-refl l; rest = c; none = λ k p. absurd (omega arith); most = omega arith }
 
-  pub seed-pass : {i : ℕ} {buf out : List ℕ} → out ≡ buf → i < length buf → Seeding next l i buf → (mark buf i ≡ 2 → ⊥) → Seeding next l (i + 1) out
-  seed-pass {i} {buf} e p s n =
+  -- hex r is the next source
+  pub seed-from : {i r : ℕ} {buf out : List ℕ} → out ≡ buf → Seeding next l i buf → SourceFrom (mark buf) i (length buf) r → Sowing next l r out
+  seed-from {i} {r} {buf} e s f =
       rw e
       (record {
-        kept = s .kept;
-        rest = s .rest;
-        none = below-more (λ k. mark buf k ≡ 2 → ⊥) i (s .none) n;
-        most = omega arith;
+        past = record {
+          kept = s .kept;
+          rest = s .rest;
+          none = λ k q c. le-or i k (λ p. f .none k p q c) (λ p. s .none k p c);
+          most = f .most;
+        };
+        there = f .there;
       })
 
   pub seed-turn :

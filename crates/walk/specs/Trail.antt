@@ -120,12 +120,20 @@ pub record Kept (next : ℕ → ℕ → Beside) (l out : List ℕ) : Type 0 wher
   pub grown : (k : ℕ) → mark out k < 8 → mark out k ≡ mark l k
   pub faith : (f₀ : ℕ → ℕ) → Faith next f₀ (mark l) → Faith next f₀ (mark out)
 
--- what a walk from the source a leaves, and what the walks from all sources leave
+-- what a walk from the source a leaves
 pub record Flooded (next : ℕ → ℕ → Beside) (l : List ℕ) (a : ℕ) (out : List ℕ) : Type 0 where
   pub kept : Kept next l out
   pub rest : Rest next (mark out)
   pub start : 8 ≤ mark out a
 
+-- hex r is the first source from hex a on; it is n, the number of hexes, where none is left
+pub record SourceFrom (f : ℕ → ℕ) (a n r : ℕ) : Type 0 where
+  pub after : a ≤ r
+  pub most : r ≤ n
+  pub none : (k : ℕ) → a ≤ k → k < r → f k ≡ 2 → ⊥
+  pub there : r < n → f r ≡ 2
+
+-- what the walks from all sources leave
 pub record Seeded (next : ℕ → ℕ → Beside) (l out : List ℕ) : Type 0 where
   pub kept : Kept next l out
   pub rest : Rest next (mark out)

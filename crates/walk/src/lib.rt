@@ -5,12 +5,13 @@ mod look;
 mod step;
 
 ghost use mathlib.Core.Path.{_≡_};
+ghost use Prim.Native.Nat.{_≤_};
 ghost use lib.ListN.{length};
 ghost use Rattle.position.specs.Board.{ground};
 ghost use Rattle.position.specs.Ground.{next};
 ghost use Rattle.position.specs.Laid.{Laid};
 ghost use Rattle.walk.specs.Chain.{mark, Reached, Graded};
-ghost use Rattle.walk.specs.Trail.{Rest, Flooded, Seeded, Settled};
+ghost use Rattle.walk.specs.Trail.{Rest, Flooded, SourceFrom, Seeded, Settled};
 use grid::Spot;
 use grid::near;
 use position::View;
@@ -41,6 +42,21 @@ fn flood(p: &[u8], v: View, buf: &mut [u8], start: usize)
     }
 }
 
+// The first source from hex `from` on, the number of hexes if there is none.
+fn source(buf: &[u8], from: usize) -> usize
+    requires { ⌜ from ≤ length (now buf) ⌝ }
+    ensures { λ r. ⌜ SourceFrom (mark (now (buf .entry))) from (length (now (buf .entry))) r ⌝ }
+{
+    let mut i = from;
+    while i < buf.len() {
+        if buf[i] == 2 {
+            return i;
+        }
+        i += 1;
+    }
+    i
+}
+
 // The walks from all sources.
 fn seeds(p: &[u8], v: View, buf: &mut [u8])
     requires { ⌜ Laid (now p) v ⌝ }
@@ -48,12 +64,10 @@ fn seeds(p: &[u8], v: View, buf: &mut [u8])
     requires { ⌜ Rest (next (ground (now p))) (mark (now buf)) ⌝ }
     ensures { λ _. ⌜ Seeded (next (ground (now (p .entry)))) (now (buf .entry)) (now (buf .exit)) ⌝ }
 {
-    let mut i = 0;
+    let mut i = source(buf, 0);
     while i < buf.len() {
-        if buf[i] == 2 {
-            flood(p, v, buf, i);
-        }
-        i += 1;
+        flood(p, v, buf, i);
+        i = source(buf, i + 1);
     }
 }
 
