@@ -66,3 +66,10 @@ unfolding emptied
 all-emptied {i} {l} {m} s le =
     ext-getD 0 m (replicate (length l) 0) (s .long ∙ sym (length-replicate (length l) 0))
     (λ h hl. pass-all s le h (omega (arith, s .long)) ∙ sym (byte-empty (length l) h))
+
+-- a buffer of n zeros
+pub blank-long : {l : List ℕ} (n : ℕ) → l ≡ replicate n 0 → length l ≡ n
+blank-long {l} n e = ap length e ∙ length-replicate {A = ℕ} n 0
+
+pub blank-all : {l : List ℕ} (n : ℕ) → l ≡ replicate n 0 → l ≡ replicate (length l) 0
+blank-all {l} n e = e ∙ ap (λ (k : ℕ). replicate k 0) (sym (blank-long n e))

@@ -82,12 +82,11 @@ fn paint_units(p: &[u8], v: View, at: Frame, f: usize, from: usize, to: usize, b
     }
 }
 
-// Everything that force `f` asks of the frame's hexes, whatever the buffer held before.
-pub fn paint(p: &[u8], v: View, at: Frame, f: usize, buf: &mut [u8])
-    requires { ⌜ Laid (now p) v × Room v at (now buf) ⌝ }
+// Everything that force `f` asks of the frame's hexes, in a buffer of zeros.
+pub fn paint_blank(p: &[u8], v: View, at: Frame, f: usize, buf: &mut [u8])
+    requires { ⌜ Laid (now p) v × Room v at (now buf) × (now buf ≡ replicate (length (now buf)) 0) ⌝ }
     ensures { λ _. ⌜ Shows (scene (board (now (p .entry)))) f at (now (buf .exit)) ⌝ }
 {
-    clear(buf);
     paint_units(
         p,
         v,
@@ -99,12 +98,21 @@ pub fn paint(p: &[u8], v: View, at: Frame, f: usize, buf: &mut [u8])
     );
 }
 
-// The marks of one hex, in a buffer of its own.
+// The same, whatever the buffer held before.
+pub fn paint(p: &[u8], v: View, at: Frame, f: usize, buf: &mut [u8])
+    requires { ⌜ Laid (now p) v × Room v at (now buf) ⌝ }
+    ensures { λ _. ⌜ Shows (scene (board (now (p .entry)))) f at (now (buf .exit)) ⌝ }
+{
+    clear(buf);
+    paint_blank(p, v, at, f, buf);
+}
+
+// The marks of one hex, in a blank buffer of its own.
 fn look_in(p: &[u8], v: View, f: usize, h: usize, buf: &mut [u8]) -> usize
-    requires { ⌜ Laid (now p) v × (h < v .hexes) × (length (now buf) ≡ 1) ⌝ }
+    requires { ⌜ Laid (now p) v × (h < v .hexes) × (now buf ≡ replicate 1 0) ⌝ }
     ensures { λ r. ⌜ Marked (scene (board (now (p .entry)))) f h r ⌝ }
 {
-    paint(p, v, frame::one(near::spot(v.width, v.height, h)), f, buf);
+    paint_blank(p, v, frame::one(near::spot(v.width, v.height, h)), f, buf);
     layout::wide(buf[0])
 }
 

@@ -5,7 +5,7 @@ mod window;
 
 ghost use mathlib.Core.Path.{_≡_};
 ghost use Prim.Native.Nat.{_<_, _≤_};
-ghost use lib.ListN.{length};
+ghost use lib.ListN.{length, replicate};
 ghost use Rattle.position.specs.Board.{board};
 ghost use Rattle.position.specs.Laid.{Laid};
 ghost use Rattle.routes.specs.Outlook.{OutlookOf, Tested};
@@ -77,7 +77,7 @@ fn tell(
     Outlook::Illegal
 }
 
-// What a window round the start tells, which is painted first.
+// What a window round the start tells, which is painted first into a blank one.
 fn judge_by(
     p: &[u8],
     v: View,
@@ -87,11 +87,11 @@ fn judge_by(
     route: &[u16],
     room: &mut [u8],
 ) -> Outlook
-    requires { ⌜ Laid (now p) v × (start < v .hexes) × (1 ≤ n) × (n ≤ 3) × (length (now room) ≡ 49) ⌝ }
+    requires { ⌜ Laid (now p) v × (start < v .hexes) × (1 ≤ n) × (n ≤ 3) × (now room ≡ replicate 49 0) ⌝ }
     ensures { λ r. ⌜ OutlookOf (board (now (p .entry))) f start n (now (route .entry)) r ⌝ }
 {
     let at = window::around(v, near::spot(v.width, v.height, start));
-    paint::paint(p, v, at, f, room);
+    paint::paint_blank(p, v, at, f, room);
     tell(p, v, at, room, f, start, n, route)
 }
 

@@ -1,45 +1,27 @@
--- `paint` meets its contract: on the cleared buffer the units show the frame.
+-- `paint` meets its contract: the buffer is cleared first.
 -- Assumes nothing.
-use Prim.Native.Nat.{ℕ}
-use mathlib.Core.Path.{ap, _∙_}
-use lib.ListN.{length, length-replicate}
-use Rattle.position.specs.Board.{board}
-use Rattle.field.specs.Scene.{scene}
-use Rattle.paint.proofs.Frames.{room-kept}
-use Rattle.paint.proofs.Units.{painted}
+use lib.ListN.{length}
 use borrow.Author.Needs.{needs}
+use Rattle.paint.proofs.Bytes.{blank-long, blank-all}
+use Rattle.paint.proofs.Frames.{room-kept}
 use Rattle.paint.proofs.paint.Statement.{statement}
 use Rattle.paint.proofs.paint.Tie as tie
 
 clear-requires : tie.Need-clear-requires
 clear-requires c κs = search needs
 
-first-requires : tie.Need-first-requires
-first-requires c κs =
-    let outset = c .before .before .before .before .before .before in
-    (outset .pre .0, outset .pre .1 .frame)
-
-past-requires : tie.Need-past-requires
-past-requires c κs =
+paint-blank-requires : tie.Need-paint-blank-requires
+paint-blank-requires c κs =
     let outset = c .before .before .before .before .before .before .before in
-    (outset .pre .0, outset .pre .1 .frame)
-
-paint-units-requires : tie.Need-paint-units-requires
-paint-units-requires c κs =
-    let outset = c .before .before .before .before .before .before .before .before .before in
-    (outset .pre .0, room-kept (outset .pre .1) (ap length (c .before .before .before .before .before .clear .ensures) ∙ length-replicate {A = ℕ} _ 0), c .before .before .first .ensures, c .before .past .ensures)
+    let e = c .before .before .before .clear .ensures in
+    let n = length (outset .args .buf .now) in
+    (outset .pre .0, room-kept (outset .pre .1) (blank-long n e), blank-all n e)
 
 same-length : tie.Need-same-length
-same-length c = c .before .before .paint-units .ensures .long ∙ ap length (c .before .before .before .before .before .before .before .before .clear .ensures) ∙ length-replicate {A = ℕ} _ 0
+same-length c = search needs
 
 returns : tie.Need-returns
-returns c =
-    let outset = c .before .before .before .before .before .before .before .before .before .before .before .before in
-    let a = outset .args in
-    let b = board (a .p .now) in
-    painted (scene b) (a .f) (length (a .buf .now)) (c .before .before .before .before .before .before .before .before .clear .ensures) (outset .pre .0 .view .count) (rw (outset .pre .0 .view .width) at (c .before .before .paint-units .ensures))
+returns c = search needs
 
 pub paint-spec : {M : Type 1} → statement M
-paint-spec =
-    tie.close
-    (tie.spec clear-requires first-requires past-requires paint-units-requires same-length returns)
+paint-spec = tie.close (tie.spec clear-requires paint-blank-requires same-length returns)
