@@ -16,7 +16,8 @@ mod routes_ok;
 mod stacks_ok;
 mod units_ok;
 
-// All that the board shows.
+// All that the board shows. The units come last: the compiled check then keeps their table in a frame of its own, which is gone while the
+// routes are followed.
 fn lawful(p: &[u8], v: View) -> bool
     requires { ⌜ Laid (now p) v ⌝ }
     ensures { λ r. ⌜ Says r (Lawful (board (now (p .entry)))) ⌝ }
@@ -30,9 +31,6 @@ fn lawful(p: &[u8], v: View) -> bool
     if !map_ok::map_ok(p, v) {
         return false;
     }
-    if !units_ok::units_ok(p, v) {
-        return false;
-    }
     if !desk_ok::clock_ok(p, v) {
         return false;
     }
@@ -43,6 +41,9 @@ fn lawful(p: &[u8], v: View) -> bool
         return false;
     }
     if !routes_ok::routes_ok(p, v) {
+        return false;
+    }
+    if !units_ok::units_ok(p, v) {
         return false;
     }
     true

@@ -1,4 +1,4 @@
--- `position::lawful` meets its contract: all eight questions are asked.
+-- `lawful` meets its contract: all eight questions are asked.
 -- Assumes nothing.
 use borrow.Author.Needs.{needs}
 use Rattle.position.proofs.Answers.{said, unsaid}
@@ -23,35 +23,35 @@ map-ok-requires c κs = search needs
 returns-3 : tie.Need-returns-3
 returns-3 c = λ t. unsaid (c .before .map-ok .result) (c .if3 .taken) (c .before .map-ok .ensures) (t .map)
 
-units-ok-requires : tie.Need-units-ok-requires
-units-ok-requires c κs = search needs
-
-returns-4 : tie.Need-returns-4
-returns-4 c = λ t. unsaid (c .before .units-ok .result) (c .if4 .taken) (c .before .units-ok .ensures) (t .units)
-
 clock-ok-requires : tie.Need-clock-ok-requires
 clock-ok-requires c κs = search needs
 
-returns-5 : tie.Need-returns-5
-returns-5 c = λ t. unsaid (c .before .clock-ok .result) (c .if5 .taken) (c .before .clock-ok .ensures) (t .clock)
+returns-4 : tie.Need-returns-4
+returns-4 c = λ t. unsaid (c .before .clock-ok .result) (c .if4 .taken) (c .before .clock-ok .ensures) (t .clock)
 
 players-ok-requires : tie.Need-players-ok-requires
 players-ok-requires c κs = search needs
 
-returns-6 : tie.Need-returns-6
-returns-6 c = λ t. unsaid (c .before .players-ok .result) (c .if6 .taken) (c .before .players-ok .ensures) (t .players)
+returns-5 : tie.Need-returns-5
+returns-5 c = λ t. unsaid (c .before .players-ok .result) (c .if5 .taken) (c .before .players-ok .ensures) (t .players)
 
 stage-ok-requires : tie.Need-stage-ok-requires
 stage-ok-requires c κs = search needs
 
-returns-7 : tie.Need-returns-7
-returns-7 c = λ t. unsaid (c .before .stage-ok .result) (c .if7 .taken) (c .before .stage-ok .ensures) (t .stage)
+returns-6 : tie.Need-returns-6
+returns-6 c = λ t. unsaid (c .before .stage-ok .result) (c .if6 .taken) (c .before .stage-ok .ensures) (t .stage)
 
 routes-ok-requires : tie.Need-routes-ok-requires
 routes-ok-requires c κs = search needs
 
+returns-7 : tie.Need-returns-7
+returns-7 c = λ t. unsaid (c .before .routes-ok .result) (c .if7 .taken) (c .before .routes-ok .ensures) (t .routes)
+
+units-ok-requires : tie.Need-units-ok-requires
+units-ok-requires c κs = search needs
+
 returns-8 : tie.Need-returns-8
-returns-8 c = λ t. unsaid (c .before .routes-ok .result) (c .if8 .taken) (c .before .routes-ok .ensures) (t .routes)
+returns-8 c = λ t. unsaid (c .before .units-ok .result) (c .if8 .taken) (c .before .units-ok .ensures) (t .units)
 
 returns-9 : tie.Need-returns-9
 returns-9 c =
@@ -66,11 +66,11 @@ returns-9 c =
       chart = said (q1 .before .chart-ok .result) (q1 .if1 .left) (q1 .before .chart-ok .ensures);
       results = said (q2 .before .results-ok .result) (q2 .if2 .left) (q2 .before .results-ok .ensures);
       map = said (q3 .before .map-ok .result) (q3 .if3 .left) (q3 .before .map-ok .ensures);
-      units = said (q4 .before .units-ok .result) (q4 .if4 .left) (q4 .before .units-ok .ensures);
-      clock = said (q5 .before .clock-ok .result) (q5 .if5 .left) (q5 .before .clock-ok .ensures);
-      players = said (q6 .before .players-ok .result) (q6 .if6 .left) (q6 .before .players-ok .ensures);
-      stage = said (q7 .before .stage-ok .result) (q7 .if7 .left) (q7 .before .stage-ok .ensures);
-      routes = said (c .before .routes-ok .result) (c .if8 .left) (c .before .routes-ok .ensures);
+      units = said (c .before .units-ok .result) (c .if8 .left) (c .before .units-ok .ensures);
+      clock = said (q4 .before .clock-ok .result) (q4 .if4 .left) (q4 .before .clock-ok .ensures);
+      players = said (q5 .before .players-ok .result) (q5 .if5 .left) (q5 .before .players-ok .ensures);
+      stage = said (q6 .before .stage-ok .result) (q6 .if6 .left) (q6 .before .stage-ok .ensures);
+      routes = said (q7 .before .routes-ok .result) (q7 .if7 .left) (q7 .before .routes-ok .ensures);
     }
 
 pub lawful-spec : {M : Type 1} → statement M
@@ -83,14 +83,14 @@ lawful-spec =
     returns-2
     map-ok-requires
     returns-3
-    units-ok-requires
-    returns-4
     clock-ok-requires
-    returns-5
+    returns-4
     players-ok-requires
-    returns-6
+    returns-5
     stage-ok-requires
-    returns-7
+    returns-6
     routes-ok-requires
+    returns-7
+    units-ok-requires
     returns-8
     returns-9)

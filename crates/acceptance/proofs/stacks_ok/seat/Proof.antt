@@ -1,8 +1,9 @@
--- `stacks_ok::seat` meets its contract: the unit stands elsewhere, or its hex's byte says whether there is room.
+-- `stacks_ok::seat` meets its contract: the unit stands elsewhere, or its hex's half of a byte says whether there is room.
 -- Assumes nothing.
+use Prim.Native.Nat.{_<_}
 use native.Mathlib.Omega.{arith}
+use Rattle.acceptance.proofs.Seating.{seated-past, seated-of, adds-fits, counts-low, counts-high, refused-low, refused-high}
 use borrow.Author.Needs.{needs}
-use Rattle.acceptance.proofs.Seating.{seated-past, seat-first, seat-joins, seat-strange, seat-fourth}
 use Rattle.acceptance.proofs.stacks_ok.seat.Statement.{statement}
 use Rattle.acceptance.proofs.stacks_ok.seat.Tie as tie
 
@@ -15,23 +16,23 @@ returns c = record { on = λ g. seated-past g (λ k l e. omega (arith, c .before
 returns-2 : tie.Need-returns-2
 returns-2 c = record { on = λ g. seated-past g (λ k l e. omega (arith, c .before .before .hex .ensures .is, e)) }
 
+force-of-requires : tie.Need-force-of-requires
+force-of-requires c κs = search needs
+
 slice-read-wide : tie.Need-slice-read-wide
 slice-read-wide c = search needs
 
 wide-requires : tie.Need-wide-requires
 wide-requires c κs = search needs
 
-force-of-requires : tie.Need-force-of-requires
-force-of-requires c κs = search needs
-
-mul-seats : tie.Need-mul-seats
-mul-seats c = search needs
+adds-requires : tie.Need-adds-requires
+adds-requires c κs = search needs
 
 add-seats : tie.Need-add-seats
-add-seats c = search needs
+add-seats c = omega (arith, adds-fits (c .adds .ensures) (omega (arith, c .before .before .before .before .force-of .ensures, c .before .before .before .before .before .before .before .before .before .before .pre .2)) (omega arith), c .before .wide .ensures .small)
 
 cast-seats : tie.Need-cast-seats
-cast-seats c = search needs
+cast-seats c = omega (arith, adds-fits (c .adds .ensures) (omega (arith, c .before .before .before .before .force-of .ensures, c .before .before .before .before .before .before .before .before .before .before .pre .2)) (omega arith), c .before .wide .ensures .small)
 
 slice-write-seats : tie.Need-slice-write-seats
 slice-write-seats c = search needs
@@ -41,38 +42,29 @@ same-length c = search needs
 
 returns-3 : tie.Need-returns-3
 returns-3 c =
-    let f = c .before in
-    let x = f .before in
-    let h = x .before .before .before .before in
-    record {
-      on = λ g. seat-first g _ _ _ (omega arith) (omega (arith, h .hex .ensures .is)) (x .wide .ensures .is) (f .force-of .ensures)
-          (omega (arith, f .force-of .ensures, h .before .before .before .pre .2)) (c .if3 .taken);
-    }
+    let f = c .before .before .before .before .force-of .ensures in
+    let few : c .before .before .before .before .force-of .result < 4 = omega (arith, f, c .before .before .before .before .before .before .before .before .before .before .pre .2) in
+    seated-of (c .adds .result)
+    (λ p. record { on = counts-low _ _ _ _ (c .before .before .before .if3 .taken) (c .before .wide .ensures .is) f few (omega (arith, c .before .before .before .before .before .before .before .hex .ensures .is)) (c .adds .ensures) p })
+    (λ z. record { under = λ g o. refused-low _ _ _ _ (c .before .before .before .if3 .taken) (c .before .wide .ensures .is) f few z (omega arith) g o (omega (arith, c .before .before .before .before .before .before .before .hex .ensures .is)) (c .adds .ensures) })
 
-returns-4 : tie.Need-returns-4
-returns-4 c =
-    let f = c .before .before in
-    let x = f .before in
-    let h = x .before .before .before .before in
-    record {
-      under = λ g o. seat-strange g _ _ _ (omega arith) (omega (arith, h .hex .ensures .is)) (x .wide .ensures .is) (f .force-of .ensures) (omega arith) o
-          (c .before .if3 .left) (c .if4 .taken);
-    }
+slice-read-wide-2 : tie.Need-slice-read-wide-2
+slice-read-wide-2 c = search needs
 
-returns-5 : tie.Need-returns-5
-returns-5 c =
-    let f = c .before .before .before in
-    let x = f .before in
-    let h = x .before .before .before .before in
-    record {
-      under = λ g o. seat-fourth g _ _ _ (omega arith) (omega (arith, h .hex .ensures .is)) (x .wide .ensures .is) (f .force-of .ensures) (omega arith) o (c .if5 .taken);
-    }
+wide-requires-2 : tie.Need-wide-requires-2
+wide-requires-2 c κs = search needs
+
+adds-requires-2 : tie.Need-adds-requires-2
+adds-requires-2 c κs = search needs
+
+mul-seats : tie.Need-mul-seats
+mul-seats c = omega (arith, adds-fits (c .adds2 .ensures) (omega (arith, c .before .before .before .before .force-of .ensures, c .before .before .before .before .before .before .before .before .before .before .pre .2)) (omega (arith, c .before .wide2 .ensures .small)))
 
 add-seats-2 : tie.Need-add-seats-2
-add-seats-2 c = search needs
+add-seats-2 c = omega (arith, adds-fits (c .adds2 .ensures) (omega (arith, c .before .before .before .before .force-of .ensures, c .before .before .before .before .before .before .before .before .before .before .pre .2)) (omega (arith, c .before .wide2 .ensures .small)), c .before .wide2 .ensures .small)
 
 cast-seats-2 : tie.Need-cast-seats-2
-cast-seats-2 c = search needs
+cast-seats-2 c = omega (arith, adds-fits (c .adds2 .ensures) (omega (arith, c .before .before .before .before .force-of .ensures, c .before .before .before .before .before .before .before .before .before .before .pre .2)) (omega (arith, c .before .wide2 .ensures .small)), c .before .wide2 .ensures .small)
 
 slice-write-seats-2 : tie.Need-slice-write-seats-2
 slice-write-seats-2 c = search needs
@@ -80,14 +72,13 @@ slice-write-seats-2 c = search needs
 same-length-2 : tie.Need-same-length-2
 same-length-2 c = search needs
 
-returns-6 : tie.Need-returns-6
-returns-6 c =
-    let f = c .before .before .before in
-    let x = f .before in
-    let h = x .before .before .before .before in
-    record {
-      on = λ g. seat-joins g _ _ _ (omega arith) (omega (arith, h .hex .ensures .is)) (x .wide .ensures .is) (f .force-of .ensures) (omega arith) (c .if5 .left);
-    }
+returns-4 : tie.Need-returns-4
+returns-4 c =
+    let f = c .before .before .before .before .force-of .ensures in
+    let few : c .before .before .before .before .force-of .result < 4 = omega (arith, f, c .before .before .before .before .before .before .before .before .before .before .pre .2) in
+    seated-of (c .adds2 .result)
+    (λ p. record { on = counts-high _ _ _ _ (omega arith) (c .before .wide2 .ensures .is) f few (omega (arith, c .before .before .before .before .before .before .before .hex .ensures .is)) (c .adds2 .ensures) p })
+    (λ z. record { under = λ g o. refused-high _ _ _ _ (omega arith) (c .before .wide2 .ensures .is) f few z (omega arith) g o (omega (arith, c .before .before .before .before .before .before .before .hex .ensures .is)) (c .adds2 .ensures) })
 
 pub seat-spec : {M : Type 1} → statement M
 seat-spec =
@@ -96,19 +87,21 @@ seat-spec =
     hex-requires
     returns
     returns-2
+    force-of-requires
     slice-read-wide
     wide-requires
-    force-of-requires
-    mul-seats
+    adds-requires
     add-seats
     cast-seats
     slice-write-seats
     same-length
     returns-3
-    returns-4
-    returns-5
+    slice-read-wide-2
+    wide-requires-2
+    adds-requires-2
+    mul-seats
     add-seats-2
     cast-seats-2
     slice-write-seats-2
     same-length-2
-    returns-6)
+    returns-4)
