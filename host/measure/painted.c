@@ -1,25 +1,17 @@
-/* Makes each call that it reads on a painted stack of its own and prints how much of it the call used.
-   A line is a call's name and its arguments in C's order, each a number or, behind an x, a buffer's bytes in hex digits.
-   It answers with the name, the bytes of stack and the call's answer. Everything that a call puts on the stack counts:
-   arguments that have no register, the return address, and all below them. */
-#define _GNU_SOURCE
-#include "referee.h"
+/* Makes each call that it reads on a painted stack of its own and prints how much of it the call used: a line with the
+   name, the bytes of stack and the call's answer. Everything that a call puts on the stack counts: arguments that have
+   no register, the return address, and all below them.
+   The system call `getppid` before and after is a mark, between which `counter.c` counts instructions. The first two
+   have an empty function between them. The stack ends where a page does, so the counts are the same each time. */
+#include "calls.h"
 #include <stdio.h>
-#include <stdlib.h>
 #include <string.h>
+#include <unistd.h>
 
-enum { PAINT = 0xc5, STACK = 64 * 1024, WORDS = 8, IN_REGISTERS = 6 };
+enum { PAINT = 0xc5, STACK = 64 * 1024, IN_REGISTERS = 6 };
 
 /* Where there is a seventh or eighth argument both have a place, since the stack is kept even. */
 enum { ON_STACK = (WORDS - IN_REGISTERS) * sizeof(uint64_t) };
-
-static const struct {
-    const char *name;
-    void *function;
-} calls[] = {
-    {"supply", ia_supply},   {"move", ia_move},     {"end", ia_end_phase},     {"attack", ia_attack},
-    {"retreat", ia_retreat}, {"losses", ia_losses}, {"advance", ia_advance}, {"close", ia_close},
-};
 
 /* Calls a function with eight words, on the stack that ends at `top`. */
 uint64_t call_on(const void *function, const uint64_t *words, void *top);
@@ -45,53 +37,39 @@ __asm__(".pushsection .text\n"
         "    ret\n"
         ".popsection\n");
 
-static _Alignas(16) unsigned char stack[STACK];
+/* Does nothing but return: one instruction. */
+void empty(void);
+__asm__(".pushsection .text\n"
+        ".globl empty\n"
+        "empty:\n"
+        "    ret\n"
+        ".popsection\n");
 
-static void *named(const char *name) {
-    for (size_t i = 0; i < sizeof calls / sizeof *calls; i++) {
-        if (strcmp(calls[i].name, name) == 0) {
-            return calls[i].function;
-        }
-    }
-    fprintf(stderr, "painted: no call is named %s\n", name);
-    exit(2);
-}
+static _Alignas(4096) unsigned char stack[STACK];
 
-static unsigned digit(char c) { return c <= '9' ? (unsigned)(c - '0') : (unsigned)(c - 'a') + 10; }
-
-/* A buffer from its hex digits; the calls are few, so it is never freed. */
-static uint64_t buffer(const char *digits) {
-    size_t bytes = strlen(digits) / 2;
-    unsigned char *made = malloc(bytes + 1);
-    for (size_t i = 0; i < bytes; i++) {
-        made[i] = (unsigned char)(16 * digit(digits[2 * i]) + digit(digits[2 * i + 1]));
-    }
-    return (uint64_t)made;
-}
-
-static void measure(char *line) {
-    const char *name = strtok(line, " \n");
-    void *function = named(name);
-    uint64_t words[WORDS] = {0};
-    int count = 0;
-    for (char *word; count < WORDS && (word = strtok(NULL, " \n")) != NULL; count++) {
-        words[count] = *word == 'x' ? buffer(word + 1) : strtoull(word, NULL, 10);
-    }
+/* Kept out of line, so that the instructions around a call are the same each time. */
+__attribute__((noinline)) static uint64_t make(const struct call *call) {
     memset(stack, PAINT, STACK);
-    uint64_t answer = call_on(function, words, stack + STACK);
+    getppid();
+    uint64_t answer = call_on(call->function, call->words, stack + STACK);
+    getppid();
+    return answer;
+}
+
+static size_t used(const struct call *call) {
     size_t untouched = 0;
     while (stack[untouched] == PAINT) {
         untouched++;
     }
-    size_t used = STACK - untouched - (count > IN_REGISTERS ? 0 : ON_STACK);
-    printf("%s %zu %llu\n", name, used, (unsigned long long)answer);
+    return STACK - untouched - (call->count > IN_REGISTERS ? 0 : ON_STACK);
 }
 
 int main(void) {
-    char *line = NULL;
-    size_t room = 0;
-    while (getline(&line, &room, stdin) > 0) {
-        measure(line);
+    struct call call = {.function = empty};
+    make(&call);
+    while (next_call(&call)) {
+        uint64_t answer = make(&call);
+        printf("%s %zu %llu\n", call.name, used(&call), (unsigned long long)answer);
     }
     return 0;
 }

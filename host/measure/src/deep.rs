@@ -59,7 +59,7 @@ fn arguments(case: &Case) -> Vec<String> {
     }
 }
 
-/// The line that tells `painted.c` to make the call.
+/// The line that tells `calls.c` to make the call.
 pub fn line(case: &Case) -> String {
     format!("{} {}", case.order.call().name(), arguments(case).join(" "))
 }

@@ -5,6 +5,7 @@ pub mod cases;
 pub mod crowds;
 pub mod deep;
 pub mod disassembly;
+pub mod figures;
 pub mod frames;
 pub mod scenes;
 pub mod stagings;
