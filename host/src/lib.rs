@@ -33,6 +33,7 @@ pub mod results;
 pub mod retreat;
 pub mod retreat_cases;
 pub mod roster;
+pub mod samples;
 pub mod stages;
 pub mod supply;
 pub mod table;
