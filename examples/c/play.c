@@ -16,6 +16,16 @@ static uint8_t position[] = {
     255, 255, 255, 255, 255, 255, 255, 255, 255, 255, 255, 255, 255, 255, 255, 255, 255, 255,
     255, 255, 255, 255, 255, 255, 255, 255, 255, 255, 255, 255};
 
+/* Puts a unit on a hex. The fourth entry of the contents says where the units begin: two bytes of count, then eight for
+ * each unit, of which the third and fourth are its hex. */
+static void stand(unsigned unit, unsigned hex)
+{
+    unsigned units = position[12] + 256u * position[13];
+    uint8_t *at = position + units + 2 + 8 * unit + 2;
+    at[0] = (uint8_t)(hex % 256);
+    at[1] = (uint8_t)(hex / 256);
+}
+
 static void say(const char *call, uint64_t answer)
 {
     unsigned number = (unsigned)(answer & 255);
@@ -50,8 +60,7 @@ int main(void)
     say("move in combat", ia_move(position, sizeof position, 0, west, 2));
     say("attack on an empty hex", ia_attack(position, sizeof position, 1, infantry, 1, 3, map, sizeof map));
     /* The E.S.C. infantry is put on hex 1, beside the US infantry. */
-    position[94] = 1;
-    position[95] = 0;
+    stand(1, 1);
     say("attack", ia_attack(position, sizeof position, 1, infantry, 1, 3, map, sizeof map));
     say("no position", ia_end_phase(NULL, 0, NULL, 0));
     return 0;
