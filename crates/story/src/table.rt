@@ -81,7 +81,8 @@ fn stage(out: &mut Output, full: usize, d: Desk) -> usize {
         0 => page::text(out, full, b", no battle open"),
         1 => page::word(out, full, b", retreats owed, steps: ", d.owed),
         2 => page::word(out, full, b", losses owed: ", d.need),
-        _ => page::text(out, full, b", advances open"),
+        3 => page::text(out, full, b", advances open"),
+        _ => page::text(out, full, b", ?"),
     }
 }
 

@@ -1,4 +1,4 @@
-// The names of nationalities, forces, unit types, phases, marks, roles and results.
+// The names of nationalities, forces, unit types, phases, marks, roles and results. What has no name here is written as `?`.
 use page::Output;
 use position::bits;
 
@@ -8,7 +8,8 @@ pub fn nationality(out: &mut Output, full: usize, n: usize) -> usize {
         1 => page::text(out, full, b"E.S.C."),
         2 => page::text(out, full, b"P.A.L."),
         3 => page::text(out, full, b"US"),
-        _ => page::text(out, full, b"Canada"),
+        4 => page::text(out, full, b"Canada"),
+        _ => page::put(out, full, b'?'),
     }
 }
 
@@ -19,15 +20,17 @@ pub fn letter(n: usize) -> u8 {
         1 => b'E',
         2 => b'P',
         3 => b'U',
-        _ => b'C',
+        4 => b'C',
+        _ => b'?',
     }
 }
 
 // Force 3 is US and Canada, every other force a nationality.
 pub fn force(out: &mut Output, full: usize, f: usize) -> usize {
     match f {
+        0 | 1 | 2 => nationality(out, full, f),
         3 => page::text(out, full, b"US and Canada"),
-        _ => nationality(out, full, f),
+        _ => page::put(out, full, b'?'),
     }
 }
 
@@ -38,7 +41,8 @@ pub fn kind(out: &mut Output, full: usize, k: usize) -> usize {
         2 => page::text(out, full, b"infantry"),
         3 => page::text(out, full, b"militia"),
         4 => page::text(out, full, b"special infantry"),
-        _ => page::text(out, full, b"supply unit"),
+        5 => page::text(out, full, b"supply unit"),
+        _ => page::put(out, full, b'?'),
     }
 }
 
@@ -46,7 +50,8 @@ pub fn phase(out: &mut Output, full: usize, k: usize) -> usize {
     match k {
         0 => page::text(out, full, b"land movement"),
         1 => page::text(out, full, b"combat"),
-        _ => page::text(out, full, b"mechanised movement"),
+        2 => page::text(out, full, b"mechanised movement"),
+        _ => page::put(out, full, b'?'),
     }
 }
 
@@ -54,7 +59,8 @@ pub fn role(out: &mut Output, full: usize, k: usize) -> usize {
     match k {
         0 => full,
         1 => page::text(out, full, b", owes"),
-        _ => page::text(out, full, b", may advance"),
+        2 => page::text(out, full, b", may advance"),
+        _ => page::text(out, full, b", ?"),
     }
 }
 
@@ -84,6 +90,7 @@ pub fn result(out: &mut Output, full: usize, code: usize) -> usize {
         7 => page::text(out, full, b"Ae"),
         8 => page::text(out, full, b"De"),
         9 => page::text(out, full, b"Dx"),
-        _ => page::text(out, full, b"Ax"),
+        10 => page::text(out, full, b"Ax"),
+        _ => page::put(out, full, b'?'),
     }
 }

@@ -1,4 +1,5 @@
 // The words of each refusal: the one place for them. They depend on the call and the number, and for 3 on whether a place is named.
+// A refusal that a call does not give is written as `?`.
 use crate::Call;
 use page::Output;
 
@@ -10,7 +11,8 @@ fn subject(out: &mut Output, full: usize, call: Call, place: usize) -> usize {
     match call {
         Call::Attack | Call::Losses => listed(out, full, place),
         Call::Retreat => sent(out, full, place),
-        _ => step(out, full, place),
+        Call::Move => step(out, full, place),
+        _ => page::text(out, full, b"? "),
     }
 }
 
@@ -47,7 +49,8 @@ fn untimely(out: &mut Output, full: usize, call: Call) -> usize {
         Call::Losses => page::text(out, full, b"no losses are owed now"),
         Call::Advance => page::text(out, full, b"nobody may advance now"),
         Call::Close => page::text(out, full, b"no advances are open"),
-        _ => page::text(out, full, b"a battle is still open"),
+        Call::End => page::text(out, full, b"a battle is still open"),
+        _ => page::put(out, full, b'?'),
     }
 }
 
@@ -68,7 +71,8 @@ fn out_of_range(out: &mut Output, full: usize, call: Call) -> usize {
         Call::Retreat => page::text(out, full, b"no such hex, or more than 3 steps or 9 pushes"),
         Call::Losses => page::text(out, full, b"not 1 to 18 units"),
         Call::Advance => page::text(out, full, b"no such unit or hex"),
-        _ => page::text(out, full, b"a scratch of another length than the map's"),
+        Call::End => page::text(out, full, b"a scratch of another length than the map's"),
+        _ => page::put(out, full, b'?'),
     }
 }
 
@@ -76,7 +80,8 @@ fn out_of_range(out: &mut Output, full: usize, call: Call) -> usize {
 fn unknown(out: &mut Output, full: usize, call: Call) -> usize {
     match call {
         Call::Attack | Call::Losses => page::text(out, full, b"is no unit"),
-        _ => page::text(out, full, b"is no hex of the map"),
+        Call::Move | Call::Retreat => page::text(out, full, b"is no hex of the map"),
+        _ => page::put(out, full, b'?'),
     }
 }
 
@@ -98,7 +103,8 @@ fn four(out: &mut Output, full: usize, call: Call) -> usize {
         Call::Attack => page::text(out, full, b"is destroyed, or not of the phasing force"),
         Call::Retreat => page::text(out, full, b"nobody owes in that hex"),
         Call::Losses => page::text(out, full, b"does not owe"),
-        _ => page::text(out, full, b"the unit may not advance"),
+        Call::Advance => page::text(out, full, b"the unit may not advance"),
+        _ => page::put(out, full, b'?'),
     }
 }
 
@@ -111,7 +117,8 @@ fn five(out: &mut Output, full: usize, call: Call) -> usize {
             b"the unit has moved, or its type does not move in this phase",
         ),
         Call::Attack => page::text(out, full, b"has fought, or is a supply unit"),
-        _ => page::text(out, full, b"supply units do not advance"),
+        Call::Advance => page::text(out, full, b"supply units do not advance"),
+        _ => page::put(out, full, b'?'),
     }
 }
 
@@ -122,14 +129,16 @@ fn seven(out: &mut Output, full: usize, call: Call) -> usize {
             full,
             b"is not adjacent, or blocked, prohibited, sea or lake",
         ),
-        _ => page::text(out, full, b"no route leads the unit there"),
+        Call::Advance => page::text(out, full, b"no route leads the unit there"),
+        _ => page::put(out, full, b'?'),
     }
 }
 
 fn eleven(out: &mut Output, full: usize, call: Call) -> usize {
     match call {
         Call::Move => page::text(out, full, b"ends where three others stand"),
-        _ => page::text(out, full, b"three others stand there"),
+        Call::Advance => page::text(out, full, b"three others stand there"),
+        _ => page::put(out, full, b'?'),
     }
 }
 
@@ -157,13 +166,14 @@ fn plain(out: &mut Output, full: usize, n: usize) -> usize {
             full,
             b"the losses are short, or spare special infantry",
         ),
+        16 => page::text(out, full, b"it is the last phase of the last turn"),
         17 => page::text(
             out,
             full,
             b"only pushes serve, and route or pushes are not legal",
         ),
         18 => page::text(out, full, b"meets a neutral force"),
-        _ => page::text(out, full, b"it is the last phase of the last turn"),
+        _ => page::put(out, full, b'?'),
     }
 }
 
