@@ -81,7 +81,7 @@ pub record ClockOk (d : Desk) : Type 0 where
   pub turn : In 1 (d .clock .turn) 60
   pub lastTurn : In (d .clock .turn) (d .lastTurn) 60
   pub force : d .clock .force ≤ lastForce
-  pub phase : d .clock .phase ≤ Phase.mechanised
+  pub phase : d .clock .phase ≤ Phase.last
   -- "Stages: 0 quiet, 1 retreats, 2 losses, 3 advances; 1 to 3 only in phase 1."
   pub stage : d .battle .stage ≤ Stage.advances
   pub combat : (d .battle .stage ≡ Stage.quiet → ⊥) → d .clock .phase ≡ Phase.combat

@@ -160,7 +160,7 @@ clock? d =
     (both (in? 1 (d .clock .turn) 60)
     (both (in? (d .clock .turn) (d .lastTurn) 60)
     (both (decLe (d .clock .force) lastForce)
-    (both (decLe (d .clock .phase) Phase.mechanised)
+    (both (decLe (d .clock .phase) Phase.last)
     (both (decLe (d .battle .stage) Stage.advances) (given (never (ℕ-discrete (d .battle .stage) Stage.quiet)) (ℕ-discrete (d .clock .phase) Phase.combat)))))))
 
 unfoldable pub player? : (d : Desk) (f : ℕ) → Dec (PlayerOk d f)

@@ -7,6 +7,7 @@ ghost use Rattle.acceptance.specs.Accepted.{ClockOk, PlayerOk, PlayersOk
 ghost use Rattle.position.specs.Laid.{Laid, Says};
 use crate::owing;
 use clock::phase;
+use clock::timing;
 use position::View;
 use position::crowd;
 use position::kind;
@@ -28,10 +29,10 @@ pub fn clock_ok(p: &[u8], v: View) -> bool
     if !shape::within(turn, read::last_turn(p, v), 60) {
         return false;
     }
-    if kind::HOME < read::phasing(p, v) {
+    if timing::LAST_FORCE < read::phasing(p, v) {
         return false;
     }
-    if phase::MECHANISED < read::phase(p, v) {
+    if phase::LAST < read::phase(p, v) {
         return false;
     }
     if stage::ADVANCES < stage {

@@ -5,7 +5,7 @@ ghost use Rattle.clock.specs.Clock.{nextClock, isLast, judgesSupply};
 use crate::Clock;
 use crate::phase;
 
-const LAST_FORCE: usize = 3;
+pub const LAST_FORCE: usize = 3;
 
 impl Clock {
     // The clock moved on: phases 0, 1, 2, then the next force, and after force 3 the next turn.
@@ -16,7 +16,7 @@ impl Clock {
         let turn = self.turn;
         let force = self.force;
         let phase = self.phase;
-        if phase != phase::MECHANISED {
+        if phase != phase::LAST {
             return Clock {
                 turn,
                 force,
@@ -27,13 +27,13 @@ impl Clock {
             return Clock {
                 turn,
                 force: force + 1,
-                phase: phase::LAND,
+                phase: phase::FIRST,
             };
         }
         Clock {
             turn: turn + 1,
             force: 0,
-            phase: phase::LAND,
+            phase: phase::FIRST,
         }
     }
 
@@ -41,7 +41,7 @@ impl Clock {
     pub fn is_last(self, last: usize) -> bool
         ensures { λ r. ⌜ r ≡ isLast self last ⌝ }
     {
-        if self.phase != phase::MECHANISED {
+        if self.phase != phase::LAST {
             return false;
         }
         if self.force != LAST_FORCE {
