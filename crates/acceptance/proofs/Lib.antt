@@ -1,6 +1,7 @@
 pub mod Alikes
 pub mod OldDesks
 pub mod Keeps
+pub mod Clocks
 pub mod Carries
 pub mod Lawfuls
 pub mod Seating

@@ -17,10 +17,8 @@ use Rattle.position.specs.Effect.{change, changes}
 use Rattle.position.proofs.Shapes.{hexes-most}
 use Rattle.position.proofs.Tallies.{any-false, any-some, both-yes, either, neither}
 use Rattle.acceptance.specs.Accepted.{Accepted, Lawful}
-use Rattle.acceptance.specs.Broken.{broken}
 use Rattle.acceptance.proofs.Lawfuls.{Room}
 use Rattle.acceptance.proofs.Since.{since-lawful, since-placed}
-use Rattle.ruling.specs.Verdict.{outcome}
 use Rattle.ruling.proofs.Kept.{Kept, kept-past, kept-ruled}
 use Rattle.field.specs.Scene.{scene}
 use Rattle.field.specs.Zone.{holdsEnemy, holdsNeutral}
@@ -31,11 +29,9 @@ use Rattle.aftermath.specs.Advance.{
   advanceChanges,
   advanceChecks,
   advanceRule,
-  advanceVerdict,
   clearTo,
   closeChanges,
   closeRule,
-  closeVerdict,
   heldAt,
   mayAdvance,
   noRoute,
@@ -141,12 +137,10 @@ module _ {p : List ℕ} (a : Accepted p) where
         lawful-then-on (a .lawful) most (λ z. omega arith) (placed u hex ∷ assigned u 0 ∷ []) (q .since)
         (λ n. absurd (n (lessened-owing q (a .lawful .stage .during .advances e .owing))))
 
-    kept-advance : {l : List ℕ} → Kept p l (advanceVerdict p u hex)
-    unfolding advanceVerdict advanceRule advanceChecks unitChecks
-    kept-advance =
+    pub advance-keeps : {l : List ℕ} → Kept p l (advanceRule (board p) u hex)
+    unfolding advanceRule advanceChecks unitChecks
+    advance-keeps =
         let b = board p in
-        kept-past a (broken p)
-        (λ _.
         kept-past a (leb (b .units .count) u)
         (λ n.
         kept-past a (leb (b .map .hexes) hex)
@@ -162,7 +156,7 @@ module _ {p : List ℕ} (a : Accepted p) where
         kept-past a (leb 3 (others b u hex))
         (λ g.
         kept-ruled a (thenOn b (advanceChanges b u hex))
-        (lawful-advance (leb-false (b .units .count) u n) (stage-three b e) (room (leb-false (b .map .hexes) hex h) f g))))))))))
+        (lawful-advance (leb-false (b .units .count) u n) (stage-three b e) (room (leb-false (b .map .hexes) hex h) f g)))))))))
 
   lawful-close : board p .desk .battle .stage ≡ 3 → Lawful (changes (board p) (thenOn (board p) (closeChanges (board p))))
   lawful-close e =
@@ -172,17 +166,9 @@ module _ {p : List ℕ} (a : Accepted p) where
       lawful-then-on (a .lawful) most (λ z. omega arith) (closeChanges b) (q .since)
       (λ n. absurd (n (lessened-owing q (a .lawful .stage .during .advances e .owing))))
 
-  kept-close : {l : List ℕ} → Kept p l (closeVerdict p)
-  unfolding closeVerdict closeRule
-  kept-close =
+  pub close-keeps : {l : List ℕ} → Kept p l (closeRule (board p))
+  unfolding closeRule
+  close-keeps =
       let b = board p in
-      kept-past a (broken p)
-      (λ _.
       kept-past a (not (eqb (b .desk .battle .stage) 3))
-      (λ e. kept-ruled a (thenOn b (closeChanges b)) (lawful-close (stage-three b e))))
-
-pub advance-keeps : (p l : List ℕ) (u hex : ℕ) → Accepted p → Accepted (outcome p l (advanceVerdict p u hex) .position)
-advance-keeps p l u hex a = kept-advance a u hex .ok
-
-pub close-keeps : (p l : List ℕ) → Accepted p → Accepted (outcome p l (closeVerdict p) .position)
-close-keeps p l a = kept-close a .ok
+      (λ e. kept-ruled a (thenOn b (closeChanges b)) (lawful-close (stage-three b e)))

@@ -17,18 +17,16 @@ use Rattle.position.proofs.Shapes.{hexes-most}
 use Rattle.position.proofs.Tallies.{either, not-both, same-or}
 use Rattle.acceptance.specs.Accepted.{Accepted, Lawful, UnitsOk}
 use Rattle.acceptance.specs.Asked.{AloneOk}
-use Rattle.acceptance.specs.Broken.{broken}
 use Rattle.acceptance.proofs.Asking.{alone-of, roles-of, stacks-of, units-asked}
 use Rattle.acceptance.proofs.Carries.{Fixed, changes-then, fixed-change, routes-ok-by}
 use Rattle.acceptance.proofs.Fates.{Fated, Same, alone-fated, alone-same, assigned-else, assigned-here, fated-same, roles-passed, same-trans, same-fated, stacks-fewer}
 use Rattle.acceptance.proofs.Owings.{holders-none, holders-nought}
 use Rattle.acceptance.proofs.Since.{Since}
 use Rattle.acceptance.proofs.Stills.{fixed-refl, fixed-trans}
-use Rattle.ruling.specs.Verdict.{outcome}
 use Rattle.ruling.proofs.Kept.{Kept, kept-along, kept-past, kept-ruled}
 use Rattle.field.specs.Listed.{allThere, listLength, named, noUnit, sieve}
 use Rattle.field.proofs.Lists.{map-last, sieve-hit, sieve-miss}
-use Rattle.aftermath.specs.Losses.{loss, lossChanges, lossChecks, losses, lossesRule, lossesVerdict, owes, short, spared}
+use Rattle.aftermath.specs.Losses.{loss, lossChanges, lossChecks, losses, lossesRule, owes, short, spared}
 use Rattle.aftermath.specs.Stage.{reassigned, thenOn}
 use Rattle.aftermath.proofs.KeepStage.{Lessened, all-destroyed, lawful-then-on, lessened-none}
 use Rattle.aftermath.proofs.Losing.{survivors}
@@ -201,12 +199,10 @@ module _ {b : Board} (l : Lawful b) (most : b .map .hexes ≤ nowhere) (e : b .d
       lawful-then-on l most (λ z. omega arith) (lossChanges b units) since-losses (λ n. absurd (n losses-owing))
 
 module _ {p : List ℕ} (a : Accepted p) (units : List ℕ) where
-  kept-losses : {l : List ℕ} → Kept p l (lossesVerdict p units)
-  unfolding lossesVerdict lossesRule lossChecks allThere noUnit losses loss
-  kept-losses =
+  pub losses-keeps : {l : List ℕ} → Kept p l (lossesRule (board p) units)
+  unfolding lossesRule lossChecks allThere noUnit losses loss
+  losses-keeps =
       let b = board p in
-      kept-past a (broken p)
-      (λ _.
       kept-past a (not (listLength units))
       (λ _.
       kept-along a (λ _. Unit {0}) (λ s x k v _ f. kept-past a (leb (b .units .count) x) (λ _. f tt)) 0 tt units 1 _
@@ -226,7 +222,4 @@ module _ {p : List ℕ} (a : Accepted p) (units : List ℕ) where
       kept-ruled a (thenOn b (lossChanges b units))
       (lawful-losses (a .lawful) (omega (arith, hexes-most (a .shaped)))
       (eqb-true (b .desk .battle .stage) 2 (not-false (eqb (b .desk .battle .stage) 2) e))
-      units)))))))
-
-pub losses-keeps : (p l units : List ℕ) → Accepted p → Accepted (outcome p l (lossesVerdict p units) .position)
-losses-keeps p l units a = kept-losses a units .ok
+      units))))))

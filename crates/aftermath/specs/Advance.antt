@@ -6,12 +6,11 @@ use mathlib.Core.List.{List, [], _∷_, map}
 use lib.Dec.{leb, eqb}
 use Rattle.position.specs.Tally.{any}
 use Rattle.position.specs.Kind.{movesByLand}
-use Rattle.position.specs.Board.{Board, board, forceOf}
+use Rattle.position.specs.Board.{Board, forceOf}
 use Rattle.position.specs.Ground.{joined}
 use Rattle.position.specs.Crowd.{others}
 use Rattle.position.specs.Change.{Change}
 use Rattle.position.specs.Change.Change.{placed, assigned}
-use Rattle.acceptance.specs.Broken.{broken}
 use Rattle.ruling.specs.Verdict.{Verdict}
 use Rattle.ruling.specs.Verdict.Judge.{rule}
 use Rattle.ruling.specs.Verdict.Verdict.{refuseIf, judge}
@@ -65,10 +64,6 @@ advanceChecks b u hex rest =
 unfoldable pub advanceRule : Board → ℕ → ℕ → Verdict
 advanceRule b u hex = advanceChecks b u hex (judge (rule [] (thenOn b (advanceChanges b u hex)) []))
 
--- the rulings on an advance and on a close: refusal 1 unless the position is accepted
-unfoldable pub advanceVerdict : List ℕ → ℕ → ℕ → Verdict
-advanceVerdict p u hex = refuseIf (broken p) 1 0 (advanceRule (board p) u hex)
-
 -- "Close ends stage 3, making all roles 0."
 unfoldable pub closeChanges : Board → List Change
 closeChanges b = map (λ u. assigned u 0) (sieve (mayAdvance b) (b .units .count))
@@ -76,6 +71,3 @@ closeChanges b = map (λ u. assigned u 0) (sieve (mayAdvance b) (b .units .count
 -- "wrong stage (.. close 3)"
 unfoldable pub closeRule : Board → Verdict
 closeRule b = refuseIf (not (eqb (b .desk .battle .stage) 3)) 2 0 (judge (rule [] (thenOn b (closeChanges b)) []))
-
-unfoldable pub closeVerdict : List ℕ → Verdict
-closeVerdict p = refuseIf (broken p) 1 0 (closeRule (board p))

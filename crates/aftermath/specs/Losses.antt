@@ -7,10 +7,9 @@ use lib.Dec.{leb, eqb}
 use lib.ListN.{getD}
 use Rattle.position.specs.Tally.{any}
 use Rattle.position.specs.Kind.{special}
-use Rattle.position.specs.Board.{Board, board, forceOf}
+use Rattle.position.specs.Board.{Board, forceOf}
 use Rattle.position.specs.Change.{Change}
 use Rattle.position.specs.Change.Change.{destroyed, assigned}
-use Rattle.acceptance.specs.Broken.{broken}
 use Rattle.line.specs.Line.{fighterOf}
 use Rattle.line.specs.declared.Fighter.{Fighter}
 use Rattle.ruling.specs.Verdict.{Verdict, along}
@@ -84,7 +83,3 @@ lossChecks b units rest =
 
 unfoldable pub lossesRule : Board → List ℕ → Verdict
 lossesRule b units = lossChecks b units (judge (rule [] (thenOn b (lossChanges b units)) []))
-
--- the ruling on losses: refusal 1 unless the position is accepted
-unfoldable pub lossesVerdict : List ℕ → List ℕ → Verdict
-lossesVerdict p units = refuseIf (broken p) 1 0 (lossesRule (board p) units)

@@ -19,12 +19,11 @@ ghost use Rattle.aftermath.specs.Advance.{
   unitChecks,
   advanceChecks,
   advanceChanges,
-  advanceVerdict,
-  closeVerdict,
+  advanceRule,
+  closeRule,
 };
 use crate::stage;
 use field::zone;
-use position::Checked;
 use position::View;
 use position::crowd;
 use position::forces;
@@ -171,13 +170,11 @@ fn step_up(p: &mut [u8], v: View, u: usize, hex: usize)
     stage::pass_on(p, v);
 }
 
-// Unit `unit` advances to `hex`.
-pub fn advance(p: &mut [u8], unit: usize, hex: usize) -> Answer
-    ensures { λ r. ⌜ Met (now (p .entry)) [] (advanceVerdict (now (p .entry)) unit hex) (answerAs r) (now (p .exit)) [] ⌝ }
+// The advance on a checked position: unit `unit` advances to `hex`.
+pub fn advance(p: &mut [u8], v: View, unit: usize, hex: usize) -> Answer
+    requires { ⌜ Laid (now p) v ⌝ }
+    ensures { λ r. ⌜ Met (now (p .entry)) [] (advanceRule (board (now (p .entry))) unit hex) (answerAs r) (now (p .exit)) [] ⌝ }
 {
-    let Checked::Whole(v) = acceptance::check(p) else {
-        return Answer::Refused(1, 0);
-    };
     if let Tested::Stopped(n, k) = judge_advance(p, v, unit, hex) {
         return Answer::Refused(n, k);
     }
@@ -185,13 +182,11 @@ pub fn advance(p: &mut [u8], unit: usize, hex: usize) -> Answer
     Answer::Accepted
 }
 
-// The advances are over: nobody has a role any more, and the stage passes on.
-pub fn close(p: &mut [u8]) -> Answer
-    ensures { λ r. ⌜ Met (now (p .entry)) [] (closeVerdict (now (p .entry))) (answerAs r) (now (p .exit)) [] ⌝ }
+// The close on a checked position: nobody has a role any more, and the stage passes on.
+pub fn close(p: &mut [u8], v: View) -> Answer
+    requires { ⌜ Laid (now p) v ⌝ }
+    ensures { λ r. ⌜ Met (now (p .entry)) [] (closeRule (board (now (p .entry)))) (answerAs r) (now (p .exit)) [] ⌝ }
 {
-    let Checked::Whole(v) = acceptance::check(p) else {
-        return Answer::Refused(1, 0);
-    };
     if read::stage(p, v) != stage::ADVANCING {
         return Answer::Refused(2, 0);
     }

@@ -28,12 +28,11 @@ ghost use Rattle.aftermath.specs.Losses.{
   short,
   lossChanges,
   lossChecks,
-  lossesVerdict,
+  lossesRule,
 };
 use crate::stage;
 use field::listed;
 use line::Fighter;
-use position::Checked;
 use position::View;
 use position::forces;
 use position::kind::Kind;
@@ -293,13 +292,11 @@ fn lose(p: &mut [u8], v: View, units: &[u16])
     stage::pass_on(p, v);
 }
 
-// The units of the list are the losses of an exchange.
-pub fn losses(p: &mut [u8], units: &[u16]) -> Answer
-    ensures { λ r. ⌜ Met (now (p .entry)) [] (lossesVerdict (now (p .entry)) (now (units .entry))) (answerAs r) (now (p .exit)) [] ⌝ }
+// The losses on a checked position: the units of the list are those of an exchange.
+pub fn losses(p: &mut [u8], v: View, units: &[u16]) -> Answer
+    requires { ⌜ Laid (now p) v ⌝ }
+    ensures { λ r. ⌜ Met (now (p .entry)) [] (lossesRule (board (now (p .entry))) (now (units .entry))) (answerAs r) (now (p .exit)) [] ⌝ }
 {
-    let Checked::Whole(v) = acceptance::check(p) else {
-        return Answer::Refused(1, 0);
-    };
     if let Tested::Stopped(n, k) = judge_losses(p, v, units) {
         return Answer::Refused(n, k);
     }

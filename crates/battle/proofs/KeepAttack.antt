@@ -16,8 +16,7 @@ use Rattle.position.specs.Shape.{In}
 use Rattle.position.proofs.Shapes.{hexes-most}
 use Rattle.position.proofs.Tallies.{both-yes, neither, any-some}
 use Rattle.acceptance.specs.Accepted.{Accepted, Lawful}
-use Rattle.acceptance.specs.Broken.{broken}
-use Rattle.ruling.specs.Verdict.{turnedAll, outcome}
+use Rattle.ruling.specs.Verdict.{turnedAll}
 use Rattle.ruling.specs.Secret.{Each}
 use Rattle.ruling.proofs.Kept.{Kept, kept-past, kept-ruled}
 use Rattle.ruling.proofs.Turning.{uncovered, kept-seen, kept-each}
@@ -33,7 +32,7 @@ use Rattle.battle.specs.Line.{attackLine, defenceLine}
 use Rattle.line.specs.Line.{fightingTotal, printedTotal}
 use Rattle.odds.specs.Odds.{multipleAt, reached, last, column}
 use Rattle.results.specs.Results.{upshot, battleChanges}
-use Rattle.battle.specs.Battle.{columnOf, codeOf, needFor, ruled, battle, attackRule, attackVerdict}
+use Rattle.battle.specs.Battle.{columnOf, codeOf, needFor, ruled, battle, attackRule}
 use Rattle.ruling.proofs.Secrets.{each-by}
 use Rattle.odds.proofs.Columns.{last-small}
 use Rattle.results.proofs.Upshots.{sensible, NeedOk, need-ok}
@@ -168,12 +167,10 @@ module _ {p : List ℕ} (a : Accepted p) {target : ℕ} {units : List ℕ} (g : 
       need-in))
 
 module _ {p : List ℕ} (a : Accepted p) (target : ℕ) (units : List ℕ) (die : ℕ) where
-  kept-attack : {l : List ℕ} (long : ℕ) → Kept p l (attackVerdict p target units die long)
-  unfolding attackVerdict attackRule attackChecks inRange allThere noUnit attackers attacker
-  kept-attack long =
+  pub attack-keeps : {l : List ℕ} (long : ℕ) → Kept p l (attackRule (board p) target units die long)
+  unfolding attackRule attackChecks inRange allThere noUnit attackers attacker
+  attack-keeps long =
       let b = board p in
-      kept-past a (broken p)
-      (λ _.
       kept-past a (not (listLength units))
       (λ n.
       kept-past a (not (eqb long (b .map .hexes)))
@@ -226,9 +223,4 @@ module _ {p : List ℕ} (a : Accepted p) (target : ℕ) (units : List ℕ) (die 
         held = target-held b target h;
       })
       die
-      (die-in die d))))))))))
-
-pub attack-keeps :
-    (p l : List ℕ) (target : ℕ) (units : List ℕ) (die : ℕ) → Accepted p
-    → Accepted (outcome p l (attackVerdict p target units die (length l)) .position)
-attack-keeps p l target units die a = kept-attack a target units die (length l) .ok
+      (die-in die d)))))))))

@@ -14,6 +14,8 @@ use Rattle.position.specs.Ground.{standable}
 use Rattle.position.specs.Crowd.{filled}
 use Rattle.position.specs.Change.Change.{routed, destroyed}
 use Rattle.position.specs.Effect.{change, changes}
+use Rattle.position.proofs.BitLaws.{with-within}
+use Rattle.position.proofs.BitLaws.Mark.{is-fought}
 use Rattle.position.proofs.Tallies.{not-both, same-or, either}
 use Rattle.acceptance.specs.Accepted.{RoutesOk, Lawful}
 use Rattle.acceptance.proofs.Carries.{Fixed, fixed-change, standable-by}
@@ -43,11 +45,6 @@ pub record Present (b : Board) (u : ℕ) : Type 0 where
   pub below : u < b .units .count
   pub mapped : b .units .state .hex u ≡ nowhere → ⊥
 
--- "All participants .. get fought."
-with-fought-small : (m : ℕ) → m < 16 → with fought m < 16
-unfolding with
-with-fought-small m l = omega arith
-
 pub record MarkedAll (d c : Board) : Type 0 where
   pub lawful : Lawful c
   pub still : Still d c
@@ -64,7 +61,7 @@ marked-all {b} l (u ∷ us) h {d} k s =
     let o =
     lawful-marked k u m
     (record {
-      marks = with-fought-small (b .units .state .marks u) (l .units .each u (h .0 .below) .counter .marks);
+      marks = with-within is-fought (b .units .state .marks u) (l .units .each u (h .0 .below) .counter .marks);
       destroyed = λ z. absurd (h .0 .mapped (sym e ∙ z));
     })
     in

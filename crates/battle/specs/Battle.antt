@@ -3,12 +3,11 @@
 use Prim.Native.Nat.{ℕ, _+_, _*_}
 use mathlib.Core.List.{List, [], _∷_}
 use lib.ListN.{replicate}
-use Rattle.position.specs.Board.{Board, board}
-use Rattle.acceptance.specs.Broken.{broken}
+use Rattle.position.specs.Board.{Board}
 use Rattle.line.specs.Line.{fightingTotal, printedTotal}
 use Rattle.ruling.specs.Verdict.{Verdict, Judge, revealAll}
 use Rattle.ruling.specs.Verdict.Judge.{rule}
-use Rattle.ruling.specs.Verdict.Verdict.{refuseIf, judge}
+use Rattle.ruling.specs.Verdict.Verdict.{judge}
 use Rattle.results.specs.Participants.{participants}
 use Rattle.battle.specs.Line.{attackLine, defenceLine}
 use Rattle.odds.specs.Odds.{multipleAt, column}
@@ -41,7 +40,3 @@ battle b target units die = judge (revealAll (participants b target units) (rule
 
 unfoldable pub attackRule : Board → ℕ → List ℕ → ℕ → ℕ → Verdict
 attackRule b target units die long = attackChecks b target units die long (battle b target units die)
-
--- the ruling on an attack: refusal 1 unless the position is accepted
-unfoldable pub attackVerdict : List ℕ → ℕ → List ℕ → ℕ → ℕ → Verdict
-attackVerdict p target units die long = refuseIf (broken p) 1 0 (attackRule (board p) target units die long)

@@ -5,12 +5,11 @@ ghost use Rattle.acceptance.specs.Accepted.{Accepted};
 ghost use Rattle.position.specs.Laid.{Laid};
 ghost use Rattle.ruling.specs.Verdict.{Met};
 ghost use Rattle.battle.specs.Asked.{Engaged};
-ghost use Rattle.battle.specs.Battle.{battle, attackVerdict};
+ghost use Rattle.battle.specs.Battle.{battle, attackRule};
 ghost use Rattle.battle.specs.Answers.{foughtAs};
 use crate::Fought;
 use crate::asking;
 use crate::ranks;
-use position::Checked;
 use position::View;
 use position::read;
 use results::codes;
@@ -50,14 +49,20 @@ fn fight(
     Fought::Done(column + 1, code)
 }
 
-// The units of the list attack the target. The scratch has exactly width x height bytes, and is handed back all 0.
-pub fn attack(p: &mut [u8], target: usize, units: &[u16], die: usize, scratch: &mut [u8]) -> Fought
+// The attack on a checked position: the units of the list attack the target. The scratch has exactly width x height bytes, and is handed back
+// all 0.
+pub fn attack(
+    p: &mut [u8],
+    v: View,
+    target: usize,
+    units: &[u16],
+    die: usize,
+    scratch: &mut [u8],
+) -> Fought
+    requires { ⌜ Laid (now p) v × Accepted (now p) ⌝ }
     ensures { λ r.
-        ⌜ Met (now (p .entry)) (now (scratch .entry)) (attackVerdict (now (p .entry)) target (now (units .entry)) die (length (now (scratch .entry)))) (foughtAs r) (now (p .exit)) (now (scratch .exit)) ⌝ }
+        ⌜ Met (now (p .entry)) (now (scratch .entry)) (attackRule (board (now (p .entry))) target (now (units .entry)) die (length (now (scratch .entry)))) (foughtAs r) (now (p .exit)) (now (scratch .exit)) ⌝ }
 {
-    let Checked::Whole(v) = acceptance::check(p) else {
-        return Fought::Refused(1, 0);
-    };
     if let Tested::Stopped(n, k) = asking::judge_attack(p, v, target, units, die, scratch.len()) {
         return Fought::Refused(n, k);
     }

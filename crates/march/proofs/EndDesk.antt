@@ -12,7 +12,7 @@ use Rattle.position.specs.Effect.{change, changes, withClock}
 use Rattle.acceptance.proofs.Carries.{changes-then}
 use Rattle.clock.specs.declared.Clock.{Clock}
 use Rattle.clock.specs.Clock.{judgesSupply, nextClock}
-use Rattle.march.specs.EndPhase.{clock, endChanges, judgeAll, judgeForce, judgedMarks, mappedOf, restAll, rested, supplyChanges}
+use Rattle.march.specs.EndPhase.{endChanges, judgeAll, judgeForce, judgedMarks, mappedOf, restAll, rested, supplyChanges}
 
 -- changes that leave the desk
 abbrev Aside : List Change → Type 0
@@ -61,7 +61,7 @@ module _ (b : Board) where
       aside-none
 
   abbrev then : Clock
-  then = nextClock (clock b)
+  then = nextClock (b .desk .clock)
 
   -- of the desk the clock alone is changed
   pub end-desk : changes b (endChanges b) .desk ≡ withClock (b .desk) (then .turn) (then .force) (then .phase)

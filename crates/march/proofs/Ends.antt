@@ -32,7 +32,7 @@ use Rattle.supply.specs.Supply.{supplyMap}
 use Rattle.clock.specs.declared.Clock.{Clock}
 use Rattle.clock.specs.Clock.{nextClock, judgesSupply}
 use Rattle.clock.proofs.Turns.{next-by}
-use Rattle.march.specs.EndPhase.{clock, rested, restAll, judgedMarks, mappedOf, judgeAll, judgeForce, supplyChanges, endChanges}
+use Rattle.march.specs.EndPhase.{rested, restAll, judgedMarks, mappedOf, judgeAll, judgeForce, supplyChanges, endChanges}
 use Rattle.march.specs.Ending.{Waits, Since, JudgesUnit, JudgesAll, JudgesForce, JudgesPhase}
 use Rattle.acceptance.proofs.Carries.{changes-then}
 use Rattle.acceptance.proofs.Lawfuls.{standable-on}
@@ -347,16 +347,16 @@ pub record Bytes (c : Clock) : Type 0 where
   pub force : c .force < 256
   pub phase : c .phase < 256
 
-pub next-bytes : {b : Board} → Lawful b → Bytes (nextClock (clock b))
+pub next-bytes : {b : Board} → Lawful b → Bytes (nextClock (b .desk .clock))
 next-bytes {b} l =
-    next-by Bytes (clock b)
+    next-by Bytes (b .desk .clock)
     (λ _ _. record { turn = omega (arith, l .clock .turn .high); force = omega arith; phase = omega arith })
     (λ _ _. record { turn = omega (arith, l .clock .turn .high); force = omega (arith, l .clock .force); phase = omega arith })
     (λ _. record { turn = omega (arith, l .clock .turn .high); force = omega (arith, l .clock .force); phase = omega (arith, l .clock .phase) })
 
 -- marks, clock and supply, one after the other
 pub all-ended :
-    {p q r s : List ℕ} {k : ℕ} {c : Clock} → Accepted p → k ≡ Layout.count p → c ≡ nextClock (clock (board p))
+    {p q r s : List ℕ} {k : ℕ} {c : Clock} → Accepted p → k ≡ Layout.count p → c ≡ nextClock (board p .desk .clock)
     → q ≡ makes p (restAll (board p) k) → r ≡ make q (timed (c .turn) (c .force) (c .phase)) → JudgesPhase r c s
     → s ≡ makes p (endChanges (board p))
 unfolding endChanges makes

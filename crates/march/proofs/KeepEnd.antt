@@ -8,22 +8,20 @@ use native.Mathlib.Omega.{arith}
 use lib.ListN.{length}
 use lib.Dec.{eqb}
 use borrow.Author.Tests.{eqb-true, eqb-false, not-true, not-false}
-use Rattle.position.specs.Bits.{with, without, tried, supplied}
+use Rattle.position.specs.Bits.{with, without, tried, supplied, marksEnd}
 use Rattle.position.specs.Board.{Board, board, nowhere}
 use Rattle.position.specs.Shape.{In}
 use Rattle.acceptance.specs.Accepted.{Lawful, Accepted}
-use Rattle.acceptance.specs.Broken.{broken}
 use Rattle.position.specs.Change.{Change}
 use Rattle.position.specs.Change.Change.{marked, timed}
 use Rattle.position.specs.Effect.{change, changes}
-use Rattle.ruling.specs.Verdict.{outcome}
 use Rattle.field.specs.Scene.{scene}
 use Rattle.supply.specs.Supply as Supply
 use Rattle.clock.specs.declared.Clock.{Clock}
 use Rattle.clock.specs.Clock.{nextClock, isLast, judgesSupply}
-use Rattle.clock.proofs.Turns.{next-by, not-last}
+use Rattle.clock.proofs.Turns.{next-timely, next-turn}
+use Rattle.acceptance.proofs.Clocks.{timely}
 use Rattle.march.specs.EndPhase.{
-  clock,
   rested,
   restAll,
   judgedMarks,
@@ -33,10 +31,11 @@ use Rattle.march.specs.EndPhase.{
   supplyChanges,
   endChanges,
   endRule,
-  endVerdict,
 }
 use Rattle.acceptance.proofs.Carries.{changes-then}
 use Rattle.acceptance.proofs.Lawfuls.{Markable, lawful-marked, lawful-timed}
+use Rattle.position.proofs.BitLaws.{with-within, without-within}
+use Rattle.position.proofs.BitLaws.Mark.{is-supplied, is-moved, is-fought}
 use Rattle.position.proofs.Tallies.{both-yes}
 use Rattle.ruling.proofs.Kept.{Kept, kept-past, kept-ruled}
 
@@ -69,18 +68,17 @@ all-marked {b} {c} (more {u} {m} k s) l e =
     record { lawful = r .lawful; hex = r .hex; desk = r .desk }
 
 -- marks without moved and fought, and then with or without supplied
-rested-small : (m : ℕ) → m < 16 → rested m < 16
-unfolding rested without
-rested-small m l = omega arith
+rested-small : (m : ℕ) → m < marksEnd → rested m < marksEnd
+unfolding rested
+rested-small m l = without-within is-moved _ (without-within is-fought m l)
 
 rested-bare : (m : ℕ) → m ≤ tried → rested m ≤ tried
 unfolding rested without
 rested-bare m l = omega arith
 
-supplied-small : (t : Bool) (m : ℕ) → m < 16 → cond t (with supplied m) (without supplied m) < 16
-unfolding with without
-supplied-small true m l = omega arith
-supplied-small false m l = omega arith
+supplied-small : (t : Bool) (m : ℕ) → m < marksEnd → cond t (with supplied m) (without supplied m) < marksEnd
+supplied-small true m l = with-within is-supplied m l
+supplied-small false m l = without-within is-supplied m l
 
 module _ {b : Board} (l : Lawful b) where
   rest-marks : (n : ℕ) → n ≤ b .units .count → Markings b (restAll b n)
@@ -97,7 +95,7 @@ module _ {b : Board} (l : Lawful b) where
       })
       none)
 
-  judged-small : (u : ℕ) → u < b .units .count → judgedMarks b u < 16
+  judged-small : (u : ℕ) → u < b .units .count → judgedMarks b u < marksEnd
   unfolding judgedMarks
   judged-small u h =
       supplied-small (Supply.supplied (scene b) (b .units .counter .nationality u) (b .units .state .hex u)) (rested (b .units .state .marks u))
@@ -126,57 +124,31 @@ module _ {b : Board} (l : Lawful b) where
       (λ _. markings-cond (eqb (c .force) 3) (λ _. markings-then (each 3) (each 4)) (each (c .force)))
       none
 
--- a clock within its limits, and so the next where it is not the last
-record Within (last : ℕ) (c : Clock) : Type 0 where
-  turn : In 1 (c .turn) 60
-  late : c .turn ≤ last
-  force : c .force ≤ 3
-  phase : c .phase ≤ 2
-
-within-next : (last : ℕ) (c : Clock) → last ≤ 60 → Within last c → isLast c last ≡ false → Within last (nextClock c)
-within-next last c m k e =
-    next-by (Within last) c
-    (λ ph f.
-    let n = not-last last c e ph f in
-    record { turn = record { low = omega arith; high = omega arith }; late = omega arith; force = omega arith; phase = omega arith })
-    (λ ph f. record { turn = k .turn; late = k .late; force = omega arith; phase = omega arith })
-    (λ ph. record { turn = k .turn; late = k .late; force = k .force; phase = omega arith })
-
 module _ {b : Board} (l : Lawful b) where
-  next-within : isLast (clock b) (b .desk .lastTurn) ≡ false → Within (b .desk .lastTurn) (nextClock (clock b))
-  next-within e =
-      let k = l .clock in
-      within-next (b .desk .lastTurn) (clock b) (k .lastTurn .high)
-      (record { turn = k .turn; late = k .lastTurn .low; force = k .force; phase = k .phase })
-      e
-
-  lawful-end : b .desk .battle .stage ≡ 0 → isLast (clock b) (b .desk .lastTurn) ≡ false → Lawful (changes b (endChanges b))
+  lawful-end : b .desk .battle .stage ≡ 0 → isLast (b .desk .clock) (b .desk .lastTurn) ≡ false → Lawful (changes b (endChanges b))
   unfolding endChanges changes change
   lawful-end z e =
       let r = all-marked (rest-marks l (b .units .count) (omega arith)) l refl in
-      let n = nextClock (clock b) in
-      let k = next-within e in
+      let n = nextClock (b .desk .clock) in
+      let c = l .clock in
+      let k = next-timely (b .desk .lastTurn) (b .desk .clock) (timely c) e in
       let t =
-      lawful-timed (r .lawful) (ap (λ d. d .stage) (r .desk) ∙ z) (n .turn) (n .force) (n .phase) (k .turn)
-      (rw (r .desk) (k .late)) (k .force) (k .phase)
+      lawful-timed (r .lawful) (ap (λ d. d .battle .stage) (r .desk) ∙ z) (n .turn) (n .force) (n .phase)
+      (record { low = omega (arith, c .turn .low, next-turn (b .desk .clock)); high = omega (arith, c .lastTurn .high, k .turn) })
+      (rw (r .desk) (k .turn)) (k .force) (k .phase)
       in
       rw (changes-then (restAll b (b .units .count)) (timed (n .turn) (n .force) (n .phase) ∷ supplyChanges b n) b)
       (all-marked (supply-marks l n) t (r .hex) .lawful)
 
-kept-end : {p : List ℕ} (l : List ℕ) → Accepted p → Kept p l (endVerdict p (length l))
-unfolding endVerdict endRule
-kept-end {p} l a =
+pub end-keeps : {p : List ℕ} (l : List ℕ) → Accepted p → Kept p l (endRule (board p) (length l))
+unfolding endRule
+end-keeps {p} l a =
     let b = board p in
-    kept-past a (broken p)
-    (λ _.
     kept-past a (not (eqb (length l) (b .map .hexes)))
     (λ _.
     kept-past a (not (eqb (b .desk .battle .stage) 0))
     (λ z.
-    kept-past a (isLast (clock b) (b .desk .lastTurn))
+    kept-past a (isLast (b .desk .clock) (b .desk .lastTurn))
     (λ e.
     kept-ruled a (endChanges b)
-    (lawful-end (a .lawful) (eqb-true (b .desk .battle .stage) 0 (not-false (eqb (b .desk .battle .stage) 0) z)) e)))))
-
-pub end-keeps : (p l : List ℕ) → Accepted p → Accepted (outcome p l (endVerdict p (length l)) .position)
-end-keeps p l a = kept-end l a .ok
+    (lawful-end (a .lawful) (eqb-true (b .desk .battle .stage) 0 (not-false (eqb (b .desk .battle .stage) 0) z)) e))))

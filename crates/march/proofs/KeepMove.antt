@@ -13,11 +13,12 @@ use Rattle.position.specs.Board.{Board, board, nowhere, forceOf}
 use Rattle.position.specs.Ground.{joined, standable}
 use Rattle.position.specs.Crowd.{others}
 use Rattle.acceptance.specs.Accepted.{Lawful, Accepted}
-use Rattle.acceptance.specs.Broken.{broken}
 use Rattle.position.specs.Effect.{changes}
+use Rattle.position.proofs.BitLaws.{with-within}
+use Rattle.position.proofs.BitLaws.Mark.{is-moved}
 use Rattle.position.proofs.Shapes.{hexes-most}
 use Rattle.position.proofs.Tallies.{same-or, both-yes, neither}
-use Rattle.ruling.specs.Verdict.{Verdict, outcome}
+use Rattle.ruling.specs.Verdict.{Verdict}
 use Rattle.field.specs.Scene.{scene}
 use Rattle.field.specs.Phasing.{notPhasing}
 use Rattle.field.specs.Listed.{offMap, onMapAll}
@@ -39,7 +40,6 @@ use Rattle.march.specs.Move.{
   moveChanges,
   arrival,
   moveRule,
-  moveVerdict,
 }
 use Rattle.acceptance.proofs.Lawfuls.{Room, standable-on, lawful-placed, placed-hex, lawful-marked}
 use Rattle.ruling.proofs.Kept.{Kept, kept-past, kept-along, kept-ruled}
@@ -69,10 +69,6 @@ module _ (b : Board) where
       eqb-false (b .units .state .hex u) nowhere
       (neither (eqb (b .units .state .hex u) nowhere) (not (eqb (forceOf b u) (b .desk .clock .force))) e .0)
 
-with-moved : (m : ℕ) → m < 16 → with moved m < 16
-unfolding with
-with-moved m l = omega arith
-
 module _ {b : Board} (l : Lawful b) (u : ℕ) (n : u < b .units .count) where
   -- where the unit stands before the first step
   fair-start : (b .units .state .hex u ≡ nowhere → ⊥) → Fair b u (b .units .state .hex u)
@@ -90,7 +86,7 @@ module _ {b : Board} (l : Lawful b) (u : ℕ) (n : u < b .units .count) where
   lawful-move h r z =
       lawful-marked (lawful-placed l u h n r (λ e. absurd (omega arith))) u (with moved (b .units .state .marks u))
       (record {
-        marks = with-moved (b .units .state .marks u) (l .units .each u n .counter .marks);
+        marks = with-within is-moved (b .units .state .marks u) (l .units .each u n .counter .marks);
         destroyed = λ e. absurd (r .hex (sym (placed-hex u h n r) ∙ e));
       })
 
@@ -127,12 +123,10 @@ module _ {p l : List ℕ} (a : Accepted p) (u : ℕ) where
       kept-past a (ltb (allowed b u) (afterStep b s x .spent))
       (λ _. f (record { stands = step-stands b (s .at) x e; own = all-own b u x g n }))))))
 
-  kept-move : (path : List ℕ) → Kept p l (moveVerdict p u path)
-  unfolding moveVerdict moveRule moveChecks onMapAll offMap steps
-  kept-move path =
+  pub move-keeps : (path : List ℕ) → Kept p l (moveRule (board p) u path)
+  unfolding moveRule moveChecks onMapAll offMap steps
+  move-keeps path =
       let b = board p in
-      kept-past a (broken p)
-      (λ _.
       kept-past a (not (pathLength path))
       (λ _.
       kept-past a (leb (b .units .count) u)
@@ -151,7 +145,4 @@ module _ {p l : List ℕ} (a : Accepted p) (u : ℕ) where
       path
       1
       _
-      (λ s f. kept-arrival (length path) (s .at) n (quiet b z) f))))))))
-
-pub move-keeps : (p l : List ℕ) (u : ℕ) (path : List ℕ) → Accepted p → Accepted (outcome p l (moveVerdict p u path) .position)
-move-keeps p l u path a = kept-move a u path .ok
+      (λ s f. kept-arrival (length path) (s .at) n (quiet b z) f)))))))

@@ -6,8 +6,7 @@ use mathlib.Core.List.{List, [], _∷_, _++_}
 use lib.ListN.{replicate}
 use lib.Dec.{eqb}
 use Rattle.position.specs.Bits.{with, without, supplied, moved, fought}
-use Rattle.position.specs.Board.{Board, board, nowhere}
-use Rattle.acceptance.specs.Broken.{broken}
+use Rattle.position.specs.Board.{Board, nowhere}
 use Rattle.position.specs.Change.{Change}
 use Rattle.position.specs.Change.Change.{marked, timed}
 use Rattle.ruling.specs.Verdict.{Verdict}
@@ -17,10 +16,6 @@ use Rattle.field.specs.Scene.{scene}
 use Rattle.supply.specs.Supply as Supply
 use Rattle.clock.specs.declared.Clock.{Clock}
 use Rattle.clock.specs.Clock.{nextClock, isLast, judgesSupply}
-
--- the clock on the desk
-abbrev pub clock : Board → Clock
-clock b = b .desk .clock
 
 -- "clears moved and fought"
 unfoldable pub rested : ℕ → ℕ
@@ -59,8 +54,8 @@ supplyChanges b c = cond (judgesSupply c) (judgeForce b (c .force)) []
 unfoldable pub endChanges : Board → List Change
 endChanges b =
     restAll b (b .units .count)
-    ++ (timed (nextClock (clock b) .turn) (nextClock (clock b) .force) (nextClock (clock b) .phase)
-    ∷ supplyChanges b (nextClock (clock b)))
+    ++ (timed (nextClock (b .desk .clock) .turn) (nextClock (b .desk .clock) .force) (nextClock (b .desk .clock) .phase)
+    ∷ supplyChanges b (nextClock (b .desk .clock)))
 
 -- "end phase 16": 3 for a scratch of another length than width x height, 2 outside stage 0, 16 in the last phase of the last turn.
 -- "when accepted, hand it back all 0"
@@ -68,9 +63,5 @@ unfoldable pub endRule : Board → ℕ → Verdict
 endRule b long =
     refuseIf (not (eqb long (b .map .hexes))) 3 0
     (refuseIf (not (eqb (b .desk .battle .stage) 0)) 2 0
-    (refuseIf (isLast (clock b) (b .desk .lastTurn)) 16 0
+    (refuseIf (isLast (b .desk .clock) (b .desk .lastTurn)) 16 0
     (judge (rule [] (endChanges b) (replicate (b .map .hexes) 0)))))
-
--- the ruling on the end of a phase: refusal 1 unless the position is accepted
-unfoldable pub endVerdict : List ℕ → ℕ → Verdict
-endVerdict p long = refuseIf (broken p) 1 0 (endRule (board p) long)

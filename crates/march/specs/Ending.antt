@@ -12,11 +12,11 @@ use Rattle.position.specs.Change.Change.{marked}
 use Rattle.field.specs.Scene.{scene}
 use Rattle.supply.specs.Supply.{supplyMap}
 use Rattle.clock.specs.declared.Clock.{Clock}
-use Rattle.march.specs.EndPhase.{clock, rested, judgedMarks, mappedOf, judgeAll, judgeForce, supplyChanges, endChanges}
+use Rattle.march.specs.EndPhase.{rested, judgedMarks, mappedOf, judgeAll, judgeForce, supplyChanges, endChanges}
 
 -- the clock of a board, whose numbers are bytes
 pub record ClockOf (b : Board) (c : Clock) : Type 0 where
-  pub is : c ≡ clock b
+  pub is : c ≡ b .desk .clock
   pub turn : c .turn < 256
   pub force : c .force < 256
   pub phase : c .phase < 256

@@ -7,10 +7,9 @@ use lib.ListN.{length}
 use lib.Dec.{leb, ltb, eqb}
 use Rattle.position.specs.Bits.{has, with, supplied, moved}
 use Rattle.position.specs.Kind.{movesByLand, movesInPhase2}
-use Rattle.position.specs.Board.{Board, board, forceOf}
+use Rattle.position.specs.Board.{Board, forceOf}
 use Rattle.position.specs.Ground.{joined, standable}
 use Rattle.position.specs.Crowd.{others}
-use Rattle.acceptance.specs.Broken.{broken}
 use Rattle.position.specs.Change.{Change}
 use Rattle.position.specs.Change.Change.{placed, marked}
 use Rattle.ruling.specs.Verdict.{Verdict, along}
@@ -94,7 +93,3 @@ arrival b u last h = refuseIf (leb 3 (others b u h)) 11 last (judge (rule [] (mo
 
 unfoldable pub moveRule : Board → ℕ → List ℕ → Verdict
 moveRule b u path = moveChecks b u path (λ l. arrival b u (length path) (l .at))
-
--- the ruling on a move: refusal 1 unless the position is accepted
-unfoldable pub moveVerdict : List ℕ → ℕ → List ℕ → Verdict
-moveVerdict p u path = refuseIf (broken p) 1 0 (moveRule (board p) u path)

@@ -9,11 +9,10 @@ ghost use Rattle.position.specs.Laid.{Laid, Read};
 ghost use Rattle.ruling.specs.Verdict.{Met};
 ghost use Rattle.ruling.specs.Answers.{answerAs};
 ghost use Rattle.clock.specs.Clock.{nextClock};
-ghost use Rattle.march.specs.EndPhase.{rested, restAll, endVerdict};
+ghost use Rattle.march.specs.EndPhase.{rested, restAll, endRule};
 ghost use Rattle.march.specs.Ending.{ClockOf, JudgesUnit, JudgesAll, JudgesForce, JudgesPhase, Ended};
 use clock::Clock;
 use clock::timing;
-use position::Checked;
 use position::View;
 use position::bits;
 use position::read;
@@ -132,14 +131,12 @@ fn pass_on(p: &mut [u8], v: View, scratch: &mut [u8])
     paint::clear(scratch);
 }
 
-// The end of a phase. The scratch has exactly width x height bytes, and is handed back all 0.
-pub fn end_phase(p: &mut [u8], scratch: &mut [u8]) -> Answer
+// The end of a phase on a checked position. The scratch has exactly width x height bytes, and is handed back all 0.
+pub fn end_phase(p: &mut [u8], v: View, scratch: &mut [u8]) -> Answer
+    requires { ⌜ Laid (now p) v × Accepted (now p) ⌝ }
     ensures { λ r.
-        ⌜ Met (now (p .entry)) (now (scratch .entry)) (endVerdict (now (p .entry)) (length (now (scratch .entry)))) (answerAs r) (now (p .exit)) (now (scratch .exit)) ⌝ }
+        ⌜ Met (now (p .entry)) (now (scratch .entry)) (endRule (board (now (p .entry))) (length (now (scratch .entry)))) (answerAs r) (now (p .exit)) (now (scratch .exit)) ⌝ }
 {
-    let Checked::Whole(v) = acceptance::check(p) else {
-        return Answer::Refused(1, 0);
-    };
     let hexes = v.hexes;
     if scratch.len() != hexes {
         return Answer::Refused(3, 0);

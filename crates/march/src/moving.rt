@@ -6,7 +6,7 @@ ghost use lib.ListN.{length};
 ghost use Rattle.position.specs.Board.{board};
 ghost use Rattle.position.specs.Laid.{Laid};
 ghost use Rattle.ruling.specs.Verdict.{Met};
-ghost use Rattle.march.specs.Move.{mayMoveNow, movesIn, forbidden, steps, moveChecks, arrival, moveVerdict};
+ghost use Rattle.march.specs.Move.{mayMoveNow, movesIn, forbidden, steps, moveChecks, arrival, moveRule};
 ghost use Rattle.march.specs.Judged.{PathOf};
 ghost use Rattle.march.specs.Answers.{movedAs};
 use crate::Moved;
@@ -15,7 +15,6 @@ use crate::Way;
 use crate::stepping;
 use field::listed;
 use field::unit;
-use position::Checked;
 use position::View;
 use position::bits;
 use position::crowd;
@@ -126,13 +125,11 @@ fn arrive(p: &mut [u8], v: View, u: usize, h: usize, last: usize) -> Moved
     Moved::Done
 }
 
-// Unit `unit` goes along `path`, hex by hex.
-pub fn move_unit(p: &mut [u8], unit: usize, path: &[u16]) -> Moved
-    ensures { λ r. ⌜ Met (now (p .entry)) [] (moveVerdict (now (p .entry)) unit (now (path .entry))) (movedAs r) (now (p .exit)) [] ⌝ }
+// The move on a checked position: unit `unit` goes along `path`, hex by hex.
+pub fn move_unit(p: &mut [u8], v: View, unit: usize, path: &[u16]) -> Moved
+    requires { ⌜ Laid (now p) v ⌝ }
+    ensures { λ r. ⌜ Met (now (p .entry)) [] (moveRule (board (now (p .entry))) unit (now (path .entry))) (movedAs r) (now (p .exit)) [] ⌝ }
 {
-    let Checked::Whole(v) = acceptance::check(p) else {
-        return Moved::Refused(1, 0);
-    };
     let way = judge_move(p, v, unit, path);
     match way {
         Path::Stop(n, k) => Moved::Refused(n, k),

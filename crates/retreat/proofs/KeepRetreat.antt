@@ -18,13 +18,11 @@ use Rattle.position.specs.Effect.{change, changes}
 use Rattle.position.proofs.Shapes.{hexes-most}
 use Rattle.position.proofs.Tallies.{any-some, both-yes, either, tally-some}
 use Rattle.acceptance.specs.Accepted.{Accepted, Lawful, StageOk}
-use Rattle.acceptance.specs.Broken.{broken}
 use Rattle.acceptance.proofs.Carries.{changes-then, fixed-change, standable-by}
 use Rattle.acceptance.proofs.Owings.{owing-some}
 use Rattle.acceptance.proofs.Routings.{routes-empty, routes-more}
 use Rattle.acceptance.proofs.Since.{Since, lawful-since}
 use Rattle.acceptance.proofs.Stages.{stage-retreats}
-use Rattle.ruling.specs.Verdict.{outcome}
 use Rattle.ruling.proofs.Kept.{Kept, kept-along, kept-past, kept-ruled}
 use Rattle.field.specs.Listed.{offMap, onMapAll, onMapFrom}
 use Rattle.field.specs.Scene.{scene}
@@ -60,7 +58,6 @@ use Rattle.retreat.specs.Retreat.{
   pushChanges,
   retreatChanges,
   retreatRule,
-  retreatVerdict,
   walksFrom,
 }
 use Rattle.retreat.proofs.Fates.{none-nil, part-supply, part-walks}
@@ -298,12 +295,10 @@ module _ {b : Board} (l : Lawful b) (most : b .map .hexes ≤ nowhere) (e : b .d
         (leaves-by {A = λ c. Lawful (changes c (passesOn c))} (λ c o. lawful-left first second third o))
 
 module _ {p : List ℕ} (a : Accepted p) (h : ℕ) (route pushes : List ℕ) where
-  kept-retreat : {l : List ℕ} → Kept p l (retreatVerdict p h route pushes)
-  unfolding retreatVerdict retreatRule onMapAll onMapFrom offMap
-  kept-retreat =
+  pub retreat-keeps : {l : List ℕ} → Kept p l (retreatRule (board p) h route pushes)
+  unfolding retreatRule onMapAll onMapFrom offMap
+  retreat-keeps =
       let b = board p in
-      kept-past a (broken p)
-      (λ _.
       kept-past a (ltb 3 (length route))
       (λ _.
       kept-past a (ltb 9 (length pushes))
@@ -335,8 +330,4 @@ module _ {p : List ℕ} (a : Accepted p) (h : ℕ) (route pushes : List ℕ) whe
       pushes
       d
       g
-      i))))))))))))
-
-pub retreat-keeps :
-    (p l : List ℕ) (h : ℕ) (route pushes : List ℕ) → Accepted p → Accepted (outcome p l (retreatVerdict p h route pushes) .position)
-retreat-keeps p l h route pushes a = kept-retreat a h route pushes .ok
+      i)))))))))))

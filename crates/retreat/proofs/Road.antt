@@ -12,6 +12,7 @@ use Rattle.position.proofs.Changes.{board-makes}
 use Rattle.position.proofs.Shapes.{hexes-most}
 use Rattle.acceptance.proofs.Carries.{changes-then}
 use Rattle.acceptance.proofs.Routings.{route-there}
+use Rattle.ruling.proofs.Checks.{checked}
 use Rattle.shoves.specs.Group.{groupForce}
 use Rattle.aftermath.specs.Stage.{passesOn, thenOn}
 use Rattle.aftermath.proofs.KeepStage.{passed-by}
@@ -69,7 +70,7 @@ module _ {p : List ℕ} {h : ℕ} {route pushes : List ℕ} (d : Due p h route p
   after =
       let b = board p in
       let xs = doomChanges b h route in
-      ap board (sym (ends-doomed h route pushes (d .whole) (passes-due d) g refl .leaves))
+      ap board (sym (checked (d .whole) (ends-doomed h route pushes (passes-due d) g refl) .leaves))
       ∙ board-makes (d .whole .shaped) (thenOn b xs)
       ∙ changes-then xs (passesOn (changes b xs)) b
 

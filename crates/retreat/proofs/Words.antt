@@ -14,6 +14,7 @@ use Rattle.position.specs.Board.{Board, board}
 use Rattle.position.specs.Crowd.{owesAt}
 use Rattle.position.specs.Tally.{any}
 use Rattle.ruling.specs.Judged.{Passes}
+use Rattle.ruling.proofs.Checks.{checked}
 use Rattle.ruling.specs.Verdict.{Ruling}
 use Rattle.ruling.specs.Verdict.Ruling.{accepted, refused}
 use Rattle.field.proofs.Lists.{map-all}
@@ -136,11 +137,11 @@ answerOf end F.Pushing = accepted (1 ∷ end ∷ [])
 
 module _ {p : List ℕ} {h : ℕ} {route pushes : List ℕ} (d : Due p h route pushes) where
   answers : (f : Fate) → FateSays (board p) h route pushes f → answerTo p h route pushes ≡ answerOf (endOf (board p) route) f
-  answers F.Lost e = sym (ends-doomed h route pushes (d .whole) (passes-due d) e refl .answers)
-  answers F.NoRoute e = sym (stops-route h route pushes (d .whole) (passes-due d) e .answers)
-  answers F.NoPushes e = sym (stops-pushes h route pushes (d .whole) (passes-due d) (e .0) (e .1) (e .2) .answers)
-  answers F.Vacant g = sym (ends-going h route pushes (d .whole) (passes-due d) g refl refl .answers)
-  answers F.Pushing g = sym (ends-going h route pushes (d .whole) (passes-due d) g refl refl .answers)
+  answers F.Lost e = sym (checked (d .whole) (ends-doomed h route pushes (passes-due d) e refl) .answers)
+  answers F.NoRoute e = sym (checked (d .whole) (stops-route h route pushes (passes-due d) e) .answers)
+  answers F.NoPushes e = sym (checked (d .whole) (stops-pushes h route pushes (passes-due d) (e .0) (e .1) (e .2)) .answers)
+  answers F.Vacant g = sym (checked (d .whole) (ends-going h route pushes (passes-due d) g refl refl) .answers)
+  answers F.Pushing g = sym (checked (d .whole) (ends-going h route pushes (passes-due d) g refl refl) .answers)
 
   answered : {f : Fate} → fateOf (board p) h route pushes ≡ f → answerTo p h route pushes ≡ answerOf (endOf (board p) route) f
   answered e =

@@ -8,12 +8,11 @@ use lib.ListN.{length, getD}
 use lib.Dec.{leb, ltb, eqb}
 use Rattle.position.specs.Tally.{any}
 use Rattle.position.specs.Kind.{supplyKind}
-use Rattle.position.specs.Board.{Board, board, nowhere}
+use Rattle.position.specs.Board.{Board, nowhere}
 use Rattle.position.specs.Crowd.{owesAt, routes}
 use Rattle.position.specs.Change.{Change}
 use Rattle.position.specs.Change.Change.{placed, destroyed, assigned, routed}
 use Rattle.position.specs.Effect.{change}
-use Rattle.acceptance.specs.Broken.{broken}
 use Rattle.ruling.specs.Verdict.{Verdict}
 use Rattle.ruling.specs.Verdict.Judge.{rule}
 use Rattle.ruling.specs.Verdict.Verdict.{refuseIf, judge}
@@ -122,7 +121,3 @@ retreatRule b h route pushes =
     (refuseIf (notVacant b h route pushes) 14 0
     (refuseIf (notPushed b h route pushes) 17 0
     (judge (rule (retreatValues b h route) (thenOn b (leaveChanges b h route pushes)) [])))))
-
--- the ruling on a retreat: refusal 1 unless the position is accepted
-unfoldable pub retreatVerdict : List ℕ → ℕ → List ℕ → List ℕ → Verdict
-retreatVerdict p h route pushes = refuseIf (broken p) 1 0 (retreatRule (board p) h route pushes)

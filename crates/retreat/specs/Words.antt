@@ -10,14 +10,14 @@ use Rattle.position.specs.Kind.{supplyKind}
 use Rattle.position.specs.Board.{Board, board, forceOf, nowhere}
 use Rattle.position.specs.Crowd.{owesAt, routes}
 use Rattle.acceptance.specs.Accepted.{Accepted}
-use Rattle.ruling.specs.Verdict.{Ruling, outcome}
+use Rattle.ruling.specs.Verdict.{Ruling, afterCheck, outcome}
 use Rattle.ruling.specs.Verdict.Ruling.{refused, accepted}
 use Rattle.field.specs.Listed.{Charted}
 use Rattle.routes.specs.Run.{LegalRoute, RouteExists}
 use Rattle.routes.specs.Part.{PartRoute}
 use Rattle.chains.specs.Series.{LegalSeries, SeriesExists}
 use Rattle.shoves.specs.Group.{groupForce}
-use Rattle.retreat.specs.Retreat.{endOf, retreatVerdict}
+use Rattle.retreat.specs.Retreat.{endOf, retreatRule}
 
 -- a retreat that passes every question but that of its route and pushes: an accepted position in stage 1, a hex of the map where a unit
 -- owes, a route of 0..3 and pushes of 0..9 hexes of the map
@@ -57,10 +57,10 @@ Neither b h = (Vacant b h → ⊥) × (Pushed b h → ⊥)
 
 -- what a retreat is answered, and the board that it leaves
 abbrev pub answerTo : List ℕ → ℕ → List ℕ → List ℕ → Ruling
-answerTo p h route pushes = outcome p [] (retreatVerdict p h route pushes) .answer
+answerTo p h route pushes = outcome p [] (afterCheck p (retreatRule (board p) h route pushes)) .answer
 
 abbrev pub boardAfter : List ℕ → ℕ → List ℕ → List ℕ → Board
-boardAfter p h route pushes = board (outcome p [] (retreatVerdict p h route pushes) .position)
+boardAfter p h route pushes = board (outcome p [] (afterCheck p (retreatRule (board p) h route pushes)) .position)
 
 -- "Its role 1 units go together": all that owe in a hex are of the group's force. Proved, like the rest but for RoadRight,
 -- in proofs/Words.antt.

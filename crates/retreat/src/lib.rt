@@ -1,7 +1,10 @@
 // Retreat: a group that owes goes off along a vacant route, pushes friends out of its road, or is destroyed where it can go no further.
 ghost use mathlib.Core.List.{[]};
+ghost use Rattle.position.specs.Board.{board};
+ghost use Rattle.position.specs.Laid.{Laid};
+ghost use Rattle.acceptance.specs.Accepted.{Accepted};
 ghost use Rattle.ruling.specs.Verdict.{Met};
-ghost use Rattle.retreat.specs.Retreat.{retreatVerdict};
+ghost use Rattle.retreat.specs.Retreat.{retreatRule};
 ghost use Rattle.retreat.specs.Answers.{retreatedAs};
 
 mod asking;
@@ -9,7 +12,7 @@ mod fate;
 mod going;
 
 use fate::Fate;
-use position::Checked;
+use position::View;
 use ruling::Tested;
 
 // The answer to a retreat: where it ends, that the group is destroyed, or the refusal's number and its place in route and pushes.
@@ -19,13 +22,11 @@ pub enum Retreated {
     Refused(usize, usize),
 }
 
-// The units that owe in `hex` retreat along `route`; friends in their road go where `pushes` says.
-pub fn retreat(p: &mut [u8], hex: usize, route: &[u16], pushes: &[u16]) -> Retreated
-    ensures { λ r. ⌜ Met (now (p .entry)) [] (retreatVerdict (now (p .entry)) hex (now (route .entry)) (now (pushes .entry))) (retreatedAs r) (now (p .exit)) [] ⌝ }
+// The retreat on a checked position: the units that owe in `hex` go along `route`; friends in their road go where `pushes` says.
+pub fn retreat(p: &mut [u8], v: View, hex: usize, route: &[u16], pushes: &[u16]) -> Retreated
+    requires { ⌜ Laid (now p) v × Accepted (now p) ⌝ }
+    ensures { λ r. ⌜ Met (now (p .entry)) [] (retreatRule (board (now (p .entry))) hex (now (route .entry)) (now (pushes .entry))) (retreatedAs r) (now (p .exit)) [] ⌝ }
 {
-    let Checked::Whole(v) = acceptance::check(p) else {
-        return Retreated::Refused(1, 0);
-    };
     if let Tested::Stopped(n, k) = asking::judge_group(p, v, hex, route, pushes) {
         return Retreated::Refused(n, k);
     }

@@ -11,32 +11,26 @@ use lib.Dec.{ltb, eqb}
 use borrow.Author.Tests.{eq-eqb, le-ltb}
 use Rattle.position.specs.Board.{board}
 use Rattle.position.specs.Change.{makes}
-use Rattle.acceptance.specs.Broken.{broken, broken-false}
 use Rattle.acceptance.specs.Accepted.{Accepted}
 use Rattle.position.specs.Effect.{changes}
 use Rattle.position.proofs.Players.{old-enemy, old-neutral}
-use Rattle.ruling.specs.Verdict.{outcome, Met}
+use Rattle.ruling.specs.Verdict.{Met}
 use Rattle.ruling.specs.Verdict.Ruling.{accepted}
 use Rattle.ruling.proofs.Meets.{pass, ruled, only, untouched}
-use Rattle.ruling.proofs.Kept.{Kept, kept-past, kept-ruled}
+use Rattle.ruling.proofs.Checks.{checked}
+use Rattle.ruling.proofs.Kept.{Kept, kept-checked, kept-past, kept-ruled}
 use Rattle.ruling.proofs.Secrets.{secret-runs}
 use Rattle.ruling.proofs.OldDesks.{old-desks}
 use Rattle.field.specs.Scene.{scene}
 use Rattle.walk.specs.Chain.{OneIf}
 use Rattle.walk.proofs.Marks.{tab-at}
-use Rattle.supply.specs.Supply.{supplied, supplyMap, supplyRule, supplyVerdict}
+use Rattle.supply.specs.Supply.{supplied, supplyMap, supplyRule}
 use Rattle.supply.proofs.Supplies.{supplied-right}
-use Rattle.march.specs.Move.{moveVerdict}
-use Rattle.march.specs.EndPhase.{endVerdict}
 use Rattle.march.proofs.KeepMove.{move-keeps}
 use Rattle.march.proofs.KeepEnd.{end-keeps}
-use Rattle.battle.specs.Battle.{attackVerdict}
 use Rattle.battle.proofs.KeepAttack.{attack-keeps}
-use Rattle.aftermath.specs.Losses.{lossesVerdict}
-use Rattle.aftermath.specs.Advance.{advanceVerdict, closeVerdict}
 use Rattle.aftermath.proofs.KeepLosses.{losses-keeps}
 use Rattle.aftermath.proofs.KeepAdvance.{advance-keeps, close-keeps}
-use Rattle.retreat.specs.Retreat.{retreatVerdict}
 use Rattle.retreat.proofs.KeepRetreat.{retreat-keeps}
 use Rattle.rules.specs.Order.{Order, ruleOf, verdict, step}
 use Rattle.rules.specs.Order.Order.{supply, move, endPhase, attack, retreat, losses, advance, close}
@@ -51,7 +45,7 @@ supply-lends :
     → Met p l (verdict p (supply n) l) (accepted []) p (supplyMap (scene (board p)) n)
 unfolding ruleOf supplyRule makes
 supply-lends p l n a e le =
-    pass (broken-false a)
+    checked a
     (pass (ap not (eq-eqb (length l) (board p .map .hexes) e)) (pass (le-ltb 4 n le) (ruled refl)))
 
 -- a byte of the supply map, by the test
@@ -66,25 +60,24 @@ supply-right p l n h a e le there =
     (one-if (supplied (scene (board p)) n h) (supplied-right (scene (board p)) n h))
 
 -- the supply call leaves the position as it was
-supply-keeps : (p l : List ℕ) (n : ℕ) → Accepted p → Kept p l (supplyVerdict p n (length l))
-unfolding supplyVerdict supplyRule changes
+supply-keeps : (p l : List ℕ) (n : ℕ) → Accepted p → Kept p l (supplyRule (board p) n (length l))
+unfolding supplyRule changes
 supply-keeps p l n a =
-    kept-past a (broken p)
-    (λ _. kept-past a (not (eqb (length l) (board p .map .hexes))) (λ _. kept-past a (ltb 4 n) (λ _. kept-ruled a [] (a .lawful))))
+    kept-past a (not (eqb (length l) (board p .map .hexes))) (λ _. kept-past a (ltb 4 n) (λ _. kept-ruled a [] (a .lawful)))
 
-order-keeps : (p l : List ℕ) (o : Order) → Accepted p → Accepted (outcome p l (verdict p o l) .position)
+order-keeps : (p l : List ℕ) (o : Order) → Accepted p → Kept p l (ruleOf (board p) o (length l))
 unfolding ruleOf
-order-keeps p l (supply n) a = unfold supplyVerdict in supply-keeps p l n a .ok
-order-keeps p l (move u path) a = unfold moveVerdict in move-keeps p l u path a
-order-keeps p l endPhase a = unfold endVerdict in end-keeps p l a
-order-keeps p l (attack target units die) a = unfold attackVerdict in attack-keeps p l target units die a
-order-keeps p l (retreat hex route pushes) a = unfold retreatVerdict in retreat-keeps p l hex route pushes a
-order-keeps p l (losses units) a = unfold lossesVerdict in losses-keeps p l units a
-order-keeps p l (advance unit hex) a = unfold advanceVerdict in advance-keeps p l unit hex a
-order-keeps p l close a = unfold closeVerdict in close-keeps p l a
+order-keeps p l (supply n) a = supply-keeps p l n a
+order-keeps p l (move u path) a = move-keeps a u path
+order-keeps p l endPhase a = end-keeps l a
+order-keeps p l (attack target units die) a = attack-keeps a target units die (length l)
+order-keeps p l (retreat hex route pushes) a = retreat-keeps a hex route pushes
+order-keeps p l (losses units) a = losses-keeps a units
+order-keeps p l (advance unit hex) a = advance-keeps a unit hex
+order-keeps p l close a = close-keeps a
 
 pub stays-accepted : StaysAccepted
-stays-accepted p c a = order-keeps p (c .lent) (c .order) a
+stays-accepted p c a = kept-checked a (order-keeps p (c .lent) (c .order) a) .ok
 
 pub old-desks-right : OldDesksRight
 old-desks-right = record { enemies = old-enemy; neutrals = old-neutral; rulings = old-desks ruleOf }

@@ -14,7 +14,6 @@ use Rattle.ruling.specs.Secret.{Sent}
 use Rattle.ruling.specs.Verdict.{Ruling}
 use Rattle.ruling.specs.Verdict.Ruling.{accepted}
 use Rattle.clock.specs.Clock.{isLast}
-use Rattle.march.specs.EndPhase.{clock}
 use Rattle.rules.specs.Order.{Order, step}
 use Rattle.rules.specs.Order.Order.{close, endPhase, losses}
 use Rattle.rules.specs.Onward.{
@@ -58,7 +57,7 @@ module _ (b : Board) where
   unfolding onward lentOnward
   order-advances e = (rw e refl, rw e refl)
 
-  not-last : over b ≡ false → b .desk .battle .stage ≡ 0 → isLast (clock b) (b .desk .lastTurn) ≡ false
+  not-last : over b ≡ false → b .desk .battle .stage ≡ 0 → isLast (b .desk .clock) (b .desk .lastTurn) ≡ false
   unfolding over
   not-last o e = simp (eq-eqb (b .desk .battle .stage) 0 e) at o
 

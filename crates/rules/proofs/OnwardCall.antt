@@ -3,15 +3,17 @@
 use Prim.Native.Nat.{ℕ, _<_}
 use mathlib.Core.Path.{_≡_, sym, ap, subst, _∙_}
 use mathlib.Core.List.{List}
+use lib.ListN.{length}
 use Rattle.position.specs.Board.{Board, board}
 use Rattle.position.specs.Change.{Change, makes}
 use Rattle.position.specs.Effect.{changes}
-use Rattle.position.specs.Shape.{Shaped}
 use Rattle.position.proofs.Changes.{board-makes}
+use Rattle.acceptance.specs.Accepted.{Accepted}
 use Rattle.ruling.specs.Secret.{Sent}
 use Rattle.ruling.specs.Verdict.{Met}
 use Rattle.ruling.specs.Verdict.Ruling.{accepted}
-use Rattle.rules.specs.Order.{Order, step, verdict}
+use Rattle.ruling.proofs.Checks.{checked}
+use Rattle.rules.specs.Order.{Order, ruleOf, step}
 use Rattle.rules.specs.Onward.{left}
 
 pub record Goes (p : List ℕ) (c : Sent Order) : Type 0 where
@@ -19,14 +21,15 @@ pub record Goes (p : List ℕ) (c : Sent Order) : Type 0 where
   pub answers : step p c .answer ≡ accepted values
   pub falls : left (board (step p c .position)) < left (board p)
 
--- a promise that is met with an acceptance, where its changes leave less
+-- a rule that is met with an acceptance on an accepted position, where its changes leave less
 pub goes-met :
-    {p vs m : List ℕ} → Shaped p → (c : Sent Order) (xs : List Change)
-    → Met p (c .lent) (verdict p (c .order) (c .lent)) (accepted vs) (makes p xs) m
+    {p vs m : List ℕ} → Accepted p → (c : Sent Order) (xs : List Change)
+    → Met p (c .lent) (ruleOf (board p) (c .order) (length (c .lent))) (accepted vs) (makes p xs) m
     → left (changes (board p) xs) < left (board p) → Goes p c
-goes-met {p} {vs} s c xs g f =
+goes-met {p} {vs} a c xs r f =
+    let g = checked a r in
     record {
       values = vs;
       answers = sym (g .answers);
-      falls = subst (λ (d : Board). left d < left (board p)) (sym (ap board (sym (g .leaves)) ∙ board-makes s xs)) f;
+      falls = subst (λ (d : Board). left d < left (board p)) (sym (ap board (sym (g .leaves)) ∙ board-makes (a .shaped) xs)) f;
     }

@@ -10,7 +10,6 @@ use Rattle.position.specs.Board.{Board, board, nowhere}
 use Rattle.position.specs.Effect.{changes}
 use Rattle.position.proofs.Shapes.{hexes-most}
 use Rattle.acceptance.specs.Accepted.{Accepted, Lawful}
-use Rattle.acceptance.specs.Broken.{broken-false}
 use Rattle.ruling.proofs.Meets.{pass, ruled}
 use Rattle.aftermath.specs.Advance.{closeChanges, closeRule}
 use Rattle.aftermath.specs.Stage.{thenOn}
@@ -35,6 +34,6 @@ pub close-goes : {p : List ℕ} → Accepted p → board p .desk .battle .stage 
 unfolding ruleOf closeRule
 close-goes {p} a e =
     let b = board p in
-    goes-met (a .shaped) (record { order = close; lent = [] }) (thenOn b (closeChanges b))
-    (pass (broken-false a) (pass (ap not (eq-eqb (b .desk .battle .stage) 3 e)) (ruled refl)))
+    goes-met a (record { order = close; lent = [] }) (thenOn b (closeChanges b))
+    (pass (ap not (eq-eqb (b .desk .battle .stage) 3 e)) (ruled refl))
     (close-falls (a .lawful) (omega (arith, hexes-most (a .shaped))) e)

@@ -8,45 +8,25 @@ use native.Mathlib.Omega.{arith}
 use lib.ListN.{length, length-replicate, replicate}
 use borrow.Author.Tests.{eq-eqb}
 use Rattle.position.specs.Board.{Board, Desk, board}
-use Rattle.position.specs.Effect.{changes, withClock, withDesk}
-use Rattle.position.proofs.Tallies.{same-or}
+use Rattle.position.specs.Effect.{changes}
+use Rattle.acceptance.proofs.Clocks.{timely}
 use Rattle.acceptance.specs.Accepted.{Accepted, Lawful}
-use Rattle.acceptance.specs.Broken.{broken-false}
 use Rattle.ruling.proofs.Meets.{pass, ruled}
-use Rattle.clock.specs.declared.Clock.{Clock}
-use Rattle.clock.specs.Clock.{isLast, nextClock}
-use Rattle.clock.proofs.Turns.{next-by, not-last}
-use Rattle.march.specs.EndPhase.{clock, endChanges, endRule}
+use Rattle.clock.specs.Clock.{isLast}
+use Rattle.clock.proofs.Turns.{next-less}
+use Rattle.march.specs.EndPhase.{endChanges, endRule}
 use Rattle.march.proofs.EndDesk.{end-desk}
 use Rattle.rules.specs.Order.{ruleOf}
 use Rattle.rules.specs.Order.Order.{endPhase}
-use Rattle.rules.specs.Onward.{battleLeft, left, phasesLeft}
+use Rattle.rules.specs.Onward.{battleLeft, left, phasesOf}
 use Rattle.rules.proofs.OnwardCall.{Goes, goes-met}
 use Rattle.rules.proofs.OnwardStage.{left-quiet}
 
-module _ {b : Board} (l : Lawful b) (e : b .desk .battle .stage ≡ 0) (more : isLast (clock b) (b .desk .lastTurn) ≡ false) where
-  -- the board with another clock
-  abbrev at : Clock → Board
-  at c = withDesk b (withClock (b .desk) (c .turn) (c .force) (c .phase))
-
-  next-phases : phasesLeft (at (nextClock (clock b))) < phasesLeft b
-  unfolding phasesLeft
-  next-phases =
-      let d = b .desk in
-      let late = l .clock .lastTurn .low in
-      let few = l .clock .force in
-      let short = l .clock .phase in
-      next-by (λ c. phasesLeft (at c) < phasesLeft b) (clock b)
-      (λ ph f.
-      same-or (d .turn) (d .lastTurn)
-      (λ t. absurd (not-last (d .lastTurn) (clock b) more ph f t))
-      (λ t. let m : d .turn < d .lastTurn = omega arith in omega arith))
-      (λ ph f. let m : d .force < 3 = omega arith in omega arith)
-      (λ ph. let m : d .phase < 2 = omega arith in omega arith)
-
-  end-phases : phasesLeft (changes b (endChanges b)) < phasesLeft b
-  unfolding phasesLeft
-  end-phases = rw (end-desk b) next-phases
+module _ {b : Board} (l : Lawful b) (e : b .desk .battle .stage ≡ 0) (more : isLast (b .desk .clock) (b .desk .lastTurn) ≡ false) where
+  end-phases : phasesOf (changes b (endChanges b)) < phasesOf b
+  end-phases =
+      let n = next-less (b .desk .lastTurn) (b .desk .clock) (timely (l .clock)) more in
+      rw (end-desk b) (omega (arith, n))
 
   end-quiet : battleLeft (changes b (endChanges b)) ≡ 0
   end-quiet = left-quiet (changes b (endChanges b)) (ap (λ (d : Desk). d .battle .stage) (end-desk b) ∙ e)
@@ -56,15 +36,14 @@ module _ {b : Board} (l : Lawful b) (e : b .desk .battle .stage ≡ 0) (more : i
   end-falls = omega (arith, end-phases, end-quiet)
 
 pub end-goes :
-    {p : List ℕ} → Accepted p → board p .desk .battle .stage ≡ 0 → isLast (clock (board p)) (board p .desk .lastTurn) ≡ false
+    {p : List ℕ} → Accepted p → board p .desk .battle .stage ≡ 0 → isLast (board p .desk .clock) (board p .desk .lastTurn) ≡ false
     → Goes p (record { order = endPhase; lent = replicate (board p .map .hexes) 0 })
 unfolding ruleOf endRule
 end-goes {p} a e more =
     let b = board p in
     let n = b .map .hexes in
     let l : List ℕ = replicate n 0 in
-    goes-met (a .shaped) (record { order = endPhase; lent = l }) (endChanges b)
-    (pass (broken-false a)
+    goes-met a (record { order = endPhase; lent = l }) (endChanges b)
     (pass (ap not (eq-eqb (length l) n (length-replicate {A = ℕ} n 0)))
-    (pass (ap not (eq-eqb (b .desk .battle .stage) 0 e)) (pass more (ruled refl)))))
+    (pass (ap not (eq-eqb (b .desk .battle .stage) 0 e)) (pass more (ruled refl))))
     (end-falls (a .lawful) e more)

@@ -8,8 +8,7 @@ use Rattle.position.specs.Board.{Board, board, nowhere}
 use Rattle.position.specs.Effect.{changes}
 use Rattle.position.proofs.Shapes.{hexes-most}
 use Rattle.acceptance.specs.Accepted.{Accepted, Lawful}
-use Rattle.acceptance.specs.Broken.{broken-false}
-use Rattle.ruling.proofs.Meets.{pass, ruled}
+use Rattle.ruling.proofs.Meets.{ruled}
 use Rattle.aftermath.specs.Losses.{lossChanges, lossesRule}
 use Rattle.aftermath.specs.Stage.{thenOn}
 use Rattle.aftermath.proofs.AllLost.{all-pass}
@@ -34,6 +33,6 @@ losses-go {p} a e =
     let b = board p in
     let k = a .lawful .stage .during .losses e .owing in
     let units = allOwing b in
-    goes-met (a .shaped) (record { order = losses units; lent = [] }) (thenOn b (lossChanges b units))
-    (pass (broken-false a) (all-pass b p e (k .low) (k .high) [] _ _ _ _ (ruled refl)))
+    goes-met a (record { order = losses units; lent = [] }) (thenOn b (lossChanges b units))
+    (all-pass b p e (k .low) (k .high) [] _ _ _ _ (ruled refl))
     (losses-fall (a .lawful) (omega (arith, hexes-most (a .shaped))) e units)

@@ -16,7 +16,6 @@ use Rattle.position.specs.Tally.{any}
 use Rattle.position.proofs.Shapes.{hexes-most}
 use Rattle.position.proofs.Tallies.{both-yes, either, not-both, tally-pos, tally-some}
 use Rattle.acceptance.specs.Accepted.{Accepted, Lawful}
-use Rattle.acceptance.specs.Broken.{broken-false}
 use Rattle.acceptance.proofs.Lawfuls.{standable-on}
 use Rattle.acceptance.proofs.Owings.{owes}
 use Rattle.ruling.proofs.Meets.{pass, ruled}
@@ -255,9 +254,8 @@ module _ {p : List ℕ} (a : Accepted p) (e : board p .desk .battle .stage ≡ 1
       let pushes = pushesFor b start in
       let g = is-given (a .lawful) most e start (leader b some) m in
       let l = owed (a .lawful) most e start (leader b some) m .high in
-      goes-met (a .shaped) (record { order = retreat start route pushes; lent = [] })
+      goes-met a (record { order = retreat start route pushes; lent = [] })
       (thenOn b (leaveChanges b start route pushes))
-      (pass (broken-false a)
       (passes-due due [] _ _ _ _
-      (pass (given-part start l g) (pass (given-vacant start l g) (pass (given-pushed start l g) (ruled refl))))))
+      (pass (given-part start l g) (pass (given-vacant start l g) (pass (given-pushed start l g) (ruled refl)))))
       (retreat-falls (a .lawful) most e start (leader b some) m)

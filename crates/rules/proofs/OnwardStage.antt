@@ -13,7 +13,7 @@ use Rattle.acceptance.proofs.Carries.{changes-then}
 use Rattle.acceptance.proofs.Since.{Since}
 use Rattle.aftermath.specs.Stage.{passesOn, thenOn}
 use Rattle.aftermath.proofs.KeepStage.{passed-by}
-use Rattle.rules.specs.Onward.{battleLeft, left, phasesLeft}
+use Rattle.rules.specs.Onward.{battleLeft, left, phasesOf}
 
 module _ (b : Board) where
   pub left-quiet : b .desk .battle .stage ≡ 0 → battleLeft b ≡ 0
@@ -34,12 +34,12 @@ module _ (b : Board) where
 
 -- setting the stage leaves the clock
 module _ (c : Board) where
-  phases-advances : phasesLeft (change c (staged 3 0 0)) ≡ phasesLeft c
-  unfolding phasesLeft change
+  phases-advances : phasesOf (change c (staged 3 0 0)) ≡ phasesOf c
+  unfolding change
   phases-advances = refl
 
-  phases-quiet : phasesLeft (change (change c (staged 0 0 0)) unrouted) ≡ phasesLeft c
-  unfolding phasesLeft change
+  phases-quiet : phasesOf (change (change c (staged 0 0 0)) unrouted) ≡ phasesOf c
+  unfolding change
   phases-quiet = refl
 
   battle-advances : battleLeft (change c (staged 3 0 0)) ≡ 1
@@ -57,14 +57,13 @@ module _
     (some : 1 ≤ battleLeft b)
     (more : (holders c 2 ≡ 0 → ⊥) → 2 ≤ battleLeft b)
     (later : (holders c 1 ≡ 0 → ⊥) → battleLeft c < battleLeft b) where
-  phases-since : phasesLeft c ≡ phasesLeft b
-  unfolding phasesLeft
+  phases-since : phasesOf c ≡ phasesOf b
   phases-since = rw (s .clock, s .fixed .lastTurn) refl
 
   falls-passed : left (changes c (passesOn c)) < left b
   unfolding left
   falls-passed =
-      passed-by (λ d. phasesLeft d + battleLeft d < phasesLeft b + battleLeft b) c
+      passed-by (λ d. phasesOf d + battleLeft d < phasesOf b + battleLeft b) c
       (λ _ _. omega (arith, phases-since, phases-quiet c, battle-quiet c))
       (λ _ n. omega (arith, more n, phases-since, phases-advances c, battle-advances c))
       (λ n. omega (arith, later n, phases-since))

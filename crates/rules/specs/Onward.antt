@@ -19,8 +19,7 @@ use Rattle.routes.specs.declared.Found.{Found}
 use Rattle.routes.specs.declared.Found.the-variants.{Route, Nothing}
 use Rattle.routes.specs.Search.{firstRoute}
 use Rattle.routes.specs.Part.{reach}
-use Rattle.clock.specs.Clock.{isLast}
-use Rattle.march.specs.EndPhase.{clock}
+use Rattle.clock.specs.Clock.{isLast, phasesLeft}
 use Rattle.aftermath.specs.Losses.{owes}
 use Rattle.chains.specs.Find.{Sought, seriesFor}
 use Rattle.shoves.specs.Group.{groupForce}
@@ -30,7 +29,7 @@ use Rattle.rules.specs.Order.Order.{endPhase, retreat, losses, close}
 
 -- "16 | last phase of the last turn": the game is over, the end of its phase is refused
 unfoldable pub over : Board → Bool
-over b = eqb (b .desk .battle .stage) 0 && isLast (clock b) (b .desk .lastTurn)
+over b = eqb (b .desk .battle .stage) 0 && isLast (b .desk .clock) (b .desk .lastTurn)
 
 -- "Role 1 owes": all that owe, in counter order
 unfoldable pub allOwing : Board → List ℕ
@@ -84,19 +83,18 @@ lentOnward b = cond (eqb (b .desk .battle .stage) 0) (replicate (b .map .hexes) 
 unfoldable pub onwardCall : List ℕ → Sent Order
 onwardCall p = record { order = onward (board p); lent = lentOnward (board p) }
 
--- "passes 0, 1, 2, then the next force, and after force 3 the next turn": the phases from this one to the last
-unfoldable pub phasesLeft : Board → ℕ
-phasesLeft b =
-    12 * (b .desk .lastTurn - b .desk .clock .turn) + (3 * (3 - b .desk .clock .force) + (2 - b .desk .clock .phase))
-
 -- "Stages: 0 quiet, 1 retreats, 2 losses, 3 advances": the calls that a battle may still take
 unfoldable pub battleLeft : Board → ℕ
 battleLeft b =
     cond (eqb (b .desk .battle .stage) 0) 0
     (cond (eqb (b .desk .battle .stage) 1) (2 + holders b 1) (cond (eqb (b .desk .battle .stage) 2) 2 1))
 
+-- the phases that come after this one
+abbrev pub phasesOf : Board → ℕ
+phasesOf b = phasesLeft (b .desk .lastTurn) (b .desk .clock)
+
 unfoldable pub left : Board → ℕ
-left b = phasesLeft b + battleLeft b
+left b = phasesOf b + battleLeft b
 
 abbrev pub IsAccepted : Ruling → Type 0
 IsAccepted (refused n k) = ⊥

@@ -1,4 +1,4 @@
--- The orders of a game, and the ruling on each: the very verdicts that the calls promise.
+-- The orders of a game, the rule for each, and the ruling: the very verdicts that the calls promise.
 -- Assumes nothing.
 use Prim.Native.Nat.{ℕ}
 use mathlib.Core.List.{List}

@@ -8,7 +8,7 @@ use Rattle.position.specs.Layout.{setUnit, setDesk, setHex, setMarks, setRole, 
 use Rattle.position.specs.Change.{make, makes}
 use Rattle.position.specs.Effect.{upd, reroute, unfilled, change, changes}
 use Rattle.acceptance.specs.Examples.{computing}
-use Rattle.ruling.specs.Verdict.{judged, outcome, along}
+use Rattle.ruling.specs.Verdict.{afterCheck, judged, outcome, along}
 use Rattle.ruling.specs.Secret.{Sent}
 use Rattle.field.specs.Listed.{offMap, onMapAll, onMapFrom, sieve}
 use Rattle.routes.specs.Examples.{searching}
@@ -41,7 +41,7 @@ use Rattle.rules.specs.Order.Order.{supply, endPhase, retreat}
 
 -- 'unfolding playing' opens what these calls compute by
 unfoldable pub playing : ℕ
-unfolding computing searching pushing with without faced setUnit setDesk setHex setMarks setRole setClock setStage setRouteHex setRoute clearRoutes make makes upd reroute unfilled change changes judged outcome along offMap onMapAll onMapFrom sieve supplyRule nextClock isLast judgesSupply rested restAll supplyChanges endChanges endRule passesOn thenOn group groupForce walksFrom hasRoute hasSeries doomed notPart notVacant notPushed endOf leaves goesOff noteOf retreatChanges doomChanges leaveChanges retreatValues retreatRule ruleOf
+unfolding computing searching pushing with without faced setUnit setDesk setHex setMarks setRole setClock setStage setRouteHex setRoute clearRoutes make makes upd reroute unfilled change changes afterCheck judged outcome along offMap onMapAll onMapFrom sieve supplyRule nextClock isLast judgesSupply rested restAll supplyChanges endChanges endRule passesOn thenOn group groupForce walksFrom hasRoute hasSeries doomed notPart notVacant notPushed endOf leaves goesOff noteOf retreatChanges doomChanges leaveChanges retreatValues retreatRule ruleOf
 playing = 0
 
 -- on the roster's position: the end of the phase, with a scratch of three bytes; and the supply of a nationality that there is not

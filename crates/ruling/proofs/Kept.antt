@@ -6,10 +6,11 @@ use mathlib.Core.Bool.{Bool, true, false}
 use mathlib.Core.List.{List, [], _∷_}
 use Rattle.position.specs.Board.{board}
 use Rattle.acceptance.specs.Accepted.{Lawful, Accepted}
+use Rattle.acceptance.specs.Broken.{broken}
 use Rattle.position.specs.Change.{Change}
 use Rattle.position.specs.Effect.{changes}
 use Rattle.acceptance.proofs.Keeps.{accepted-makes}
-use Rattle.ruling.specs.Verdict.{Verdict, along, judged, outcome}
+use Rattle.ruling.specs.Verdict.{Verdict, afterCheck, along, judged, outcome}
 use Rattle.ruling.specs.Verdict.Judge.{rule}
 use Rattle.ruling.specs.Verdict.Verdict.{refuseIf, judge}
 
@@ -23,6 +24,11 @@ module _ {p l : List ℕ} (a : Accepted p) where
   unfolding outcome
   kept-past true f = record { ok = a }
   kept-past false f = record { ok = f refl .ok }
+
+  -- past the check
+  pub kept-checked : {v : Verdict} → Kept p l v → Kept p l (afterCheck p v)
+  unfolding afterCheck
+  kept-checked k = kept-past (broken p) (λ _. k)
 
   -- what holds of the state before a place holds after it, where the place's tests do not refuse
   pub kept-along :

@@ -1,4 +1,5 @@
 pub mod Meets
+pub mod Checks
 pub mod Going
 pub mod Kept
 pub mod Secrets

@@ -11,9 +11,9 @@ use Rattle.position.specs.Change.{turned}
 use Rattle.position.proofs.Players.{Old, Lengthened, strength-with, board-with, twin-players, turned-with}
 use Rattle.position.proofs.Twins.{twin-makes}
 use Rattle.acceptance.specs.Accepted.{Accepted}
-use Rattle.acceptance.specs.Broken.{accepted?, broken, broken-true, broken-false}
+use Rattle.acceptance.specs.Broken.{accepted?, broken-true}
 use Rattle.acceptance.proofs.OldDesks.{broken-with}
-use Rattle.ruling.specs.Verdict.{Judge, Verdict, Outcome, judged, outcome}
+use Rattle.ruling.specs.Verdict.{Judge, Verdict, Outcome, afterCheck, judged, outcome}
 use Rattle.ruling.specs.Verdict.Judge.{reveal, rule}
 use Rattle.ruling.specs.Verdict.Verdict.{refuseIf, judge}
 use Rattle.ruling.specs.Verdict.Ruling.{accepted}
@@ -39,7 +39,7 @@ outcome-with (judge j) p l o = judged-with j p (withPlayers p) (record { old = o
 -- one call
 module _ {Order : Type 0} (rules : Rules Order) where
   pub old-desks : OldDesks rules
-  unfolding outcome
+  unfolding afterCheck outcome
   old-desks p c e = at (accepted? p)
     where
       asked : (t : Bool) → Board → Verdict

@@ -9,13 +9,13 @@ use Rattle.position.specs.Layout.{strength}
 use Rattle.position.specs.Board.{Board, board}
 use Rattle.position.specs.Shape.{Shaped}
 use Rattle.acceptance.specs.Accepted.{Accepted}
-use Rattle.acceptance.specs.Broken.{broken, broken-false}
+use Rattle.acceptance.specs.Broken.{broken-false}
 use Rattle.position.specs.Change.{Change, makes, turned}
 use Rattle.acceptance.specs.Alike.{Same, Alike}
 use Rattle.position.proofs.Front.{shaped-kept}
 use Rattle.position.proofs.Changes.{turned-made}
 use Rattle.acceptance.proofs.Alikes.{front-same, board-alike, same-makes, same-turned}
-use Rattle.ruling.specs.Verdict.{Judge, Verdict, Outcome, judged, outcome, revealedBy, revealed}
+use Rattle.ruling.specs.Verdict.{Judge, Verdict, Outcome, afterCheck, judged, outcome, revealedBy, revealed}
 use Rattle.ruling.specs.Verdict.Judge.{reveal, rule}
 use Rattle.ruling.specs.Verdict.Verdict.{refuseIf, judge}
 use Rattle.ruling.specs.Secret.{Each, OneStrength, SameOutcome, Sent, Rules, verdictOn, afterCall, Keeping, ShownAlike, RunsAlike, SecretRuns}
@@ -48,6 +48,7 @@ secret (judge j) p q l a s h = secret-judge j p q a s h
 module _ {Order : Type 0} (rules : Rules Order) where
   -- alike positions are ruled on alike
   pub one-verdict : {p q : List ℕ} → Alike p q → (c : Sent Order) → verdictOn rules q c ≡ verdictOn rules p c
+  unfolding afterCheck
   one-verdict l c =
       ap₂ (λ (t : Bool) (b : Board). refuseIf t 1 0 (rules b (c .order) (length (c .lent))))
       (broken-false (l .second) ∙ sym (broken-false (l .first)))

@@ -7,10 +7,8 @@ use lib.ListN.{length}
 use Rattle.position.specs.Layout.{strength}
 use Rattle.position.specs.Board.{Board, board}
 use Rattle.acceptance.specs.Accepted.{Accepted}
-use Rattle.acceptance.specs.Broken.{broken}
 use Rattle.acceptance.specs.Alike.{Same, Alike}
-use Rattle.ruling.specs.Verdict.{Verdict, Outcome, outcome, revealed}
-use Rattle.ruling.specs.Verdict.Verdict.{refuseIf}
+use Rattle.ruling.specs.Verdict.{Verdict, Outcome, afterCheck, outcome, revealed}
 
 -- P holds of each number of a list
 abbrev pub Each : (ℕ → Type 0) → List ℕ → Type 0
@@ -40,9 +38,9 @@ Referee Order = List ℕ → Sent Order → Outcome
 abbrev pub Rules : Type 0 → Type 0
 Rules Order = Board → Order → ℕ → Verdict
 
--- "nothing further is looked at": a broken position is refused by 1 before anything else
+-- the ruling on a call as it is sent
 abbrev pub verdictOn : {Order : Type 0} → Rules Order → List ℕ → Sent Order → Verdict
-verdictOn rules p c = refuseIf (broken p) 1 0 (rules (board p) (c .order) (length (c .lent)))
+verdictOn rules p c = afterCheck p (rules (board p) (c .order) (length (c .lent)))
 
 -- the referee that rules by them
 abbrev pub afterCall : {Order : Type 0} → Rules Order → Referee Order

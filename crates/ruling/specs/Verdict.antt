@@ -7,6 +7,7 @@ use mathlib.Core.Bool.{Bool, true, false}
 use mathlib.Core.List.{List, [], _∷_}
 use Rattle.position.specs.Layout.{strength}
 use Rattle.position.specs.Change.{Change, makes, turned}
+use Rattle.acceptance.specs.Broken.{broken}
 
 -- a unit is turned over and its strength handed on; at the end stand the answer's values, the changes, and the bytes handed back
 pub data Judge : Type 0 where
@@ -17,6 +18,10 @@ pub data Judge : Type 0 where
 pub data Verdict : Type 0 where
   refuseIf : Bool → ℕ → ℕ → Verdict → Verdict
   judge : Judge → Verdict
+
+-- "1 | position breaks a line above; nothing further is looked at": the rule on a checked position comes after the check
+unfoldable pub afterCheck : List ℕ → Verdict → Verdict
+afterCheck p v = refuseIf (broken p) 1 0 v
 
 -- units turned over one after another, and their strengths handed on
 unfoldable pub revealAll : List ℕ → (List ℕ → Judge) → Judge

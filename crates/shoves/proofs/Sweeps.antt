@@ -17,7 +17,7 @@ use Rattle.position.proofs.Changes.{board-makes, laid-makes, makes-then}
 use Rattle.position.proofs.Effects.{upd-else}
 use Rattle.position.proofs.Tallies.{either}
 use Rattle.acceptance.proofs.Fates.{Same, assigned-else, destroyed-else}
-use Rattle.acceptance.proofs.Carries.{kind-by, kind-by}
+use Rattle.acceptance.proofs.Carries.{kind-by}
 use Rattle.acceptance.proofs.Stills.{fixed-changes}
 use Rattle.field.specs.Listed.{sieve}
 use Rattle.field.specs.Scene.{scene}

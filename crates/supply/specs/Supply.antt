@@ -4,8 +4,7 @@ use Prim.Native.Nat.{ℕ}
 use mathlib.Core.Bool.{Bool, not, cond}
 use mathlib.Core.List.{List, []}
 use lib.Dec.{ltb, eqb}
-use Rattle.position.specs.Board.{Board, board}
-use Rattle.acceptance.specs.Broken.{broken}
+use Rattle.position.specs.Board.{Board}
 use Rattle.position.specs.Ground.{next}
 use Rattle.ruling.specs.Verdict.{Verdict}
 use Rattle.ruling.specs.Verdict.Judge.{rule}
@@ -38,7 +37,3 @@ supplyRule b n long =
     refuseIf (not (eqb long (b .map .hexes))) 3 0
     (refuseIf (ltb 4 n) 3 0
     (judge (rule [] [] (supplyMap (scene b) n))))
-
--- the ruling on the supply call: refusal 1 unless the position is accepted
-unfoldable pub supplyVerdict : List ℕ → ℕ → ℕ → Verdict
-supplyVerdict p n long = refuseIf (broken p) 1 0 (supplyRule (board p) n long)

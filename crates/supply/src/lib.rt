@@ -9,9 +9,8 @@ ghost use Rattle.position.specs.Laid.{Laid};
 ghost use Rattle.ruling.specs.Verdict.{Met};
 ghost use Rattle.ruling.specs.Answers.{answerAs};
 ghost use Rattle.field.specs.Scene.{scene};
-ghost use Rattle.supply.specs.Supply.{supplyMap, supplyVerdict};
+ghost use Rattle.supply.specs.Supply.{supplyMap, supplyRule};
 use paint::frame;
-use position::Checked;
 use position::View;
 use position::kind;
 use ruling::Answer;
@@ -26,14 +25,12 @@ pub fn fill(p: &[u8], v: View, n: usize, out: &mut [u8])
     walk::walk(p, v, out);
 }
 
-// The supply call: 1 or 0 per hex for a nationality, into a buffer of exactly width x height bytes.
-pub fn supply(p: &[u8], nationality: usize, out: &mut [u8]) -> Answer
+// The supply call on a checked position: 1 or 0 per hex for a nationality, into a buffer of exactly width x height bytes.
+pub fn supply(p: &[u8], v: View, nationality: usize, out: &mut [u8]) -> Answer
+    requires { ⌜ Laid (now p) v ⌝ }
     ensures { λ r.
-        ⌜ Met (now (p .entry)) (now (out .entry)) (supplyVerdict (now (p .entry)) nationality (length (now (out .entry)))) (answerAs r) (now (p .entry)) (now (out .exit)) ⌝ }
+        ⌜ Met (now (p .entry)) (now (out .entry)) (supplyRule (board (now (p .entry))) nationality (length (now (out .entry)))) (answerAs r) (now (p .entry)) (now (out .exit)) ⌝ }
 {
-    let Checked::Whole(v) = acceptance::check(p) else {
-        return Answer::Refused(1, 0);
-    };
     let hexes = v.hexes;
     if out.len() != hexes {
         return Answer::Refused(3, 0);

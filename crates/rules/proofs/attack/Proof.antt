@@ -1,23 +1,49 @@
--- `rules::attack` meets its promise, which is that of the call it forwards to.
+-- `rules::attack` meets its promise: refusal 1, or on a checked position that of the call it forwards to.
 -- Assumes nothing.
-use Rattle.battle.specs.Battle.{attackVerdict}
-use Rattle.rules.specs.Order.{ruleOf}
 use borrow.Author.Needs.{needs}
+use Rattle.ruling.proofs.Checks.{checked, unchecked, whole}
+use Rattle.rules.specs.Order.{ruleOf}
 use Rattle.rules.proofs.attack.Statement.{statement}
 use Rattle.rules.proofs.attack.Tie as tie
 
-attack-requires : tie.Need-attack-requires
-attack-requires c κs = search needs
+check-requires : tie.Need-check-requires
+check-requires c κs = search needs
+
+enum-known-v : tie.Need-enum-known-v
+enum-known-v c = search needs
+
+enum-told : tie.Need-enum-told
+enum-told c = search needs
 
 same-length : tie.Need-same-length
 same-length c = search needs
 
+returns : tie.Need-returns
+returns c = unchecked _ (c .before .before .check .ensures) (c .enum-told .given .1)
+
+attack-requires : tie.Need-attack-requires
+attack-requires c κs = let w = whole (c .before .before .before .before .before .check .ensures) (c .before .before .before .v .given .1) in (w .1, w .0)
+
 same-length-2 : tie.Need-same-length-2
 same-length-2 c = search needs
 
-returns : tie.Need-returns
-unfolding attackVerdict ruleOf
-returns c = c .before .before .before .before .attack .ensures
+same-length-3 : tie.Need-same-length-3
+same-length-3 c = search needs
+
+returns-2 : tie.Need-returns-2
+unfolding ruleOf
+returns-2 c = checked (whole (c .before .before .before .before .before .before .before .before .before .before .check .ensures) (c .before .before .before .before .before .before .before .before .v .given .1) .0) (c .before .before .before .before .attack .ensures)
 
 pub attack-spec : {M : Type 1} → statement M
-attack-spec = tie.close (tie.spec attack-requires same-length same-length-2 returns)
+attack-spec =
+    tie.close
+    (tie.spec
+    check-requires
+    enum-known-v
+    enum-told
+    same-length
+    returns
+    attack-requires
+    same-length-2
+    same-length-3
+    returns-2)

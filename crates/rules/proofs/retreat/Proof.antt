@@ -1,20 +1,45 @@
--- `rules::retreat` meets its promise, which is that of the call it forwards to.
+-- `rules::retreat` meets its promise: refusal 1, or on a checked position that of the call it forwards to.
 -- Assumes nothing.
-use Rattle.retreat.specs.Retreat.{retreatVerdict}
-use Rattle.rules.specs.Order.{ruleOf}
 use borrow.Author.Needs.{needs}
+use Rattle.ruling.proofs.Checks.{checked, unchecked, whole}
+use Rattle.rules.specs.Order.{ruleOf}
 use Rattle.rules.proofs.retreat.Statement.{statement}
 use Rattle.rules.proofs.retreat.Tie as tie
 
-retreat-requires : tie.Need-retreat-requires
-retreat-requires c κs = search needs
+check-requires : tie.Need-check-requires
+check-requires c κs = search needs
+
+enum-known-v : tie.Need-enum-known-v
+enum-known-v c = search needs
+
+enum-told : tie.Need-enum-told
+enum-told c = search needs
 
 same-length : tie.Need-same-length
 same-length c = search needs
 
 returns : tie.Need-returns
-unfolding retreatVerdict ruleOf
-returns c = c .before .before .retreat .ensures
+returns c = unchecked _ (c .before .before .check .ensures) (c .enum-told .given .1)
+
+retreat-requires : tie.Need-retreat-requires
+retreat-requires c κs = let w = whole (c .before .before .before .before .check .ensures) (c .before .before .v .given .1) in (w .1, w .0)
+
+same-length-2 : tie.Need-same-length-2
+same-length-2 c = search needs
+
+returns-2 : tie.Need-returns-2
+unfolding ruleOf
+returns-2 c = checked (whole (c .before .before .before .before .before .before .before .check .ensures) (c .before .before .before .before .before .v .given .1) .0) (c .before .before .retreat .ensures)
 
 pub retreat-spec : {M : Type 1} → statement M
-retreat-spec = tie.close (tie.spec retreat-requires same-length returns)
+retreat-spec =
+    tie.close
+    (tie.spec
+    check-requires
+    enum-known-v
+    enum-told
+    same-length
+    returns
+    retreat-requires
+    same-length-2
+    returns-2)

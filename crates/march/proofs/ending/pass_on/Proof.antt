@@ -7,13 +7,12 @@ use Rattle.position.specs.Layout.{hexes}
 use Rattle.position.specs.Board.{board}
 use Rattle.position.proofs.Changes.{laid-make, laid-makes}
 use Rattle.clock.specs.Clock.{nextClock}
-use Rattle.march.specs.EndPhase.{clock}
 use Rattle.march.proofs.Ends.{next-bytes, all-ended, all-clear}
 use Rattle.march.proofs.ending.pass_on.Statement.{statement}
 use Rattle.march.proofs.ending.pass_on.Tie as tie
 
 -- the clock that is set is the board's next
-upcoming : (c : tie.After-moved-on) → c .moved-on .result ≡ nextClock (clock (board (c .before .before .before .before .before .args .p .now)))
+upcoming : (c : tie.After-moved-on) → c .moved-on .result ≡ nextClock (board (c .before .before .before .before .before .args .p .now) .desk .clock)
 upcoming c = c .moved-on .ensures ∙ ap nextClock (c .before .clock-of .ensures .is)
 
 clock-of-requires : tie.Need-clock-of-requires
