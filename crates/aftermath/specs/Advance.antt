@@ -4,6 +4,8 @@ use Prim.Native.Nat.{ℕ, _+_}
 use mathlib.Core.Bool.{Bool, not, _&&_, _||_}
 use mathlib.Core.List.{List, [], _∷_, map}
 use lib.Dec.{leb, eqb}
+use Rattle.position.specs.Role as Role
+use Rattle.position.specs.Stage as Stage
 use Rattle.position.specs.Tally.{any}
 use Rattle.position.specs.Kind.{movesByLand}
 use Rattle.position.specs.Board.{Board, forceOf}
@@ -21,7 +23,7 @@ use Rattle.aftermath.specs.Stage.{thenOn}
 
 -- role 2 may advance
 unfoldable pub mayAdvance : Board → ℕ → Bool
-mayAdvance b u = eqb (b .units .state .role u) 2
+mayAdvance b u = eqb (b .units .state .role u) Role.advances
 
 -- an Enemy of unit u, or a force that is neutral to its own, stands on hex h
 unfoldable pub shut : Board → ℕ → ℕ → Bool
@@ -45,7 +47,7 @@ noRoute b u hex = not (any (serves b u hex) 6)
 
 -- "The unit then stands there, role 0."
 unfoldable pub advanceChanges : Board → ℕ → ℕ → List Change
-advanceChanges b u hex = placed u hex ∷ assigned u 0 ∷ []
+advanceChanges b u hex = placed u hex ∷ assigned u Role.none ∷ []
 
 -- the questions of the unit: "advance 4, 5, 7, 11"; "4 asks the role only"; "type 5 for an advance"
 unfoldable pub unitChecks : Board → ℕ → ℕ → Verdict → Verdict
@@ -59,15 +61,15 @@ unfoldable pub advanceChecks : Board → ℕ → ℕ → Verdict → Verdict
 advanceChecks b u hex rest =
     refuseIf (leb (b .units .count) u) 3 0
     (refuseIf (leb (b .map .hexes) hex) 3 0
-    (refuseIf (not (eqb (b .desk .battle .stage) 3)) 2 0 (unitChecks b u hex rest)))
+    (refuseIf (not (eqb (b .desk .battle .stage) Stage.advances)) 2 0 (unitChecks b u hex rest)))
 
 unfoldable pub advanceRule : Board → ℕ → ℕ → Verdict
 advanceRule b u hex = advanceChecks b u hex (judge (rule [] (thenOn b (advanceChanges b u hex)) []))
 
 -- "Close ends stage 3, making all roles 0."
 unfoldable pub closeChanges : Board → List Change
-closeChanges b = map (λ u. assigned u 0) (sieve (mayAdvance b) (b .units .count))
+closeChanges b = map (λ u. assigned u Role.none) (sieve (mayAdvance b) (b .units .count))
 
 -- "wrong stage (.. close 3)"
 unfoldable pub closeRule : Board → Verdict
-closeRule b = refuseIf (not (eqb (b .desk .battle .stage) 3)) 2 0 (judge (rule [] (thenOn b (closeChanges b)) []))
+closeRule b = refuseIf (not (eqb (b .desk .battle .stage) Stage.advances)) 2 0 (judge (rule [] (thenOn b (closeChanges b)) []))

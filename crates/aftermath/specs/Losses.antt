@@ -5,6 +5,8 @@ use mathlib.Core.Bool.{Bool, not, _&&_, _||_}
 use mathlib.Core.List.{List, [], _∷_, _++_, map}
 use lib.Dec.{leb, eqb}
 use lib.ListN.{getD}
+use Rattle.position.specs.Role as Role
+use Rattle.position.specs.Stage as Stage
 use Rattle.position.specs.Tally.{any}
 use Rattle.position.specs.Kind.{special}
 use Rattle.position.specs.Board.{Board, forceOf}
@@ -20,7 +22,7 @@ use Rattle.aftermath.specs.Stage.{thenOn}
 
 -- role 1 owes
 unfoldable pub owes : Board → ℕ → Bool
-owes b u = eqb (b .units .state .role u) 1
+owes b u = eqb (b .units .state .role u) Role.owes
 
 -- the questions of the unit at place k, with the units named before: "losses each 4, 6"; "4 asks the role only"
 unfoldable pub loss : Board → List ℕ → ℕ → ℕ → Verdict → Verdict
@@ -72,14 +74,14 @@ short b units = not (enough b units) || passedOver b units
 
 -- "Survivors get role 2."
 unfoldable pub lossChanges : Board → List ℕ → List Change
-lossChanges b units = map destroyed units ++ map (λ u. assigned u 2) (sieve (spared b units) (b .units .count))
+lossChanges b units = map destroyed units ++ map (λ u. assigned u Role.advances) (sieve (spared b units) (b .units .count))
 
 -- all the questions of losses, and what follows: "wrong stage (.. losses 2 ..)", then "losses each 4, 6, last 15"
 unfoldable pub lossChecks : Board → List ℕ → Verdict → Verdict
 lossChecks b units rest =
     refuseIf (not (listLength units)) 3 0
     (allThere b units
-    (refuseIf (not (eqb (b .desk .battle .stage) 2)) 2 0 (losses b units (refuseIf (short b units) 15 0 rest))))
+    (refuseIf (not (eqb (b .desk .battle .stage) Stage.losses)) 2 0 (losses b units (refuseIf (short b units) 15 0 rest))))
 
 unfoldable pub lossesRule : Board → List ℕ → Verdict
 lossesRule b units = lossChecks b units (judge (rule [] (thenOn b (lossChanges b units)) []))

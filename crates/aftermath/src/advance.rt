@@ -30,6 +30,7 @@ use position::forces;
 use position::ground;
 use position::kind::Kind;
 use position::read;
+use position::role;
 use position::write;
 use ruling::Answer;
 use ruling::Tested;
@@ -126,7 +127,7 @@ fn judge_unit(p: &[u8], v: View, u: usize, hex: usize) -> Tested
     requires { ⌜ Laid (now p) v ⌝ }
     ensures { λ r. ⌜ TestedOf (now (p .entry)) (unitChecks (board (now (p .entry))) u hex) (Unit {0}) r ⌝ }
 {
-    if read::role(p, v, u) != stage::ADVANCES {
+    if read::role(p, v, u) != role::ADVANCES {
         return Tested::Stopped(4, 0);
     }
     if !Kind(read::kind(p, v, u)).moves_by_land() {
@@ -154,7 +155,7 @@ fn judge_advance(p: &[u8], v: View, u: usize, hex: usize) -> Tested
     if hexes <= hex {
         return Tested::Stopped(3, 0);
     }
-    if read::stage(p, v) != stage::ADVANCING {
+    if read::stage(p, v) != position::stage::ADVANCES {
         return Tested::Stopped(2, 0);
     }
     judge_unit(p, v, u, hex)
@@ -166,7 +167,7 @@ fn step_up(p: &mut [u8], v: View, u: usize, hex: usize)
     ensures { λ _. ⌜ now (p .exit) ≡ makes (now (p .entry)) (thenOn (board (now (p .entry))) (advanceChanges (board (now (p .entry))) u hex)) ⌝ }
 {
     write::place(p, v, u, hex);
-    write::assign(p, v, u, 0);
+    write::assign(p, v, u, role::NONE);
     stage::pass_on(p, v);
 }
 
@@ -187,10 +188,10 @@ pub fn close(p: &mut [u8], v: View) -> Answer
     requires { ⌜ Laid (now p) v ⌝ }
     ensures { λ r. ⌜ Met (now (p .entry)) [] (closeRule (board (now (p .entry)))) (answerAs r) (now (p .exit)) [] ⌝ }
 {
-    if read::stage(p, v) != stage::ADVANCING {
+    if read::stage(p, v) != position::stage::ADVANCES {
         return Answer::Refused(2, 0);
     }
-    stage::reassign(p, v, stage::ADVANCES, 0);
+    stage::reassign(p, v, role::ADVANCES, role::NONE);
     stage::pass_on(p, v);
     Answer::Accepted
 }

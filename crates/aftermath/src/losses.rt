@@ -37,6 +37,7 @@ use position::View;
 use position::forces;
 use position::kind::Kind;
 use position::read;
+use position::role;
 use position::write;
 use ruling::Answer;
 use ruling::Tested;
@@ -46,7 +47,7 @@ fn owes(p: &[u8], v: View, u: usize) -> bool
     requires { ⌜ Laid (now p) v ⌝ }
     ensures { λ r. ⌜ r ≡ owes (board (now (p .entry))) u ⌝ }
 {
-    read::role(p, v, u) == stage::OWES
+    read::role(p, v, u) == role::OWES
 }
 
 // The questions of unit `u` behind the first `n` of the list: 4, 6.
@@ -260,7 +261,7 @@ fn judge_losses(p: &[u8], v: View, units: &[u16]) -> Tested
     if let Tested::Stopped(n, k) = listed::all_there(p, v, units) {
         return Tested::Stopped(n, k);
     }
-    if read::stage(p, v) != stage::LOSSES {
+    if read::stage(p, v) != position::stage::LOSSES {
         return Tested::Stopped(2, 0);
     }
     if let Tested::Stopped(n, k) = each_loss(p, v, units) {
@@ -288,7 +289,7 @@ fn lose(p: &mut [u8], v: View, units: &[u16])
     ensures { λ _. ⌜ now (p .exit) ≡ makes (now (p .entry)) (thenOn (board (now (p .entry))) (lossChanges (board (now (p .entry))) (now (units .entry)))) ⌝ }
 {
     destroy_all(p, v, units);
-    stage::reassign(p, v, stage::OWES, stage::ADVANCES);
+    stage::reassign(p, v, role::OWES, role::ADVANCES);
     stage::pass_on(p, v);
 }
 

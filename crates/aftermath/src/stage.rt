@@ -12,17 +12,9 @@ ghost use Rattle.aftermath.specs.Stage.{reassigned, passesOn};
 use position::View;
 use position::crowd;
 use position::read;
+use position::role;
+use position::stage;
 use position::write;
-
-// Roles: who owes, and who may advance.
-pub const OWES: usize = 1;
-
-pub const ADVANCES: usize = 2;
-
-// The stages in which calls of this crate are made.
-pub const LOSSES: usize = 2;
-
-pub const ADVANCING: usize = 3;
 
 // Unit `u` gets the role `to` if it has the role `from`.
 fn reassign_one(p: &mut [u8], v: View, u: usize, from: usize, to: usize)
@@ -51,13 +43,13 @@ pub fn pass_on(p: &mut [u8], v: View)
     requires { ⌜ Laid (now p) v ⌝ }
     ensures { λ _. ⌜ now (p .exit) ≡ makes (now (p .entry)) (passesOn (board (now (p .entry)))) ⌝ }
 {
-    if crowd::holders(p, v, OWES) != 0 {
+    if crowd::holders(p, v, role::OWES) != 0 {
         return;
     }
-    if crowd::holders(p, v, ADVANCES) != 0 {
-        write::set_stage(p, v, ADVANCING, 0, 0);
+    if crowd::holders(p, v, role::ADVANCES) != 0 {
+        write::set_stage(p, v, stage::ADVANCES, 0, 0);
         return;
     }
-    write::set_stage(p, v, 0, 0, 0);
+    write::set_stage(p, v, stage::QUIET, 0, 0);
     write::clear_routes(p, v);
 }

@@ -4,6 +4,8 @@ use Prim.Native.Nat.{ℕ}
 use mathlib.Core.Bool.{Bool, not, _&&_, _||_}
 use mathlib.Core.List.{List, []}
 use lib.Dec.{leb, eqb}
+use Rattle.clock.specs.Phase as Phase
+use Rattle.position.specs.Stage as Stage
 use Rattle.position.specs.Tally.{any}
 use Rattle.position.specs.Bits.{has, fought}
 use Rattle.position.specs.Kind.{mayAttack}
@@ -22,7 +24,7 @@ dieFits die = leb 1 die && leb die 6
 
 -- "wrong stage (.. attack .. 0 ..) or phase (.. attack 1)"
 unfoldable pub mayAttackNow : Board → Bool
-mayAttackNow b = eqb (b .desk .battle .stage) 0 && eqb (b .desk .clock .phase) 1
+mayAttackNow b = eqb (b .desk .battle .stage) Stage.quiet && eqb (b .desk .clock .phase) Phase.combat
 
 -- unit u stands on hex h, and has fought
 unfoldable pub foughtOn : Board → ℕ → ℕ → Bool

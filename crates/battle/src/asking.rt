@@ -18,6 +18,7 @@ ghost use Rattle.battle.specs.Attack.{
   attackChecks,
 };
 ghost use Rattle.battle.specs.Asked.{Able, AllAble, InRange, Engaged};
+use clock::phase;
 use field::listed;
 use field::unit;
 use field::zone;
@@ -26,6 +27,7 @@ use position::bits;
 use position::ground;
 use position::kind::Kind;
 use position::read;
+use position::stage;
 use ruling::Tested;
 
 // Refusal 3: lengths, then single numbers, then along the list.
@@ -60,10 +62,10 @@ fn may_attack_now(p: &[u8], v: View) -> bool
     requires { ⌜ Laid (now p) v ⌝ }
     ensures { λ r. ⌜ r ≡ mayAttackNow (board (now (p .entry))) ⌝ }
 {
-    if read::stage(p, v) != 0 {
+    if read::stage(p, v) != stage::QUIET {
         return false;
     }
-    read::phase(p, v) == 1
+    read::phase(p, v) == phase::COMBAT
 }
 
 // Whether unit `u` stands on hex `h` and has fought.

@@ -3,6 +3,7 @@
 use Prim.Native.Nat.{ℕ}
 use mathlib.Core.Bool.{Bool, true, false, not, cond, _&&_, _||_}
 use lib.Dec.{eqb}
+use Rattle.position.specs.Role as Role
 use Rattle.position.specs.Tally.{any}
 use Rattle.position.specs.Kind.{supplyKind}
 use Rattle.position.specs.Board.{Board, forceOf}
@@ -19,7 +20,7 @@ apart b a h u = standsOn (scene b) h u && not (owesAt b a u)
 
 -- "A stack with a supply unit, or with a unit that still owes, can't be pushed", nor can one of another force
 unfoldable pub firm : Board → ℕ → ℕ → Bool
-firm b f u = not (eqb (forceOf b u) f) || (eqb (b .units .counter .kind u) supplyKind || eqb (b .units .state .role u) 1)
+firm b f u = not (eqb (forceOf b u) f) || (eqb (b .units .counter .kind u) supplyKind || eqb (b .units .state .role u) Role.owes)
 
 -- unit u holds hex h against every push by a group of force f in hex a
 unfoldable pub bars : Board → ℕ → ℕ → ℕ → ℕ → Bool

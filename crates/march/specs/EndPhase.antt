@@ -5,6 +5,8 @@ use mathlib.Core.Bool.{Bool, not, cond, _&&_}
 use mathlib.Core.List.{List, [], _∷_, _++_}
 use lib.ListN.{replicate}
 use lib.Dec.{eqb}
+use Rattle.position.specs.Kind.{home, us, canada}
+use Rattle.position.specs.Stage as Stage
 use Rattle.position.specs.Bits.{with, without, supplied, moved, fought}
 use Rattle.position.specs.Board.{Board, nowhere}
 use Rattle.position.specs.Change.{Change}
@@ -45,7 +47,7 @@ judgeAll b n (suc k) = judgeAll b n k ++ cond (mappedOf b n k) (marked k (judged
 -- "the then phasing force's mapped units", nationality by nationality: force 3 has two
 unfoldable pub judgeForce : Board → ℕ → List Change
 judgeForce b f =
-    cond (eqb f 3) (judgeAll b 3 (b .units .count) ++ judgeAll b 4 (b .units .count)) (judgeAll b f (b .units .count))
+    cond (eqb f home) (judgeAll b us (b .units .count) ++ judgeAll b canada (b .units .count)) (judgeAll b f (b .units .count))
 
 unfoldable pub supplyChanges : Board → Clock → List Change
 supplyChanges b c = cond (judgesSupply c) (judgeForce b (c .force)) []
@@ -62,6 +64,6 @@ endChanges b =
 unfoldable pub endRule : Board → ℕ → Verdict
 endRule b long =
     refuseIf (not (eqb long (b .map .hexes))) 3 0
-    (refuseIf (not (eqb (b .desk .battle .stage) 0)) 2 0
+    (refuseIf (not (eqb (b .desk .battle .stage) Stage.quiet)) 2 0
     (refuseIf (isLast (b .desk .clock) (b .desk .lastTurn)) 16 0
     (judge (rule [] (endChanges b) (replicate (b .map .hexes) 0)))))

@@ -5,6 +5,8 @@ use mathlib.Core.Bool.{Bool, not, _&&_, _||_}
 use mathlib.Core.List.{List, [], _∷_}
 use lib.ListN.{length}
 use lib.Dec.{leb, ltb, eqb}
+use Rattle.clock.specs.Phase as Phase
+use Rattle.position.specs.Stage as Stage
 use Rattle.position.specs.Bits.{has, with, supplied, moved}
 use Rattle.position.specs.Kind.{movesByLand, movesInPhase2}
 use Rattle.position.specs.Board.{Board, forceOf}
@@ -28,11 +30,11 @@ pathLength path = leb 1 (length path) && leb (length path) 30
 
 -- "wrong stage (move .. 0) or phase (move 0 or 2)"
 unfoldable pub mayMoveNow : Board → Bool
-mayMoveNow b = eqb (b .desk .battle .stage) 0 && (eqb (b .desk .clock .phase) 0 || eqb (b .desk .clock .phase) 2)
+mayMoveNow b = eqb (b .desk .battle .stage) Stage.quiet && (eqb (b .desk .clock .phase) Phase.land || eqb (b .desk .clock .phase) Phase.mechanised)
 
 -- whether the type moves in the phase: "may move by land (all but 5)", "moves in phase 2 (0, 1)"
 unfoldable pub movesIn : ℕ → ℕ → Bool
-movesIn phase kind = movesByLand kind && (not (eqb phase 2) || movesInPhase2 kind)
+movesIn phase kind = movesByLand kind && (not (eqb phase Phase.mechanised) || movesInPhase2 kind)
 
 -- "type or mark forbids it: moved for a move"
 unfoldable pub forbidden : Board → ℕ → Bool

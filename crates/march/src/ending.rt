@@ -16,6 +16,7 @@ use clock::timing;
 use position::View;
 use position::bits;
 use position::read;
+use position::stage;
 use position::write;
 use ruling::Answer;
 
@@ -141,7 +142,7 @@ pub fn end_phase(p: &mut [u8], v: View, scratch: &mut [u8]) -> Answer
     if scratch.len() != hexes {
         return Answer::Refused(3, 0);
     }
-    if read::stage(p, v) != 0 {
+    if read::stage(p, v) != stage::QUIET {
         return Answer::Refused(2, 0);
     }
     if clock_of(p, v).is_last(read::last_turn(p, v)) {

@@ -13,6 +13,7 @@ use crate::Moved;
 use crate::Path;
 use crate::Way;
 use crate::stepping;
+use clock::phase;
 use field::listed;
 use field::unit;
 use position::View;
@@ -20,6 +21,7 @@ use position::bits;
 use position::crowd;
 use position::kind::Kind;
 use position::read;
+use position::stage;
 use position::write;
 use ruling::Tested;
 
@@ -28,14 +30,14 @@ fn may_move_now(p: &[u8], v: View) -> bool
     requires { ⌜ Laid (now p) v ⌝ }
     ensures { λ r. ⌜ r ≡ mayMoveNow (board (now (p .entry))) ⌝ }
 {
-    if read::stage(p, v) != 0 {
+    if read::stage(p, v) != stage::QUIET {
         return false;
     }
     let phase = read::phase(p, v);
-    if phase == 0 {
+    if phase == phase::LAND {
         return true;
     }
-    phase == 2
+    phase == phase::MECHANISED
 }
 
 // Whether a type moves in a phase.
@@ -45,7 +47,7 @@ fn moves_in(phase: usize, kind: usize) -> bool
     if !Kind(kind).moves_by_land() {
         return false;
     }
-    if phase == 2 {
+    if phase == phase::MECHANISED {
         return Kind(kind).moves_in_phase_2();
     }
     true

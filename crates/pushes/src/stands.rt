@@ -13,9 +13,7 @@ use position::forces;
 use position::ground;
 use position::kind::Kind;
 use position::read;
-
-// The role of a unit that owes.
-const OWES: usize = 1;
+use position::role;
 
 // Whether unit `u` stands on hex `h` and is not of the group in hex `a`.
 fn apart(p: &[u8], v: View, a: usize, h: usize, u: usize) -> bool
@@ -25,7 +23,7 @@ fn apart(p: &[u8], v: View, a: usize, h: usize, u: usize) -> bool
     if read::hex(p, v, u) != h {
         return false;
     }
-    if read::role(p, v, u) != OWES {
+    if read::role(p, v, u) != role::OWES {
         return true;
     }
     h != a
@@ -42,7 +40,7 @@ fn firm(p: &[u8], v: View, f: usize, u: usize) -> bool
     if read::kind(p, v, u) == Kind::SUPPLY {
         return true;
     }
-    read::role(p, v, u) == OWES
+    read::role(p, v, u) == role::OWES
 }
 
 // Whether a unit that is not of the group stands on hex `h`.

@@ -4,6 +4,9 @@ use Prim.Native.Nat.{ℕ, _+_, _-_}
 use mathlib.Core.Bool.{cond}
 use mathlib.Core.List.{List, [], _∷_, _++_, map}
 use lib.Dec.{leb, eqb}
+use Rattle.position.specs.Stage as Stage
+use Rattle.position.specs.Role as Role
+use Rattle.position.specs.Role as Role
 use Rattle.position.specs.Bits.{with, fought}
 use Rattle.position.specs.Board.{Board, nowhere}
 use Rattle.position.specs.Change.{Change}
@@ -25,16 +28,16 @@ fateOf a d s n = record { attackers = a; defenders = d; stage = s; owed = n }
 -- "Codes: 1..3 D1..D3, 4..6 A1..A3, 7 Ae, 8 De, 9 Dx, 10 Ax."
 unfoldable pub upshot : ℕ → Upshot
 upshot code =
-    cond (leb code 3) (fateOf 2 1 1 code)
-    (cond (leb code 6) (fateOf 1 2 1 (code - 3))
-    (cond (eqb code 7) (fateOf lost 2 3 0)
-    (cond (eqb code 8) (fateOf 2 lost 3 0)
-    (cond (eqb code 9) (fateOf 1 lost 2 0)
-    (fateOf lost 1 2 0)))))
+    cond (leb code 3) (fateOf Role.advances Role.owes Stage.retreats code)
+    (cond (leb code 6) (fateOf Role.owes Role.advances Stage.retreats (code - 3))
+    (cond (eqb code 7) (fateOf lost Role.advances Stage.advances 0)
+    (cond (eqb code 8) (fateOf Role.advances lost Stage.advances 0)
+    (cond (eqb code 9) (fateOf Role.owes lost Stage.losses 0)
+    (fateOf lost Role.owes Stage.losses 0)))))
 
 -- "need is its printed total": the destroyed side's, in an exchange alone
 unfoldable pub needOf : Upshot → ℕ → ℕ → ℕ
-needOf o attack defence = cond (eqb (o .stage) 2) (cond (eqb (o .attackers) lost) attack defence) 0
+needOf o attack defence = cond (eqb (o .stage) Stage.losses) (cond (eqb (o .attackers) lost) attack defence) 0
 
 -- "All participants turn over and get fought."
 unfoldable pub foughtBy : Board → List ℕ → List Change

@@ -2,20 +2,11 @@
 ghost use mathlib.Core.Path.{_≡_};
 ghost use Rattle.results.specs.Results.{fateOf, upshot, needOf};
 use crate::Upshot;
+use position::role;
+use position::stage;
 
 // What becomes of a side: it is destroyed, it owes, or it may advance.
 pub const LOST: usize = 0;
-
-const OWES: usize = 1;
-
-const ADVANCES: usize = 2;
-
-// The stages that a result leads to.
-const RETREATS: usize = 1;
-
-const LOSSES: usize = 2;
-
-const ADVANCING: usize = 3;
 
 // The result codes: up to D3, up to A3, and those that destroy; what is left is Ax.
 const D3: usize = 3;
@@ -45,21 +36,21 @@ pub fn upshot(code: usize) -> Upshot
     ensures { λ r. ⌜ r ≡ upshot code ⌝ }
 {
     if code <= D3 {
-        return fate(ADVANCES, OWES, RETREATS, code);
+        return fate(role::ADVANCES, role::OWES, stage::RETREATS, code);
     }
     if code <= A3 {
-        return fate(OWES, ADVANCES, RETREATS, code - D3);
+        return fate(role::OWES, role::ADVANCES, stage::RETREATS, code - D3);
     }
     if code == AE {
-        return fate(LOST, ADVANCES, ADVANCING, 0);
+        return fate(LOST, role::ADVANCES, stage::ADVANCES, 0);
     }
     if code == DE {
-        return fate(ADVANCES, LOST, ADVANCING, 0);
+        return fate(role::ADVANCES, LOST, stage::ADVANCES, 0);
     }
     if code == DX {
-        return fate(OWES, LOST, LOSSES, 0);
+        return fate(role::OWES, LOST, stage::LOSSES, 0);
     }
-    fate(LOST, OWES, LOSSES, 0)
+    fate(LOST, role::OWES, stage::LOSSES, 0)
 }
 
 // What the other side owes in an exchange: the printed total of the destroyed side.
@@ -67,7 +58,7 @@ pub fn need_of(o: Upshot, attack: usize, defence: usize) -> usize
     ensures { λ r. ⌜ r ≡ needOf o attack defence ⌝ }
 {
     let stage = o.stage;
-    if stage != LOSSES {
+    if stage != stage::LOSSES {
         return 0;
     }
     let attackers = o.attackers;

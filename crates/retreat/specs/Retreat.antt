@@ -6,6 +6,8 @@ use mathlib.Core.Bool.{Bool, not, cond, _&&_, _||_}
 use mathlib.Core.List.{List, [], _∷_, _++_, map}
 use lib.ListN.{length, getD}
 use lib.Dec.{leb, ltb, eqb}
+use Rattle.position.specs.Role as Role
+use Rattle.position.specs.Stage as Stage
 use Rattle.position.specs.Tally.{any}
 use Rattle.position.specs.Kind.{supplyKind}
 use Rattle.position.specs.Board.{Board, nowhere}
@@ -66,7 +68,7 @@ endOf b route = getD route (b .desk .battle .owed - 1) nowhere
 
 -- "role now 0; supply units among them are destroyed"
 unfoldable pub leaves : Board → ℕ → ℕ → List Change
-leaves b end u = cond (eqb (b .units .counter .kind u) supplyKind) (destroyed u ∷ []) (placed u end ∷ assigned u 0 ∷ [])
+leaves b end u = cond (eqb (b .units .counter .kind u) supplyKind) (destroyed u ∷ []) (placed u end ∷ assigned u Role.none ∷ [])
 
 unfoldable pub goesOff : Board → ℕ → List ℕ → List Change
 goesOff b end [] = []
@@ -94,7 +96,7 @@ retreatValues b h route = cond (doomed b h) (2 ∷ []) (1 ∷ endOf b route ∷ 
 -- what the questions before that of the route leave known
 pub record Owing (b : Board) (h : ℕ) : Type 0 where
   pub there : h < b .map .hexes
-  pub now : b .desk .battle .stage ≡ 1
+  pub now : b .desk .battle .stage ≡ Stage.retreats
 
 -- a hex, a route of 0..3 and "pushes, a list of 0..9 hexes", places counted on through both; "wrong stage (.. retreat 1 ..)", then 4: "hex
 -- lacks the role asked"
@@ -105,7 +107,7 @@ groupChecks b h route pushes rest =
     (refuseIf (leb (b .map .hexes) h) 3 0
     (onMapAll b route
     (onMapFrom b pushes (length route + 1)
-    (refuseIf (not (eqb (b .desk .battle .stage) 1)) 2 0 (refuseIf (not (any (owesAt b h) (b .units .count))) 4 0 rest))))))
+    (refuseIf (not (eqb (b .desk .battle .stage) Stage.retreats)) 2 0 (refuseIf (not (any (owesAt b h) (b .units .count))) 4 0 rest))))))
 
 -- what the group does: it is destroyed, goes along a vacant route, or pushes
 unfoldable pub leaveChanges : Board → ℕ → List ℕ → List ℕ → List Change

@@ -6,6 +6,7 @@ use mathlib.Core.Bool.{true}
 use mathlib.Core.List.{List, [], _∷_}
 use mathlib.Core.Logic.{_↔_, _⊎_}
 use lib.ListN.{getD, length}
+use Rattle.position.specs.Stage as Stage
 use Rattle.position.specs.Kind.{supplyKind}
 use Rattle.position.specs.Board.{Board, board, forceOf, nowhere}
 use Rattle.position.specs.Crowd.{owesAt, routes}
@@ -23,7 +24,7 @@ use Rattle.retreat.specs.Retreat.{endOf, retreatRule}
 -- owes, a route of 0..3 and pushes of 0..9 hexes of the map
 pub record Due (p : List ℕ) (h : ℕ) (route pushes : List ℕ) : Type 0 where
   pub whole : Accepted p
-  pub stage : board p .desk .battle .stage ≡ 1
+  pub stage : board p .desk .battle .stage ≡ Stage.retreats
   pub there : h < board p .map .hexes
   pub unit : ℕ
   pub counted : unit < board p .units .count
@@ -99,7 +100,7 @@ pub record Road (p : List ℕ) (h : ℕ) (route : List ℕ) (after : Board) : Ty
 abbrev pub RoadRight : Type 0
 RoadRight =
     (p : List ℕ) (h : ℕ) (route pushes : List ℕ) → Due p h route pushes → answerTo p h route pushes ≡ accepted (2 ∷ [])
-    → (boardAfter p h route pushes .desk .battle .stage ≡ 0 → ⊥) → Road p h route (boardAfter p h route pushes)
+    → (boardAfter p h route pushes .desk .battle .stage ≡ Stage.quiet → ⊥) → Road p h route (boardAfter p h route pushes)
 
 -- if a vacant route exists, the group retreats to the route's end exactly if the route sent is one and no pushes were sent, and is refused
 -- by 14 exactly if not

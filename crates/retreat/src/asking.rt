@@ -9,11 +9,9 @@ ghost use Rattle.retreat.specs.Retreat.{Owing, groupChecks};
 use field::listed;
 use position::View;
 use position::read;
+use position::stage;
 use ruling::Tested;
 use shoves::group;
-
-// The stage in which retreats are made.
-const RETREATS: usize = 1;
 
 // Whether a unit owes in hex `h`.
 fn any_owes(p: &[u8], v: View, h: usize) -> bool
@@ -52,7 +50,7 @@ pub fn judge_group(p: &[u8], v: View, h: usize, route: &[u16], pushes: &[u16]) -
     if let Tested::Stopped(n, k) = listed::on_map_from(p, v, pushes, route.len() + 1) {
         return Tested::Stopped(n, k);
     }
-    if read::stage(p, v) != RETREATS {
+    if read::stage(p, v) != stage::RETREATS {
         return Tested::Stopped(2, 0);
     }
     if !any_owes(p, v, h) {

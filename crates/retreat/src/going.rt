@@ -17,6 +17,7 @@ use position::View;
 use position::crowd;
 use position::kind::Kind;
 use position::read;
+use position::role;
 use position::write;
 use shoves::group;
 
@@ -40,7 +41,7 @@ fn leave(p: &mut [u8], v: View, end: usize, u: usize)
         return;
     }
     write::place(p, v, u, end);
-    write::assign(p, v, u, 0);
+    write::assign(p, v, u, role::NONE);
 }
 
 // Unit `u` leaves if it owes in hex `h`.

@@ -7,6 +7,8 @@ use mathlib.Core.Bool.{Bool, true, false, cond, _&&_}
 use mathlib.Core.List.{List, [], _∷_}
 use lib.ListN.{getD, length, replicate, take}
 use lib.Dec.{eqb}
+use Rattle.position.specs.Role as Role
+use Rattle.position.specs.Stage as Stage
 use Rattle.position.specs.Board.{Board, board}
 use Rattle.position.specs.Crowd.{holders}
 use Rattle.position.specs.Tally.{any}
@@ -29,7 +31,7 @@ use Rattle.rules.specs.Order.Order.{endPhase, retreat, losses, close}
 
 -- "16 | last phase of the last turn": the game is over, the end of its phase is refused
 unfoldable pub over : Board → Bool
-over b = eqb (b .desk .battle .stage) 0 && isLast (b .desk .clock) (b .desk .lastTurn)
+over b = eqb (b .desk .battle .stage) Stage.quiet && isLast (b .desk .clock) (b .desk .lastTurn)
 
 -- "Role 1 owes": all that owe, in counter order
 unfoldable pub allOwing : Board → List ℕ
@@ -73,12 +75,12 @@ retreatOnward b = retreat (firstOwing b) (routeFor b (firstOwing b)) (pushesFor 
 -- "wrong stage (move, attack, end phase 0; retreat 1; losses 2; advance, close 3)": an order for each stage, and losses that name all
 unfoldable pub onward : Board → Order
 onward b =
-    cond (eqb (b .desk .battle .stage) 0) endPhase
-    (cond (eqb (b .desk .battle .stage) 1) (retreatOnward b) (cond (eqb (b .desk .battle .stage) 2) (losses (allOwing b)) close))
+    cond (eqb (b .desk .battle .stage) Stage.quiet) endPhase
+    (cond (eqb (b .desk .battle .stage) Stage.retreats) (retreatOnward b) (cond (eqb (b .desk .battle .stage) Stage.losses) (losses (allOwing b)) close))
 
 -- "end phase borrow a scratch of exactly width x height bytes"; the other orders borrow nothing
 unfoldable pub lentOnward : Board → List ℕ
-lentOnward b = cond (eqb (b .desk .battle .stage) 0) (replicate (b .map .hexes) 0) []
+lentOnward b = cond (eqb (b .desk .battle .stage) Stage.quiet) (replicate (b .map .hexes) 0) []
 
 unfoldable pub onwardCall : List ℕ → Sent Order
 onwardCall p = record { order = onward (board p); lent = lentOnward (board p) }
@@ -86,8 +88,8 @@ onwardCall p = record { order = onward (board p); lent = lentOnward (board p) }
 -- "Stages: 0 quiet, 1 retreats, 2 losses, 3 advances": the calls that a battle may still take
 unfoldable pub battleLeft : Board → ℕ
 battleLeft b =
-    cond (eqb (b .desk .battle .stage) 0) 0
-    (cond (eqb (b .desk .battle .stage) 1) (2 + holders b 1) (cond (eqb (b .desk .battle .stage) 2) 2 1))
+    cond (eqb (b .desk .battle .stage) Stage.quiet) 0
+    (cond (eqb (b .desk .battle .stage) Stage.retreats) (2 + holders b Role.owes) (cond (eqb (b .desk .battle .stage) Stage.losses) 2 1))
 
 -- the phases that come after this one
 abbrev pub phasesOf : Board → ℕ

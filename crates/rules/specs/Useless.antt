@@ -5,6 +5,7 @@ use Prim.Native.Nat.{ℕ}
 use mathlib.Core.Bool.{cond}
 use mathlib.Core.List.{List, [], _∷_, map}
 use lib.Dec.{leb}
+use Rattle.position.specs.Role as Role
 use Rattle.position.specs.Board.{board}
 use Rattle.position.specs.Crowd.{routes}
 use Rattle.position.specs.Change.{makes}
@@ -34,7 +35,7 @@ leavesUntouched p c = record { answer = step p c .answer; position = p; lent = s
 -- the group in hex h owes no more, and that is all, if the answer lets it go
 abbrev pub struckOff : List ℕ → ℕ → Ruling → List ℕ
 struckOff p h (refused n k) = p
-struckOff p h (accepted vs) = makes p (thenOn (board p) (map (λ u. assigned u 0) (group (board p) h)))
+struckOff p h (accepted vs) = makes p (thenOn (board p) (map (λ u. assigned u Role.none) (group (board p) h)))
 
 -- a retreat's outcome, if no route is written yet; else the group is struck off
 abbrev pub firstOnly : List ℕ → Order → Outcome → Outcome

@@ -8,6 +8,7 @@ use mathlib.Core.List.{List, [], _∷_, _++_}
 use mathlib.Core.Logic.{_↔_}
 use lib.ListN.{length}
 use Rattle.grid.specs.declared.Beside.the-variants.{At}
+use Rattle.position.specs.Role as Role
 use Rattle.position.specs.Kind.{supplyKind}
 use Rattle.position.specs.Board.{Board, forceOf, nowhere}
 use Rattle.position.specs.Ground.{next}
@@ -30,7 +31,7 @@ pub record CanBePushed (b : Board) (f z : ℕ) : Type 0 where
   -- "held by the force"
   pub own : (w : ℕ) → w < b .units .count → b .units .state .hex w ≡ z → forceOf b w ≡ f
   pub kind : (w : ℕ) → w < b .units .count → b .units .state .hex w ≡ z → b .units .counter .kind w ≡ supplyKind → ⊥
-  pub role : (w : ℕ) → w < b .units .count → b .units .state .hex w ≡ z → b .units .state .role w ≡ 1 → ⊥
+  pub role : (w : ℕ) → w < b .units .count → b .units .state .hex w ≡ z → b .units .state .role w ≡ Role.owes → ⊥
 
 -- "if any bearing vacant hex lies beside it over an unblocked side": none does beside hex h
 abbrev pub NoRefuge : Board → ℕ → ℕ → Type 0

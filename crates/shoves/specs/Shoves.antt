@@ -6,6 +6,7 @@ use mathlib.Core.Bool.{cond, true, false}
 use mathlib.Core.List.{List, [], _∷_, _++_}
 use lib.Dec.{leb, eqb}
 use lib.ListN.{length, getD}
+use Rattle.position.specs.Role as Role
 use Rattle.position.specs.Kind.{supplyKind}
 use Rattle.position.specs.Board.{Board}
 use Rattle.position.specs.Change.{Change}
@@ -62,7 +63,7 @@ groupTo b a x = gather (goesTo b x) (group b a)
 
 -- "role now 0"
 unfoldable pub frees : ℕ → List Change
-frees u = assigned u 0 ∷ []
+frees u = assigned u Role.none ∷ []
 
 -- "Each step's chain is done before the next step": hex x is cleared, the group goes there, and so on
 unfoldable pub marches : Board → ℕ → List ℕ → List ℕ → List Change

@@ -11,17 +11,15 @@ ghost use Rattle.shoves.specs.Shoves.{goesTo, groupTo, frees};
 use position::View;
 use position::kind::Kind;
 use position::read;
+use position::role;
 use position::write;
-
-// The role of a unit that owes.
-const OWES: usize = 1;
 
 // Whether unit `u` owes in hex `h`.
 pub fn owes_at(p: &[u8], v: View, h: usize, u: usize) -> bool
     requires { ⌜ Laid (now p) v ⌝ }
     ensures { λ r. ⌜ r ≡ owesAt (board (now (p .entry))) h u ⌝ }
 {
-    if read::role(p, v, u) != OWES {
+    if read::role(p, v, u) != role::OWES {
         return false;
     }
     read::hex(p, v, u) == h
@@ -69,7 +67,7 @@ fn free_one(p: &mut [u8], v: View, a: usize, u: usize)
     if !owes_at(p, v, a, u) {
         return;
     }
-    write::assign(p, v, u, 0);
+    write::assign(p, v, u, role::NONE);
 }
 
 // The group of hex `a` has no role any more.
