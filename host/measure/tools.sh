@@ -1,5 +1,5 @@
-# What host/bench and host/stack have in common. The library is for x86-64: on another processor the programs that call
-# it are compiled by the cross compiler, which `tools` is the beginning of.
+# What host/bench and host/stack have in common; `here` is their folder. The library is for x86-64: on another processor
+# the programs that call it are compiled by the cross compiler, whose name `tools` begins.
 root="$here/.."
 library="$root/target/staticlib/libreferee.a"
 tools=x86_64-linux-gnu-
