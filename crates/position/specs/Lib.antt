@@ -11,3 +11,4 @@ pub mod Shape
 pub mod Laid
 pub mod Change
 pub mod Effect
+pub mod Parts

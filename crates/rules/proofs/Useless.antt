@@ -4,9 +4,10 @@ use Prim.Native.Nat.{ℕ}
 use mathlib.Core.Path.{_≡_, refl, sym, ap, _∙_}
 use mathlib.Core.List.{List, [], _∷_}
 use native.Mathlib.Omega.{arith}
-use lib.ListN.{replicate, set}
-use Rattle.position.specs.Layout.{byte, hex}
-use Rattle.acceptance.specs.Examples.{roster}
+use lib.ListN.{replicate}
+use Rattle.position.specs.Layout.{phase, hex}
+use Rattle.position.specs.Parts.{butDesk, built, deskPhase}
+use Rattle.acceptance.specs.Examples.{roster, rosterParts}
 use Rattle.ruling.specs.Verdict.{Ruling, Outcome}
 use Rattle.ruling.specs.Verdict.Ruling.{refused, accepted}
 use Rattle.ruling.specs.Secret.{Sent}
@@ -43,8 +44,8 @@ untouched-alike p q [] a h = tt
 untouched-alike p q (c ∷ cs) a h =
     let o = secrecy p q (c ∷ []) a (h .0, tt) in (o .0, o .1, a, untouched-alike p q cs a (h .1))
 
--- on the roster's position the phase ends, and only its byte changes; a sixth nationality is refused
-ended : step roster ending ≡ record { answer = accepted []; position = set roster 103 1; lent = replicate 3 0 }
+-- on the roster's position the phase ends, and nothing else changes; a sixth nationality is refused
+ended : step roster ending ≡ record { answer = accepted []; position = built (butDesk rosterParts deskPhase 1); lent = replicate 3 0 }
 unfolding playing
 ended = refl
 
@@ -65,9 +66,9 @@ same-out a m =
     no-refusal (sym (m roster sixth .answers ∙ sixth-out) ∙ (m roster ending .answers ∙ ap (λ (o : Outcome). o .answer) ended))
 
 untouched-out : Meets leavesUntouched → ⊥
-unfolding leavesUntouched
+unfolding playing leavesUntouched
 untouched-out m =
-    let e : _≡_ {A = ℕ} 0 1 = ap (λ (p : List ℕ). byte p 103) (m roster ending .leaves ∙ ap (λ (o : Outcome). o .position) ended) in
+    let e : _≡_ {A = ℕ} 0 1 = ap (λ (p : List ℕ). phase p) (m roster ending .leaves ∙ ap (λ (o : Outcome). o .position) ended) in
     omega arith
 
 -- the first stack retreats as the rules say

@@ -4,10 +4,11 @@ use Prim.Native.Nat.{ℕ}
 use mathlib.Core.Path.{_≡_, refl}
 use mathlib.Core.Bool.{true, false}
 use mathlib.Core.List.{List, [], _∷_, map}
-use lib.ListN.{replicate, set}
+use lib.ListN.{replicate}
 use Rattle.position.specs.Board.{board}
+use Rattle.position.specs.Parts.{butDesk, built, deskForce, deskLastTurn, deskPhase}
 use Rattle.acceptance.specs.Broken.{broken}
-use Rattle.acceptance.specs.Examples.{computing, roster, rosterLess}
+use Rattle.acceptance.specs.Examples.{computing, roster, rosterParts, lessParts, during}
 use Rattle.field.specs.Listed.{sieve}
 use Rattle.routes.specs.Examples.{searching}
 use Rattle.routes.specs.Part.{reach}
@@ -33,26 +34,25 @@ use Rattle.rules.specs.Onward.{
   sentRoute,
 }
 
--- phase 1 with a stage, an owed retreat and a need, unit 0 tried and with a role
-abbrev during : List ℕ → ℕ → ℕ → ℕ → ℕ → List ℕ
-during p stage owed need role = set (set (set (set (set (set p 103 1) 104 stage) 105 owed) 106 need) 90 1) 91 role
-
+-- unit 0 owes a retreat of one hex
 abbrev retreating : List ℕ
-retreating = during rosterLess 1 1 0 1
+retreating = built (during lessParts 1 1 0 1)
 
 -- the same with three hexes owed, of which the map has two
 abbrev trapped : List ℕ
-trapped = during rosterLess 1 3 0 1
+trapped = built (during lessParts 1 3 0 1)
 
+-- it owes losses of 3
 abbrev losing : List ℕ
-losing = during roster 2 0 3 1
+losing = built (during rosterParts 2 0 3 1)
 
+-- it may advance
 abbrev advancing : List ℕ
-advancing = during roster 3 0 0 2
+advancing = built (during rosterParts 3 0 0 2)
 
 -- turn 1 of 1, force 3, phase 2
 abbrev lastPhase : List ℕ
-lastPhase = set (set (set roster 101 1) 102 3) 103 2
+lastPhase = built (butDesk (butDesk (butDesk rosterParts deskLastTurn 1) deskForce 3) deskPhase 2)
 
 pub whole : map broken (retreating ∷ trapped ∷ losing ∷ advancing ∷ lastPhase ∷ []) ≡ replicate 5 false
 unfolding computing

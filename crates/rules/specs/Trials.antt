@@ -1,13 +1,27 @@
 -- Small positions on which whole calls are computed.
 -- Assumes nothing.
 use Prim.Native.Nat.{ℕ}
-use mathlib.Core.List.{List, [], _∷_, _++_}
+use mathlib.Core.List.{List, [], _∷_}
 use lib.ListN.{replicate}
 use Rattle.position.specs.Bits.{with, without, faced}
 use Rattle.position.specs.Layout.{setUnit, setDesk, setHex, setMarks, setRole, setClock, setStage, setRouteHex, setRoute, clearRoutes}
+use Rattle.position.specs.Parts.{
+  Parts,
+  Row,
+  plain,
+  infantry,
+  having,
+  but,
+  butDesk,
+  built,
+  unitMarks,
+  unitRole,
+  deskForce,
+  routeHex,
+}
 use Rattle.position.specs.Change.{make, makes}
 use Rattle.position.specs.Effect.{upd, reroute, unfilled, change, changes}
-use Rattle.acceptance.specs.Examples.{computing}
+use Rattle.acceptance.specs.Examples.{computing, during}
 use Rattle.ruling.specs.Verdict.{afterCheck, judged, outcome, along}
 use Rattle.ruling.specs.Secret.{Sent}
 use Rattle.field.specs.Listed.{offMap, onMapAll, onMapFrom, sieve}
@@ -51,40 +65,24 @@ ending = record { order = endPhase; lent = replicate 3 7 }
 abbrev pub sixth : Sent Order
 sixth = record { order = supply 5; lent = replicate 3 7 }
 
+-- a tried infantry: nationality, hex and role
+abbrev fought : ℕ → ℕ → ℕ → Row
+fought n h r = having (having (infantry n h) unitMarks 1) unitRole r
+
 -- Seven hexes in a row, plain. Two stacks of the S.A.U. owe a retreat of one hex, unit 0 on hex 1 and unit 1 on hex 2; unit 2 of the
 -- E.S.C., the victor, stands on hex 6 and may advance.
-abbrev contents : List ℕ
-contents = 20 ∷ 0 ∷ 36 ∷ 0 ∷ 56 ∷ 0 ∷ 9 ∷ 0 ∷ 65 ∷ 0 ∷ 37 ∷ 0 ∷ 102 ∷ 0 ∷ 26 ∷ 0 ∷ 128 ∷ 0 ∷ 56 ∷ 0 ∷ []
-
-abbrev table : List ℕ
-table = 1 ∷ 1 ∷ 1 ∷ 1 ∷ 2 ∷ 3 ∷ 4 ∷ 7 ∷ 9 ∷ []
-
-abbrev strip : List ℕ
-strip = 7 ∷ 1 ∷ replicate 35 0
-
--- a tried infantry of strength 5 and allowance 6: nationality, hex and role
-abbrev infantry : ℕ → ℕ → ℕ → List ℕ
-infantry n h r = n ∷ 2 ∷ h ∷ 0 ∷ 5 ∷ 6 ∷ 1 ∷ r ∷ []
-
--- turn 1 of 60, force 1, combat, stage 1, and n is 1
-abbrev retreats : List ℕ
-retreats = 1 ∷ 60 ∷ 1 ∷ 1 ∷ 1 ∷ 1 ∷ 0 ∷ 0 ∷ []
-
-abbrev units : ℕ → ℕ → ℕ → List ℕ
-units first role second = 3 ∷ 0 ∷ (infantry 0 first role ++ (infantry 0 second 1 ++ infantry 1 6 2))
-
-abbrev above : List ℕ
-above = contents ++ (replicate 36 1 ++ (table ++ strip))
+abbrev retreats : ℕ → ℕ → Parts
+retreats first role = during (butDesk (plain 7 1 (infantry 0 first ∷ fought 0 2 1 ∷ fought 1 6 2 ∷ [])) deskForce 1) 1 1 0 role
 
 abbrev pub twoOwe : List ℕ
-twoOwe = above ++ (units 1 1 2 ++ (retreats ++ replicate 48 255))
+twoOwe = built (retreats 1 1)
 
 -- the first stack goes to hex 0; then unit 1 alone owes, and the road from hex 1 to hex 0 is written
 abbrev pub firstGoes : Sent Order
 firstGoes = record { order = retreat 1 (0 ∷ []) []; lent = [] }
 
 abbrev pub oneOwes : List ℕ
-oneOwes = above ++ (units 0 0 2 ++ (retreats ++ (1 ∷ 0 ∷ 0 ∷ 0 ∷ replicate 44 255)))
+oneOwes = built (but (but (retreats 0 0) (routeHex 0) 0 1) (routeHex 1) 0 0)
 
 -- the second stack goes to hex 3
 abbrev pub secondGoes : Sent Order

@@ -4,10 +4,10 @@ use Prim.Native.Nat.{ℕ}
 use mathlib.Core.Path.{_≡_, refl}
 use mathlib.Core.Bool.{true, false}
 use mathlib.Core.List.{List, [], _∷_}
-use lib.ListN.{set}
 use Rattle.position.specs.Kind.{castsZone}
 use Rattle.position.specs.Board.{board, enemy}
-use Rattle.acceptance.specs.Examples.{computing, roster, rosterLess, twoPlayers, landed}
+use Rattle.position.specs.Parts.{Parts, but, built, unitHex}
+use Rattle.acceptance.specs.Examples.{computing, roster, rosterLess, landed, landedTogether, landedParts, twoPlayers}
 use Rattle.walk.specs.Examples.{sweeping}
 use Rattle.walk.specs.Sweep.{tab}
 use Rattle.field.specs.Scene.{forceIn, scene}
@@ -32,13 +32,13 @@ one-in = refl
 
 -- The S.A.U. has landed on hex 0. A unit of the E.S.C. on hex 1 stands in the line from hex 2, and on hex 2 casts its zone over hex 1: as
 -- Enemy it stops both lines, as a neutral neither.
-abbrev farther : List ℕ
-farther = set landed 94 2
+abbrev farther : Parts
+farther = but landedParts unitHex 1 2
 
-pub enemy-stops : supplied (scene (board landed)) 0 2 ∷ supplied (scene (board farther)) 0 1 ∷ [] ≡ false ∷ false ∷ []
+pub enemy-stops : supplied (scene (board landed)) 0 2 ∷ supplied (scene (board (built farther))) 0 1 ∷ [] ≡ false ∷ false ∷ []
 unfolding supplying
 enemy-stops = refl
 
-pub neutral-lets-through : supplied (scene (board (twoPlayers landed))) 0 2 ∷ supplied (scene (board (twoPlayers farther))) 0 1 ∷ [] ≡ true ∷ true ∷ []
+pub neutral-lets-through : supplied (scene (board landedTogether)) 0 2 ∷ supplied (scene (board (built (twoPlayers farther)))) 0 1 ∷ [] ≡ true ∷ true ∷ []
 unfolding supplying
 neutral-lets-through = refl
