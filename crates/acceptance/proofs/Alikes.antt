@@ -1,7 +1,7 @@
 -- What positions that look the same share, and that a change made to both keeps them so.
 -- Assumes nothing.
-use Prim.Native.Nat.{ℕ, _+_, _*_, _≤_, _<_}
-use mathlib.Core.Path.{_≡_, refl, sym, ap, ap₂, fun-ext, _∙_}
+use Prim.Native.Nat.{ℕ, _+_, _<_}
+use mathlib.Core.Path.{_≡_, refl, sym, ap, fun-ext, _∙_}
 use mathlib.Core.List.{List}
 use mathlib.Core.Bool.{Bool, true, false, cond}
 use native.Mathlib.Omega.{arith}
@@ -9,31 +9,8 @@ use native.Mathlib.Decide.{decLt, ℕ-discrete}
 use lib.ListN.{length, set, length-set, List·getD-eq-default}
 use lib.Seq.{getD-set-same, getD-set-other}
 use Rattle.position.specs.Bits.{has, with, tried}
-use Rattle.position.specs.Layout.{
-  byte,
-  unitSize,
-  nationalityField,
-  kindField,
-  hexField,
-  allowanceField,
-  marksField,
-  roleField,
-  unitsAt,
-  count,
-  hexes,
-  deskAt,
-  unitAt,
-  unitByte,
-  hex,
-  strengthField,
-  strength,
-  marks,
-  deskByte,
-  setUnit,
-  setDesk,
-  setMarks,
-}
-use Rattle.position.specs.Board.{Board, board, units, desk, shown}
+use Rattle.position.specs.Layout.{byte, unitSize, nationalityField, kindField, hexField, allowanceField, marksField, roleField, count, deskAt, unitAt, unitByte, hex, strengthField, strength, marks, deskByte, setUnit, setDesk, setMarks}
+use Rattle.position.specs.Board.{board, units, desk, shown}
 use Rattle.position.specs.Shape.{Shaped}
 use Rattle.position.specs.Change.{Change, makes, turned}
 use Rattle.acceptance.specs.Alike.{Hidden, Same}
@@ -41,7 +18,7 @@ use Rattle.position.proofs.Tables.{set-unit-in, set-unit-out}
 use Rattle.position.proofs.Bodies.{chart-same, results-same, ground-same}
 use Rattle.position.proofs.Front.{Front, Behind, behind-bodies, behind-front, shaped-kept, count-kept, hexes-kept, unitAt-kept, deskAt-kept}
 use Rattle.position.proofs.Writes.{front-unit, front-desk, unit-there, desk-there, unit-in, unit-unit, unit-desk}
-use Rattle.position.proofs.Effects.{hex-from, shown-from, player-from, desk-from, upd-case, marks-set}
+use Rattle.position.proofs.Effects.{hex-from, player-from, desk-from, upd-case, marks-set}
 use Rattle.position.proofs.Twins.{Twin, twin-makes}
 
 -- what is the same in both

@@ -1,16 +1,15 @@
 -- The lines on units as the check asks for them come to the lines of document 01, and follow from them.
 -- Assumes nothing.
 use Prim.Native.Nat.{ℕ, zero, suc, _≤_, _<_}
-use mathlib.Core.Path.{_≡_, refl, sym, ap, _∙_}
-use mathlib.Core.Bool.{Bool, true, false, cond}
+use mathlib.Core.Path.{_≡_, refl, sym, _∙_}
+use mathlib.Core.Bool.{true, false}
 use native.Mathlib.Omega.{arith}
-use lib.Dec.{leb, eqb}
 use borrow.Author.Tests.{leb-true, eq-eqb, ne-eqb, eqb-true}
 use Rattle.position.specs.Kind.{force, mayBelong}
 use Rattle.position.specs.Board.{Board, nowhere, forceOf}
-use Rattle.position.proofs.Tallies.{not-both, same-or, either}
+use Rattle.position.proofs.Tallies.{not-both, same-or}
 use Rattle.acceptance.specs.Accepted.{UnitOk, TwoForcesOk, PairOk, UnitsOk}
-use Rattle.acceptance.specs.Asked.{AloneOk, StackOk, StacksIn, StacksOk, OneForce, RolesApart, RolesOk}
+use Rattle.acceptance.specs.Asked.{AloneOk, StacksOk, OneForce, RolesOk}
 use Rattle.acceptance.proofs.Lawfuls.{standable-on}
 
 -- there are four forces

@@ -1,17 +1,17 @@
 -- An accepted position stays accepted where the board afterwards is lawful: layout and strengths stay by themselves.
 -- Assumes nothing.
-use Prim.Native.Nat.{ℕ, _<_}
-use mathlib.Core.Path.{_≡_, refl, sym, _∙_}
+use Prim.Native.Nat.{ℕ}
+use mathlib.Core.Path.{_≡_}
 use mathlib.Core.List.{List, [], _∷_}
 use native.Mathlib.Omega.{arith}
-use Rattle.position.specs.Layout.{count, strength}
-use Rattle.position.specs.Board.{Board, board}
-use Rattle.position.specs.Shape.{In, Shaped}
+use Rattle.position.specs.Layout.{strength}
+use Rattle.position.specs.Board.{board}
+use Rattle.position.specs.Shape.{Shaped}
 use Rattle.acceptance.specs.Accepted.{Lawful, StrengthsOk, Accepted}
-use Rattle.position.specs.Change.{Change, make, makes, turned}
-use Rattle.position.specs.Effect.{change, changes, turnedUp}
+use Rattle.position.specs.Change.{Change, makes, turned}
+use Rattle.position.specs.Effect.{changes, turnedUp}
 use Rattle.position.proofs.Front.{Front, shaped-kept, count-kept}
-use Rattle.position.proofs.Changes.{Made, made, turned-made, front-makes, board-makes}
+use Rattle.position.proofs.Changes.{made, turned-made, front-makes, board-makes}
 
 -- strengths in range stay so
 strengths-kept : {p q : List ℕ} → Front p q → ((w : ℕ) → strength q w ≡ strength p w) → StrengthsOk p → StrengthsOk q

@@ -4,10 +4,9 @@ use Prim.Native.Nat.{ℕ}
 use mathlib.Core.Path.{_≡_, sym, ap, _∙_}
 use mathlib.Core.List.{List}
 use Rattle.position.specs.Layout.{deskBody, playersField, extent, count, withPlayers}
-use Rattle.position.specs.Board.{Board, board}
-use Rattle.position.specs.Shape.{Shaped}
+use Rattle.position.specs.Board.{Board}
 use Rattle.position.proofs.Players.{Old, shaped-with, shaped-without, strength-with, board-with}
-use Rattle.acceptance.specs.Accepted.{Lawful, Accepted}
+use Rattle.acceptance.specs.Accepted.{Accepted}
 use Rattle.acceptance.specs.Broken.{accepted?, broken, broken-true, broken-false}
 
 module _ {p : List ℕ} (o : Old p) where

@@ -1,6 +1,6 @@
 -- Whether a position is accepted is decided: `broken` is the test of refusal 1.
 -- Assumes nothing.
-use Prim.Native.Nat.{ℕ, _+_, _≤_, _<_}
+use Prim.Native.Nat.{ℕ, _+_}
 use mathlib.Core.Path.{_≡_}
 use mathlib.Core.List.{List}
 use mathlib.Core.Bool.{Bool, true, false}
@@ -19,33 +19,7 @@ use Rattle.position.specs.Crowd.{crowd, holders, owingHexes, filled, routes}
 use Rattle.position.specs.Shape.{Entry, Shaped}
 use Rattle.setting.specs.Decide.{iff, both, given, never, below, holds?, answersNo, says-no, says-yes}
 use Rattle.setting.specs.Decided.{in?, terrain?, results?, map?}
-use Rattle.acceptance.specs.Accepted.{
-  MappedOk,
-  DestroyedOk,
-  RoleOk,
-  CounterOk,
-  DutyOk,
-  StandOk,
-  UnitOk,
-  TwoForcesOk,
-  OneForceOk,
-  PairOk,
-  UnitsOk,
-  ClockOk,
-  PlayerOk,
-  QuietOk,
-  RetreatsOk,
-  LossesOk,
-  AdvancesOk,
-  DuringOk,
-  StageOk,
-  LinkOk,
-  PlaceOk,
-  RouteOk,
-  Lawful,
-  StrengthsOk,
-  Accepted,
-}
+use Rattle.acceptance.specs.Accepted.{MappedOk, DestroyedOk, RoleOk, CounterOk, DutyOk, StandOk, UnitOk, TwoForcesOk, OneForceOk, PairOk, UnitsOk, ClockOk, PlayerOk, QuietOk, RetreatsOk, LossesOk, AdvancesOk, DuringOk, StageOk, LinkOk, PlaceOk, RouteOk, Lawful, Accepted}
 
 unfoldable pub entry? : (p : List ℕ) (k at long : ℕ) → Dec (Entry p k at long)
 entry? p k at long =

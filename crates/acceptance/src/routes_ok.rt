@@ -1,5 +1,4 @@
 // Whether the routes keep their lines of document 01.
-ghost use mathlib.Core.Path.{_≡_};
 ghost use Prim.Native.Nat.{ℕ, _<_};
 ghost use Rattle.position.specs.Board.{board};
 ghost use Rattle.acceptance.specs.Accepted.{PlaceOk, LinkOk, RouteOk, RoutesOk};

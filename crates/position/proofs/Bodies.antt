@@ -48,7 +48,7 @@ use Rattle.position.specs.Layout.{
   code,
   hexByte,
 }
-use Rattle.position.specs.Board.{Chart, Results, Map, chart, results, ground}
+use Rattle.position.specs.Board.{chart, results, ground}
 use Rattle.position.proofs.Cells.{inside, cell-in, cell-out}
 use Rattle.position.proofs.Counts.{Counts, word-of, hexes-same}
 

@@ -1,22 +1,20 @@
 -- The board after a change, and after changes one after another; the layout and the strengths, which no change touches.
 -- Assumes nothing.
-use Prim.Native.Nat.{ℕ, _+_, _%_, _/_, _≤_, _<_}
+use Prim.Native.Nat.{ℕ, _+_, _%_, _/_, _<_}
 use mathlib.Core.Path.{_≡_, refl, sym, ap, _∙_}
 use mathlib.Core.List.{List, [], _∷_, _++_}
-use mathlib.Core.Bool.{Bool, true, false, cond}
 use native.Mathlib.Omega.{arith}
 use native.Mathlib.Decide.{decLt}
-use lib.Dec.{ltb}
 use borrow.Author.Tests.{lt-ltb, le-ltb}
 use Rattle.position.specs.declared.View.{View}
 use Rattle.position.specs.Bits.{has, with, tried, faced}
-use Rattle.position.specs.Layout.{hexField, strengthField, marksField, roleField, routeCount, count, hexes, unitByte, strength, marks, setUnit, setDesk, setHex, setMarks, setRole, setClock, setStage, setRoute, clearRoutes}
+use Rattle.position.specs.Layout.{hexField, strengthField, marksField, roleField, routeCount, hexes, strength, marks, setUnit, setHex, setMarks, setRole}
 use Rattle.position.specs.Board.{Board, Units, board, units, desk, nowhere}
 use Rattle.position.specs.Shape.{Shaped}
 use Rattle.position.specs.Laid.{Laid}
 use Rattle.position.specs.Change.{Change, make, makes, turned, source}
 use Rattle.position.specs.Change.Change.{placed, destroyed, marked, assigned, timed, staged, routed, unrouted}
-use Rattle.position.specs.Effect.{withHex, withMarks, withRole, withShown, withUnits, withDesk, change, changes, turnedUp}
+use Rattle.position.specs.Effect.{withHex, withMarks, withRole, withUnits, withDesk, change, changes, turnedUp}
 use Rattle.position.proofs.Front.{Front, Behind, front-refl, front-trans, behind-front, behind-trans, shaped-kept, laid-kept}
 use Rattle.position.proofs.Writes.{behind-unit, front-unit, unit-unit}
 use Rattle.position.proofs.Effects.{board-units, board-desk, units-role, units-faced, units-turned, units-hex, behind-hex, desk-behind, faced-face}

@@ -3,10 +3,10 @@
 use Prim.Native.Nat.{ℕ, zero, suc, _+_, _*_, _/_, _%_, _≤_, _<_}
 use mathlib.Core.Path.{_≡_, refl, sym, ap, ap₂, fun-ext, _∙_}
 use mathlib.Core.List.{List}
-use mathlib.Core.Bool.{Bool, true, false, cond, _&&_}
+use mathlib.Core.Bool.{cond}
 use native.Mathlib.Omega.{arith}
 use native.Mathlib.Decide.{decLt, ℕ-discrete}
-use lib.Dec.{ltb, eqb}
+use lib.Dec.{eqb}
 use borrow.Author.Tests.{lt-ltb, le-ltb, eq-eqb, ne-eqb}
 use Rattle.position.specs.Layout.{
   strengthField,
@@ -34,7 +34,7 @@ use Rattle.position.specs.Layout.{
   setRoute,
   clearRoutes,
 }
-use Rattle.position.specs.Board.{Units, Desk, units, desk, nowhere}
+use Rattle.position.specs.Board.{units, desk, nowhere}
 use Rattle.position.specs.Shape.{Shaped}
 use Rattle.position.specs.Effect.{withClock, withStage, withRoutes, ofFour, reroute, unfilled}
 use Rattle.position.proofs.Tables.{route-in, route-past, route-over}

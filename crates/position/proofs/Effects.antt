@@ -1,64 +1,19 @@
 -- What each change does to the board, as an equation.
 -- Assumes nothing.
-use Prim.Native.Nat.{ℕ, zero, suc, _+_, _*_, _/_, _%_, _≤_, _<_}
+use Prim.Native.Nat.{ℕ, _+_, _*_, _/_, _%_, _≤_, _<_}
 use mathlib.Core.Path.{_≡_, refl, sym, ap, ap₂, fun-ext, _∙_}
-use mathlib.Core.List.{List, [], _∷_}
+use mathlib.Core.List.{List}
 use mathlib.Core.Bool.{Bool, true, false, cond}
 use native.Mathlib.Omega.{arith}
 use native.Mathlib.Decide.{decLt, ℕ-discrete}
-use lib.Dec.{ltb, eqb}
+use lib.Dec.{eqb}
 use borrow.Author.Tests.{lt-ltb, le-ltb, eq-eqb, ne-eqb}
 use Rattle.position.specs.Bits.{has, with, tried, faced}
-use Rattle.position.specs.Layout.{
-  count,
-  hexes,
-  unitByte,
-  hex,
-  strength,
-  marks,
-  role,
-  deskByte,
-  need,
-  route,
-  routeField,
-  unitSize,
-  nationalityField,
-  kindField,
-  hexField,
-  strengthField,
-  allowanceField,
-  marksField,
-  roleField,
-  turnField,
-  lastTurnField,
-  forceField,
-  phaseField,
-  stageField,
-  owedField,
-  needField,
-  routesField,
-  routeCount,
-  routeHexes,
-  routesEnd,
-  playersField,
-  named,
-  player,
-  setUnit,
-  setDesk,
-  setHex,
-  setMarks,
-  setRole,
-  setClock,
-  setStage,
-  setRouteHex,
-  setRoute,
-  clearRoutes,
-}
-use Rattle.position.specs.Board.{Board, Units, Desk, board, units, desk, shown, nowhere}
+use Rattle.position.specs.Layout.{count, unitByte, hex, strength, marks, role, deskByte, need, route, routeField, unitSize, nationalityField, kindField, hexField, strengthField, allowanceField, marksField, roleField, turnField, lastTurnField, forceField, phaseField, stageField, owedField, needField, routesField, routeCount, routeHexes, routesEnd, playersField, player, setUnit, setDesk, setHex, setMarks, setRole}
+use Rattle.position.specs.Board.{Units, Desk, board, units, desk, shown}
 use Rattle.position.specs.Shape.{Shaped}
-use Rattle.position.specs.Change.{Change, make, makes, turned}
-use Rattle.position.specs.Change.Change.{placed, destroyed, marked, assigned, timed, staged, routed, unrouted}
-use Rattle.position.specs.Effect.{upd, withHex, withMarks, withRole, withShown, withClock, withStage, withRoutes, ofFour, reroute, unfilled, withUnits, withDesk, change, changes, turnedUp}
+use Rattle.position.specs.Change.{turned}
+use Rattle.position.specs.Effect.{upd, withHex, withMarks, withRole, withShown, withUnits, withDesk}
 use Rattle.position.proofs.Tables.{hex-in, route-in, route-past, route-over, set-unit-out}
 use Rattle.position.proofs.Front.{Front, Behind, behind-bodies, behind-front, behind-trans, shaped-kept, count-kept, named-kept}
 use Rattle.position.proofs.Bodies.{chart-same, results-same, ground-same}

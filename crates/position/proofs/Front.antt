@@ -1,6 +1,6 @@
 -- A position that is laid out as another, which every change leaves: as long, with the same contents and counts.
 -- Assumes nothing.
-use Prim.Native.Nat.{ℕ, _+_, _*_, _≤_, _<_}
+use Prim.Native.Nat.{ℕ, _+_, _≤_, _<_}
 use mathlib.Core.Path.{_≡_, refl, sym, ap, _∙_}
 use mathlib.Core.List.{List}
 use mathlib.Core.Bool.{cond}
@@ -9,42 +9,10 @@ use lib.ListN.{length, set, length-set}
 use lib.Dec.{eqb}
 use lib.Seq.{getD-set-other}
 use Rattle.position.specs.declared.View.{View}
-use Rattle.position.specs.Layout.{
-  byte,
-  deskBody,
-  extentAt,
-  playersField,
-  forces,
-  chartAt,
-  unitsHead,
-  extent,
-  columns,
-  mapAt,
-  width,
-  height,
-  hexes,
-  unitsAt,
-  count,
-  deskAt,
-  named,
-  unitAt,
-  ViewOf,
-  Fits,
-}
+use Rattle.position.specs.Layout.{byte, deskBody, extentAt, playersField, forces, chartAt, unitsHead, extent, columns, mapAt, width, height, hexes, unitsAt, count, deskAt, named, unitAt}
 use Rattle.position.specs.Shape.{Shaped}
 use Rattle.position.specs.Laid.{Laid}
-use Rattle.position.proofs.Counts.{
-  Counts,
-  counts-refl,
-  counts-trans,
-  word-of,
-  mapAt-same,
-  hexes-same,
-  unitsAt-same,
-  deskAt-same,
-  unitAt-same,
-  shaped-same,
-}
+use Rattle.position.proofs.Counts.{Counts, counts-refl, counts-trans, word-of, hexes-same, unitsAt-same, deskAt-same, unitAt-same, shaped-same}
 use Rattle.position.proofs.Bodies.{Bodies, bodies-counts}
 
 pub record Front (p q : List ℕ) : Type 0 where

@@ -1,48 +1,18 @@
 -- A desk of the old length and the same desk with the players named that it is read with: one board, and each change made to both.
 -- Assumes nothing.
-use Prim.Native.Nat.{ℕ, zero, suc, _+_, _*_, _≤_, _<_}
-use mathlib.Core.Path.{_≡_, refl, sym, ap, ap₂, fun-ext, _∙_}
+use Prim.Native.Nat.{ℕ, zero, suc, _+_, _≤_, _<_}
+use mathlib.Core.Path.{_≡_, refl, sym, ap, ap₂, _∙_}
 use mathlib.Core.List.{List, [], _∷_, _++_}
-use mathlib.Core.Bool.{Bool, true, false, not, cond, _&&_}
+use mathlib.Core.Bool.{Bool, true, false, not, _&&_}
 use native.Mathlib.Omega.{arith}
-use native.Mathlib.Decide.{decLt, ℕ-discrete}
-use lib.ListN.{length, getD, set, length-set, length-append, List·getD-append}
+use native.Mathlib.Decide.{decLt}
+use lib.ListN.{length, set, length-set, length-append, List·getD-append}
 use lib.Seq.{getD-set-same, getD-set-other, getD-append-add, set-append-left, set-comm}
 use lib.Dec.{eqb}
 use borrow.Author.Tests.{eq-eqb, ne-eqb}
 use Rattle.position.specs.Bits.{with, tried}
-use Rattle.position.specs.Layout.{
-  byte,
-  word,
-  deskBody,
-  extentAt,
-  unitsHead,
-  unitSize,
-  marksField,
-  forces,
-  chartAt,
-  extent,
-  mapAt,
-  hexes,
-  unitsAt,
-  count,
-  playersField,
-  named,
-  deskLength,
-  deskAt,
-  unitAt,
-  unitByte,
-  strengthField,
-  strength,
-  marks,
-  deskByte,
-  player,
-  withPlayers,
-  setUnit,
-  setDesk,
-  setMarks,
-}
-use Rattle.position.specs.Board.{Board, board, units, desk, enemy, neutral}
+use Rattle.position.specs.Layout.{byte, word, deskBody, extentAt, unitsHead, unitSize, marksField, forces, chartAt, extent, mapAt, hexes, unitsAt, count, playersField, named, deskAt, unitAt, unitByte, strengthField, strength, marks, deskByte, player, withPlayers, setUnit, setDesk, setMarks}
+use Rattle.position.specs.Board.{board, units, desk, enemy, neutral}
 use Rattle.position.specs.Shape.{Shaped}
 use Rattle.position.specs.Change.{turned}
 use Rattle.position.proofs.Tables.{player-in, player-out, set-unit-in, set-unit-out}

@@ -1,7 +1,7 @@
 -- Writing a number back restores the bytes.
 -- Assumes nothing.
-use Prim.Native.Nat.{ℕ, _+_, _*_, _/_, _%_, _≤_, _<_}
-use mathlib.Core.Path.{_≡_, refl, sym, ap, ap₂, _∙_}
+use Prim.Native.Nat.{ℕ, _+_, _*_, _/_, _%_, _<_}
+use mathlib.Core.Path.{_≡_, sym, ap, ap₂, _∙_}
 use mathlib.Core.List.{List}
 use native.Mathlib.Omega.{arith}
 use native.Mathlib.Decide.{decLt}
@@ -9,7 +9,7 @@ use lib.ListN.{set}
 use lib.Seq.{set-set, set-getD, set-comm}
 use borrow.Author.Tests.{lt-ltb, le-ltb}
 use Rattle.position.specs.Bits.{faced}
-use Rattle.position.specs.Layout.{hexField, marksField, roleField, byte, count, hexes, unitAt, unitByte, hex, marks, role, setUnit, setHex, setMarks, setRole}
+use Rattle.position.specs.Layout.{hexField, marksField, roleField, count, hexes, unitAt, unitByte, hex, marks, role, setUnit, setHex, setMarks, setRole}
 use Rattle.position.specs.Shape.{Shaped}
 use Rattle.position.specs.Change.{make}
 use Rattle.position.specs.Change.Change.{placed, marked, assigned}

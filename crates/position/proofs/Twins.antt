@@ -1,6 +1,6 @@
 -- What each byte that a call may write leaves true of two positions, every change leaves true of them.
 -- Assumes nothing.
-use Prim.Native.Nat.{ℕ, zero, suc, _+_, _*_, _/_, _%_, _≤_, _<_}
+use Prim.Native.Nat.{ℕ, zero, suc, _+_, _/_, _%_, _<_}
 use mathlib.Core.Path.{_≡_, refl, sym, ap, _∙_}
 use mathlib.Core.List.{List, [], _∷_}
 use mathlib.Core.Bool.{Bool, true, false, cond}
@@ -8,28 +8,7 @@ use native.Mathlib.Omega.{arith}
 use lib.Dec.{ltb}
 use borrow.Author.Tests.{ltb-true}
 use Rattle.position.specs.Bits.{has, tried, faced}
-use Rattle.position.specs.Layout.{
-  unitSize,
-  hexField,
-  marksField,
-  roleField,
-  routeCount,
-  routeHexes,
-  playersField,
-  hexes,
-  marks,
-  setUnit,
-  setDesk,
-  setHex,
-  setMarks,
-  setRole,
-  setClock,
-  setStage,
-  routeField,
-  setRouteHex,
-  setRoute,
-  clearRoutes,
-}
+use Rattle.position.specs.Layout.{unitSize, hexField, marksField, roleField, routeCount, routeHexes, playersField, hexes, marks, setUnit, setDesk, setHex, setMarks, setRole, setClock, setStage, setRouteHex, setRoute, clearRoutes}
 use Rattle.position.specs.Board.{nowhere}
 use Rattle.position.specs.Change.{Change, make, makes}
 use Rattle.position.specs.Change.Change.{placed, destroyed, marked, assigned, timed, staged, routed, unrouted}

@@ -1,14 +1,12 @@
 -- Reading after writing: what a byte written to a unit or to the desk leaves, and what it shows.
 -- Assumes nothing.
-use Prim.Native.Nat.{ℕ, _+_, _*_, _≤_, _<_}
-use mathlib.Core.Path.{_≡_, refl, sym, ap, ap₂, _∙_}
+use Prim.Native.Nat.{ℕ, _+_, _≤_, _<_}
+use mathlib.Core.Path.{_≡_, sym, ap, _∙_}
 use mathlib.Core.List.{List}
-use mathlib.Core.Bool.{true, false}
 use native.Mathlib.Omega.{arith}
 use native.Mathlib.Decide.{decLt}
-use lib.ListN.{length, getD, set, length-set}
 use lib.Seq.{getD-set-same, getD-set-other}
-use Rattle.position.specs.Layout.{byte, unitsHead, unitSize, playersField, unitsAt, count, deskAt, unitAt, cell, unitByte, deskByte, setUnit, setDesk}
+use Rattle.position.specs.Layout.{byte, unitsHead, unitSize, playersField, unitsAt, count, deskAt, unitAt, unitByte, deskByte, setUnit, setDesk}
 use Rattle.position.specs.Shape.{Shaped}
 use Rattle.position.proofs.Cells.{cell-in, cell-out}
 use Rattle.position.proofs.Tables.{set-unit-in, set-unit-out}

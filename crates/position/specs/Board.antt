@@ -1,7 +1,7 @@
 -- What a ruling may look at: everything of a position but the strengths that are face down. Each part is read off the bytes by
 -- accessors that show nothing past their tables, so positions that differ only in face-down strengths have one board.
 -- Assumes nothing.
-use Prim.Native.Nat.{ℕ, _*_}
+use Prim.Native.Nat.{ℕ}
 use mathlib.Core.Bool.{Bool, not, _&&_, cond}
 use mathlib.Core.List.{List}
 use lib.Dec.{eqb}

@@ -1,6 +1,6 @@
 -- All that the calls may do to a position. A change to a unit that is not there, or to a hex that is not on the map, changes nothing.
 -- Assumes nothing.
-use Prim.Native.Nat.{ℕ, _%_}
+use Prim.Native.Nat.{ℕ}
 use mathlib.Core.List.{List, [], _∷_}
 use mathlib.Core.Bool.{cond}
 use lib.Dec.{ltb}

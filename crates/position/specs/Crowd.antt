@@ -2,7 +2,7 @@
 -- Assumes nothing.
 use Prim.Native.Nat.{ℕ}
 use mathlib.Core.Bool.{Bool, not, _&&_}
-use lib.Dec.{eqb, ltb}
+use lib.Dec.{eqb}
 use Rattle.position.specs.Role as Role
 use Rattle.position.specs.Tally.{tally, any}
 use Rattle.position.specs.Layout.{routeCount}

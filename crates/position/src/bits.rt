@@ -2,7 +2,6 @@
 ghost use mathlib.Core.Path.{_≡_};
 ghost use Prim.Native.Nat.{_<_, _≤_};
 ghost use Rattle.position.specs.Bits.{has, with, without};
-ghost use Rattle.position.specs.Laid.{Read};
 
 pub const TRIED: usize = 1;
 

@@ -3,7 +3,7 @@ ghost use mathlib.Core.Path.{_≡_};
 ghost use Prim.Native.Nat.{_+_, _*_, _<_, _≤_};
 ghost use lib.ListN.{length};
 ghost use Rattle.position.specs.Layout.{terrainSize, columnSize, hexSize, unitSize, playersField, chartAt};
-ghost use Rattle.position.specs.Layout.{byte, word, cell, named, chartByte, columnByte, hexByte, unitByte, deskByte, setUnit, setDesk};
+ghost use Rattle.position.specs.Layout.{word, cell, named, chartByte, columnByte, hexByte, unitByte, deskByte, setUnit, setDesk};
 ghost use Rattle.position.specs.Laid.{Laid, Read};
 use crate::View;
 

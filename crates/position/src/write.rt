@@ -1,6 +1,6 @@
 // All that a call may do to a position: one function for each kind of change. Each does nothing for a unit, a hex or a route that is not there.
 ghost use mathlib.Core.Path.{_≡_};
-ghost use Prim.Native.Nat.{_<_, _≤_};
+ghost use Prim.Native.Nat.{_<_};
 ghost use Rattle.position.specs.Layout.{routeCount, routeHexes, setHex, setRouteHex};
 ghost use Rattle.position.specs.Change.{make, turned};
 ghost use Rattle.position.specs.Change.Change.{placed, destroyed, marked, assigned, timed, staged, routed, unrouted};

@@ -5,7 +5,6 @@ ghost use lib.ListN.{length};
 ghost use Rattle.position.specs.Board.{board};
 ghost use Rattle.position.specs.Laid.{Laid};
 ghost use Rattle.chains.specs.declared.Stand.{Stand};
-ghost use Rattle.chains.specs.Stand.{stand};
 ghost use Rattle.sheet.specs.Places.{hexFor};
 ghost use Rattle.pushes.specs.Drawn.{standNumber, openBits, byteOn, Drawn};
 use crate::stands;

@@ -3,7 +3,6 @@ ghost use mathlib.Core.Path.{_≡_};
 ghost use Prim.Native.Nat.{_<_};
 ghost use Rattle.position.specs.Tally.{any};
 ghost use Rattle.position.specs.Board.{board};
-ghost use Rattle.position.specs.Crowd.{owesAt};
 ghost use Rattle.position.specs.Laid.{Laid};
 ghost use Rattle.chains.specs.Stand.{apart, firm, bars, stand};
 use chains::Stand;

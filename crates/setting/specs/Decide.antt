@@ -1,10 +1,10 @@
 -- Decisions, put together from smaller ones.
 -- Assumes nothing.
-use Prim.Native.Nat.{ℕ, zero, suc, _≤_, _<_}
+use Prim.Native.Nat.{ℕ, zero, suc, _<_}
 use mathlib.Core.Path.{_≡_, refl}
 use mathlib.Core.Bool.{Bool, true, false}
 use native.Mathlib.Omega.{arith}
-use native.Mathlib.Decide.{decLe, ℕ-discrete}
+use native.Mathlib.Decide.{ℕ-discrete}
 use Rattle.grid.specs.declared.Beside.{Beside}
 use Rattle.grid.specs.declared.Beside.the-variants.{At, Off}
 

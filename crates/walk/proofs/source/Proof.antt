@@ -2,7 +2,6 @@
 -- Assumes nothing.
 use Prim.Native.Nat.{_-_}
 use lib.ListN.{length}
-use native.Mathlib.Omega.{arith}
 use borrow.Author.Needs.{needs}
 use Rattle.walk.specs.Chain.{mark}
 use Rattle.walk.proofs.Runs.{Sought, sought-none, sought-pass, sought-found, sought-all}

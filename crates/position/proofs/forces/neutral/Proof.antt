@@ -1,6 +1,5 @@
 -- `forces::neutral` meets its contract.
 -- Assumes nothing.
-use Prim.Native.Nat.{ℕ}
 use mathlib.Core.Path.{ap₂, _∙_}
 use lib.Dec.{eqb}
 use borrow.Author.Needs.{needs}

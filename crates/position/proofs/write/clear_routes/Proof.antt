@@ -1,11 +1,10 @@
 -- `write::clear_routes` makes its change. The loop's invariant: the first r routes are emptied.
 -- Assumes nothing.
-use Prim.Native.Nat.{ℕ, _+_, _-_, _≤_}
+use Prim.Native.Nat.{ℕ, _-_, _≤_}
 use mathlib.Core.Path.{_≡_, refl, ap, _∙_}
 use mathlib.Core.List.{List}
 use native.Mathlib.Omega.{arith}
 use native.Mathlib.Numerals.{add-one}
-use borrow.Author.Needs.{needs}
 use Rattle.position.specs.Board.{nowhere}
 use Rattle.position.specs.Layout.{routeCount, setRoute, clearRoutes}
 use Rattle.position.specs.Change.{make}
