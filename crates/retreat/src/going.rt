@@ -16,6 +16,7 @@ use aftermath::stage;
 use position::View;
 use position::crowd;
 use position::kind::Kind;
+use position::layout;
 use position::read;
 use position::role;
 use position::write;
@@ -26,7 +27,7 @@ fn hex_at(route: &[u16], i: usize) -> usize
     ensures { λ r. ⌜ Read (getD (now (route .entry)) i nowhere) 65536 r ⌝ }
 {
     if route.len() <= i {
-        return routes::NONE;
+        return layout::NOWHERE;
     }
     route[i] as usize
 }

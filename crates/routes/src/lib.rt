@@ -15,10 +15,7 @@ use paint::frame;
 use paint::frame::Frame;
 use position::View;
 
-// A place of a route that is not used.
-pub const NONE: usize = 65535;
-
-// The hexes of a route, NONE where it has no more.
+// The hexes of a route, NOWHERE where it has no more.
 pub enum Found {
     Route(usize, usize, usize),
     Nothing,

@@ -164,7 +164,7 @@ fn search(p: &[u8], v: View, at: Frame, shown: &[u8], f: usize, start: usize, n:
             continue;
         };
         if n == 1 {
-            found = Found::Route(a, crate::NONE, crate::NONE);
+            found = Found::Route(a, layout::NOWHERE, layout::NOWHERE);
             break 'search;
         }
         for d2 in 0..6 {
@@ -172,7 +172,7 @@ fn search(p: &[u8], v: View, at: Frame, shown: &[u8], f: usize, start: usize, n:
                 continue;
             };
             if n == 2 {
-                found = Found::Route(a, b, crate::NONE);
+                found = Found::Route(a, b, layout::NOWHERE);
                 break 'search;
             }
             for d3 in 0..6 {

@@ -6,6 +6,7 @@ use crate::Desk;
 use crate::Odds;
 use page::Output;
 use position::View;
+use position::layout;
 use position::read;
 use wording::names;
 
@@ -101,7 +102,7 @@ fn wide(n: u16) -> usize {
 
 // A place of a route, if it is filled.
 fn place(out: &mut Output, full: usize, h: usize) -> usize {
-    if h == 65535 {
+    if h == layout::NOWHERE {
         return full;
     }
     page::word(out, full, b" ", h)
@@ -109,7 +110,7 @@ fn place(out: &mut Output, full: usize, h: usize) -> usize {
 
 // A route of four places, if it is filled.
 fn route(out: &mut Output, full: usize, a: usize, b: usize, c: usize, d: usize) -> usize {
-    if a == 65535 {
+    if a == layout::NOWHERE {
         return full;
     }
     let f = page::word(out, full, b"route ", a);

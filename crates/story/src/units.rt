@@ -5,6 +5,7 @@ ghost use Rattle.story.specs.Look.{UnitOf};
 use crate::Unit;
 use page::Output;
 use position::View;
+use position::layout;
 use position::read;
 use wording::names;
 
@@ -45,7 +46,7 @@ fn who(out: &mut Output, full: usize, u: Unit) -> usize {
 
 // The unit's line, if it is on the map.
 fn line(out: &mut Output, full: usize, u: Unit) -> usize {
-    if u.hex == 65535 {
+    if u.hex == layout::NOWHERE {
         return full;
     }
     let f = who(out, full, u);
