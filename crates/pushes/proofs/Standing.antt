@@ -4,13 +4,13 @@ use Prim.Native.Nat.{ℕ}
 use mathlib.Core.Path.{_≡_, refl, sym, ap, _∙_}
 use mathlib.Core.Bool.{Bool, true, false, not, _&&_}
 use lib.Dec.{eqb}
-use borrow.Author.Tests.{eq-eqb, ne-eqb, not-true, not-false}
+use borrow.Author.Tests.{eq-eqb, ne-eqb, eqb-true, not-true, not-false}
 use Rattle.position.specs.Tally.{any}
 use Rattle.position.specs.Bits.{has}
 use Rattle.position.specs.Board.{Board, forceOf}
 use Rattle.position.specs.Crowd.{owesAt}
 use Rattle.position.specs.Ground.{standable}
-use Rattle.position.proofs.Tallies.{any-false, any-never}
+use Rattle.position.proofs.Tallies.{same-or, any-some, any-true, any-false, any-never}
 use Rattle.field.specs.Scene.{scene}
 use Rattle.field.specs.Zone.{standsOn, vacant}
 use Rattle.paint.specs.Paint.{Marked}
@@ -66,6 +66,20 @@ none-apart b a h e =
     let t = standsOn (scene b) h in
     any-never (λ u. t u && not (owesAt b a u)) n
     (λ u l. ap (λ (x : Bool). x && not (owesAt b a u)) (any-false t n u (not-true (any t n) e) l))
+
+-- on a hex that is held, and is not the group's, somebody does
+pub held-is : (b : Board) (f h : ℕ) {m : ℕ} → Marked (scene b) f h m → has 16 m ≡ true → vacant (scene b) h ≡ false
+held-is b f h k v = not-true (vacant (scene b) h) (sym (marked-held k) ∙ v)
+
+pub held-apart : (b : Board) (a h : ℕ) → vacant (scene b) h ≡ false → (h ≡ a → ⊥) → any (apart b a h) (b .units .count) ≡ true
+unfolding vacant standsOn
+held-apart b a h e n =
+    let c = b .units .count in
+    let s = any-some (standsOn (scene b) h) c (not-false (any (standsOn (scene b) h) c) e) in
+    let u = s .at in
+    let i = eqb-true (b .units .hex u) h (s .passes) in
+    any-true (apart b a h) c u (s .below)
+    (same-or (b .units .role u) 1 (λ r. apart-owes b a h u i r ∙ ap not (ne-eqb h a n)) (λ r. apart-stays b a h u i r))
 
 -- where no unit may stand, in an Enemy zone, and elsewhere
 module _ (b : Board) (f a h : ℕ) where

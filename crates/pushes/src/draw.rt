@@ -51,7 +51,7 @@ fn byte_for(p: &[u8], v: View, f: usize, start: usize, i: usize) -> usize
 }
 
 // Draws every place.
-pub fn draw(p: &[u8], v: View, f: usize, start: usize, room: &mut [u8])
+pub fn draw(p: &[u8], v: View, f: usize, start: usize, room: &mut [u8; 182])
     requires { ⌜ Laid (now p) v × (start < v .hexes) × (length (now room) ≡ 182) ⌝ }
     ensures { λ _. ⌜ Drawn (board (now (p .entry))) f start (now (room .exit)) ⌝ }
 {

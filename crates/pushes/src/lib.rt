@@ -29,7 +29,7 @@ fn judge_by(
     n: usize,
     route: &[u16],
     pushes: &[u16],
-    room: &mut [u8],
+    room: &mut [u8; 182],
 ) -> Served
     requires { ⌜ Laid (now p) v × (start < v .hexes) × (n ≤ 3) × (length (now room) ≡ 182) ⌝ }
     ensures { λ r. ⌜ r ≡ served (board (now (p .entry))) f start n (now (route .entry)) (now (pushes .entry)) ⌝ }

@@ -1,9 +1,12 @@
 // What a hex is to a retreating group and to the stacks that it pushes.
 ghost use mathlib.Core.Path.{_≡_};
+ghost use mathlib.Core.Bool.{false};
 ghost use Prim.Native.Nat.{_<_};
 ghost use Rattle.position.specs.Tally.{any};
 ghost use Rattle.position.specs.Board.{board};
 ghost use Rattle.position.specs.Laid.{Laid};
+ghost use Rattle.field.specs.Scene.{scene};
+ghost use Rattle.field.specs.Zone.{vacant};
 ghost use Rattle.chains.specs.Stand.{apart, firm, bars, stand};
 use chains::Stand;
 use position::View;
@@ -58,6 +61,17 @@ fn any_apart(p: &[u8], v: View, a: usize, h: usize) -> bool
     false
 }
 
+// The same of a hex that is held: unless it is the group's own, who holds it is not of the group.
+fn shared(p: &[u8], v: View, a: usize, h: usize) -> bool
+    requires { ⌜ Laid (now p) v × (vacant (scene (board (now p))) h ≡ false) ⌝ }
+    ensures { λ r. ⌜ r ≡ any (apart (board (now (p .entry))) a h) (board (now (p .entry)) .units .count) ⌝ }
+{
+    if h != a {
+        return true;
+    }
+    any_apart(p, v, a, h)
+}
+
 // Whether unit `u` holds hex `h` against every push.
 fn bars(p: &[u8], v: View, f: usize, a: usize, h: usize, u: usize) -> bool
     requires { ⌜ Laid (now p) v ⌝ }
@@ -100,7 +114,7 @@ pub fn stand_at(p: &[u8], v: View, f: usize, a: usize, h: usize) -> Stand
     if !bits::has(paint::HELD, m) {
         return Stand::Free;
     }
-    if !any_apart(p, v, a, h) {
+    if !shared(p, v, a, h) {
         return Stand::Free;
     }
     if any_bars(p, v, f, a, h) {

@@ -1,25 +1,24 @@
 -- Laws of marks: the places in which a chain may end.
 -- Assumes nothing.
-use Prim.Native.Nat.{ℕ, zero, suc, _+_, _-_, _≤_, _<_}
+use Prim.Native.Nat.{ℕ, zero, suc, _+_, _-_, _/_, _%_, _≤_, _<_}
 use mathlib.Core.Path.{_≡_, refl, sym, ap, subst, _∙_}
 use mathlib.Core.Bool.{Bool, true, false, _&&_, _||_, and-false, and-true, or-false, or-assoc}
 use mathlib.Core.List.{List, _∷_}
 use native.Mathlib.Omega.{arith}
 use native.Mathlib.Decide.{decLe}
 use lib.Dec.{eqb}
-use lib.ListN.{length, set, length-set}
-use lib.Seq.{getD-set-same, getD-set-other}
 use borrow.Author.Tests.{eq-eqb, ne-eqb, le-leb, lt-leb, eqb-true}
 use Rattle.grid.specs.declared.Beside.{Beside}
 use Rattle.grid.specs.declared.Beside.the-variants.{At, Off}
-use Rattle.position.specs.Layout.{byte}
+use Rattle.position.specs.Bits.{has}
 use Rattle.position.specs.Tally.{any}
 use Rattle.position.specs.Ground.{isAt}
 use Rattle.position.proofs.Tallies.{not-both, both-yes, same-or, either, any-step, any-zero, any-some, any-never, any-same}
 use Rattle.chains.specs.Chain.{Ways, Stands, rests, yields, leadsTo, leads, hasRest}
 use Rattle.chains.specs.Serves.{endsIn}
 use Rattle.sheet.specs.Sheet.{places, nextIn}
-use Rattle.sheet.specs.Ends.{reach, room, Close, marked, Marks, restsBeside, endMarked, Blank}
+use Rattle.sheet.specs.Ends.{reach, bitOf, markIn, MarkSet, Close, marked, Marks, restsBeside, endMarked, Blank}
+use Rattle.sheet.proofs.Marking.{has-none}
 use Rattle.sheet.proofs.Sheets.{next-below, next-near}
 
 -- a place is close to itself; one that is close is so by more steps; and one step further
@@ -34,7 +33,7 @@ close-step l i d z e c =
     let n = next-near l i d z e in
     record { below = next-below l i d z e; after = omega (arith, c .after); before = omega (arith, c .before) }
 
--- whether a place is marked, where it has a byte
+-- whether a place is marked, where it has a bit
 module _ (l : List ℕ) (x y : ℕ) where
   pub end-before : y + reach < x → endMarked l x y ≡ false
   unfolding endMarked
@@ -48,9 +47,9 @@ module _ (l : List ℕ) (x y : ℕ) where
   unfolding endMarked
   end-in p q = simp (le-leb x (y + reach) p, le-leb y (x + reach) q)
 
-  pub end-read : (r : ℕ) → x ≤ y + reach → y ≤ x + reach → r ≡ byte l (reach + y - x) → eqb r 1 ≡ endMarked l x y
+  pub end-read : (r : Bool) → x ≤ y + reach → y ≤ x + reach → r ≡ markIn l (reach + y - x) → r ≡ endMarked l x y
   unfolding marked
-  end-read r p q e = ap (λ (n : ℕ). eqb n 1) e ∙ sym (end-in p q)
+  end-read r p q e = e ∙ sym (end-in p q)
 
 module _ {x : ℕ} where
   -- nothing is marked, the same is marked by another test, and more is marked
@@ -66,17 +65,14 @@ module _ {x : ℕ} where
   marks-left next s used h {k} {n} {l} {m} e a = subst (λ (i : ℕ). Marks x (endsIn next s used i h) l m) e a
 
   -- place z is marked
-  pub marks-one : (z : ℕ) (l : List ℕ) → Close x z 3 → length l ≡ room → Marks x (eqb z) l (set l (reach + z - x) 1)
+  pub marks-one : (z : ℕ) (l m : List ℕ) → Close x z 3 → MarkSet (reach + z - x) l m → Marks x (eqb z) l m
   unfolding marked
-  marks-one z l k e = record {
-    long = length-set l (reach + z - x) 1;
+  marks-one z l m k e = record {
+    long = e .long;
     each = λ y c.
         same-or z y
-        (λ q. simp (eq-eqb z y q) (rw (sym q) (ap (λ (n : ℕ). eqb n 1) (getD-set-same l (reach + z - x) 1 0 (omega (arith, k .after, k .before))))))
-        (λ n.
-        simp (ne-eqb z y n)
-        (ap (λ (n : ℕ). eqb n 1)
-        (getD-set-other l (reach + z - x) (reach + y - x) 1 0 (λ p. n (omega (arith, k .after, k .before, c .after, c .before))))));
+        (λ q. simp (eq-eqb z y q) (rw (sym q) (e .there)))
+        (λ n. simp (ne-eqb z y n) (e .others (reach + y - x) (λ p. n (omega (arith, k .after, k .before, c .after, c .before)))));
   }
 
 -- the tests of the first directions together: a test for each, and how many
@@ -173,11 +169,10 @@ rest-all next s used h y =
 -- after a direction more
 module _ {x : ℕ} (next : Ways) (s : Stands) (used : List ℕ) (h d z : ℕ) (e : next h d ≡ At z) {l m n : List ℕ} where
   pub upto-rest :
-      Marks x (upTo (restAt next s used h) d) l m → rests s used z ≡ true → Close x z 3 → length m ≡ room → n ≡ set m (reach + z - x) 1
+      Marks x (upTo (restAt next s used h) d) l m → rests s used z ≡ true → Close x z 3 → MarkSet (reach + z - x) m n
       → Marks x (upTo (restAt next s used h) (d + 1)) l n
-  upto-rest p r c b q =
-      upto-more (restAt next s used h) p
-      (subst (Marks x (restAt next s used h d) m) (sym q) (marks-as (λ y k. rest-yes next s used h d z e r y) (marks-one z m c b)))
+  upto-rest p r c b =
+      upto-more (restAt next s used h) p (marks-as (λ y k. rest-yes next s used h d z e r y) (marks-one z m n c b))
 
   pub upto-stay :
       Marks x (upTo (restAt next s used h) d) l m → rests s used z ≡ false → n ≡ m → Marks x (upTo (restAt next s used h) (d + 1)) l n
@@ -301,8 +296,10 @@ ends-close l s used (suc left) h x y b c e =
 -- where nothing was marked before, the marks are what the test says, if it holds of no place further off
 module _ {x : ℕ} {t : ℕ → Bool} {l m : List ℕ} (k : Blank l) (a : Marks x t l m) where
   blank : (y : ℕ) → marked l x y ≡ false
-  unfolding marked
-  blank y = ap (λ (n : ℕ). eqb n 1) (k .each (reach + y - x))
+  unfolding marked markIn
+  blank y =
+      let j = reach + y - x in
+      ap (has (bitOf (j % 8))) (k .each (j / 8)) ∙ has-none (j % 8)
 
   marked-is : (y : ℕ) → Close x y 3 → endMarked m x y ≡ t y
   marked-is y c =

@@ -2,6 +2,7 @@ pub mod Sheets
 pub mod Places
 pub mod Around
 pub mod Trails
+pub mod Marking
 pub mod Ends
 pub mod Ending
 pub mod Taking

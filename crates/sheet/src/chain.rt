@@ -9,15 +9,16 @@ ghost use Rattle.chains.specs.Chain.{rests, yields, hasRest};
 ghost use Rattle.chains.specs.Serves.{endsIn};
 ghost use Rattle.sheet.specs.Sheet.{standIn, nextIn};
 ghost use Rattle.sheet.specs.Trail.{trailOf, TrailOk};
-ghost use Rattle.sheet.specs.Ends.{Close, Marks, restsBeside, endMarked};
+ghost use Rattle.sheet.specs.Ends.{bitOf, markIn, MarkSet, Close, Marks, restsBeside, endMarked};
 use chains::Stand;
 use grid::Beside;
+use position::bits;
 use position::layout;
 
 // A place that is none.
 pub const NONE: usize = 182;
 
-// How far before and after the place of its first stack a chain may end.
+// How far before and after the place of its first stack a chain may end: each of these places has a mark, a bit of twelve bytes.
 const REACH: usize = 45;
 
 // The places of a chain before the stack at hand are one number: the last of them, 256 times the one before it and 65,536 times the one
@@ -53,7 +54,7 @@ pub fn longer(t: usize, h: usize, left: usize) -> usize
 }
 
 // Whether a stack in place `h` may go into place `z`: it is vacant, and not of the chain yet.
-pub fn rests(sheet: &[u8], t: usize, h: usize, z: usize) -> bool
+pub fn rests(sheet: &[u8; 182], t: usize, h: usize, z: usize) -> bool
     requires { ⌜ (length (now sheet) ≡ 182) × (z < 182) ⌝ }
     ensures { λ r. ⌜ r ≡ rests (standIn (now (sheet .entry))) (h ∷ trailOf t) z ⌝ }
 {
@@ -67,7 +68,7 @@ pub fn rests(sheet: &[u8], t: usize, h: usize, z: usize) -> bool
 }
 
 // Whether it may push the stack there.
-pub fn yields(sheet: &[u8], t: usize, h: usize, z: usize) -> bool
+pub fn yields(sheet: &[u8; 182], t: usize, h: usize, z: usize) -> bool
     requires { ⌜ (length (now sheet) ≡ 182) × (z < 182) ⌝ }
     ensures { λ r. ⌜ r ≡ yields (standIn (now (sheet .entry))) (h ∷ trailOf t) z ⌝ }
 {
@@ -81,7 +82,7 @@ pub fn yields(sheet: &[u8], t: usize, h: usize, z: usize) -> bool
 }
 
 // Whether the stack in place `h` has a vacant one beside it.
-pub fn has_rest(sheet: &[u8], t: usize, h: usize) -> bool
+pub fn has_rest(sheet: &[u8; 182], t: usize, h: usize) -> bool
     requires { ⌜ (length (now sheet) ≡ 182) × (h < 182) ⌝ }
     ensures { λ r. ⌜ r ≡ hasRest (nextIn (now (sheet .entry))) (standIn (now (sheet .entry))) (h ∷ trailOf t) h ⌝ }
 {
@@ -96,9 +97,40 @@ pub fn has_rest(sheet: &[u8], t: usize, h: usize) -> bool
     false
 }
 
+// The bit of mark `j` of a byte: from the third on those of the directions.
+fn bit(j: usize) -> usize
+    requires { ⌜ j < 8 ⌝ }
+    ensures { λ r. ⌜ (r ≡ bitOf j) × (1 ≤ r) × (r ≤ 128) ⌝ }
+{
+    if j < 2 {
+        return j + 1;
+    }
+    crate::side_bit(j - 2)
+}
+
+// Whether mark `k` is set.
+fn is_marked(ends: &[u8; 12], k: usize) -> bool
+    requires { ⌜ k < 96 ⌝ }
+    ensures { λ r. ⌜ r ≡ markIn (now (ends .entry)) k ⌝ }
+{
+    bits::has(bit(k % 8), layout::wide(ends[k / 8]))
+}
+
+// Sets mark `k`.
+fn mark(ends: &mut [u8; 12], k: usize)
+    requires { ⌜ (length (now ends) ≡ 12) × (k < 96) ⌝ }
+    ensures { λ _. ⌜ MarkSet k (now (ends .entry)) (now (ends .exit)) ⌝ }
+{
+    if is_marked(ends, k) {
+        return;
+    }
+    let j = k / 8;
+    ends[j] = (layout::wide(ends[j]) + bit(k % 8)) as u8;
+}
+
 // Marks the places beside place `h` into which its stack may go.
-fn mark_rests(sheet: &[u8], ends: &mut [u8], x: usize, t: usize, h: usize)
-    requires { ⌜ (length (now sheet) ≡ 182) × (length (now ends) ≡ 91) × (x < 182) × Close x h 2 ⌝ }
+fn mark_rests(sheet: &[u8; 182], ends: &mut [u8; 12], x: usize, t: usize, h: usize)
+    requires { ⌜ (length (now sheet) ≡ 182) × (length (now ends) ≡ 12) × (x < 182) × Close x h 2 ⌝ }
     ensures { λ _. ⌜ Marks x (restsBeside (nextIn (now (sheet .entry))) (standIn (now (sheet .entry))) (h ∷ trailOf t) h) (now (ends .entry)) (now (ends .exit)) ⌝ }
 {
     for d in 0..6 {
@@ -106,14 +138,14 @@ fn mark_rests(sheet: &[u8], ends: &mut [u8], x: usize, t: usize, h: usize)
             continue;
         };
         if rests(sheet, t, h, z) {
-            ends[REACH + z - x] = 1;
+            mark(ends, REACH + z - x);
         }
     }
 }
 
 // Whether a chain from the stack in place `h` on may end anywhere, where `left` stacks may still be pushed, two or three. The last stack is
 // only asked for a vacant place, so the recursion has two turns at most.
-pub fn can_end(sheet: &[u8], t: usize, left: usize, h: usize) -> bool
+pub fn can_end(sheet: &[u8; 182], t: usize, left: usize, h: usize) -> bool
     requires { ⌜ (length (now sheet) ≡ 182) × (2 ≤ left) × TrailOk t left × (h < 182) ⌝ }
     ensures { λ r. ⌜ r ≡ any (endsIn (nextIn (now (sheet .entry))) (standIn (now (sheet .entry))) (trailOf t) left h) 182 ⌝ }
 {
@@ -142,8 +174,8 @@ pub fn can_end(sheet: &[u8], t: usize, left: usize, h: usize) -> bool
 }
 
 // Marks the places in which a chain may end whose last stack is in place `h`.
-fn mark_last(sheet: &[u8], ends: &mut [u8], x: usize, t: usize, h: usize)
-    requires { ⌜ (length (now sheet) ≡ 182) × (length (now ends) ≡ 91) × (x < 182) × Close x h 2 ⌝ }
+fn mark_last(sheet: &[u8; 182], ends: &mut [u8; 12], x: usize, t: usize, h: usize)
+    requires { ⌜ (length (now sheet) ≡ 182) × (length (now ends) ≡ 12) × (x < 182) × Close x h 2 ⌝ }
     ensures { λ _. ⌜ Marks x (endsIn (nextIn (now (sheet .entry))) (standIn (now (sheet .entry))) (trailOf t) 1 h) (now (ends .entry)) (now (ends .exit)) ⌝ }
 {
     if has_rest(sheet, t, h) {
@@ -153,8 +185,8 @@ fn mark_last(sheet: &[u8], ends: &mut [u8], x: usize, t: usize, h: usize)
 
 // Marks the places in which a chain from the stack in place `h` on may end, where `left` stacks may still be pushed, two or three. Each turn
 // uses a place more, and so those not used become fewer: there are two turns at most.
-pub fn gather(sheet: &[u8], ends: &mut [u8], x: usize, t: usize, left: usize, h: usize)
-    requires { ⌜ (length (now sheet) ≡ 182) × (length (now ends) ≡ 91) × (x < 182) × (2 ≤ left) × TrailOk t left × Close x h (3 - left) ⌝ }
+pub fn gather(sheet: &[u8; 182], ends: &mut [u8; 12], x: usize, t: usize, left: usize, h: usize)
+    requires { ⌜ (length (now sheet) ≡ 182) × (length (now ends) ≡ 12) × (x < 182) × (2 ≤ left) × TrailOk t left × Close x h (3 - left) ⌝ }
     ensures { λ _. ⌜ Marks x (endsIn (nextIn (now (sheet .entry))) (standIn (now (sheet .entry))) (trailOf t) left h) (now (ends .entry)) (now (ends .exit)) ⌝ }
 {
     if has_rest(sheet, t, h) {
@@ -178,8 +210,8 @@ pub fn gather(sheet: &[u8], ends: &mut [u8], x: usize, t: usize, left: usize, h:
 }
 
 // Whether a chain from place `x` on ends in place `y`, by the marks that `gather` has left.
-pub fn ends_in(ends: &[u8], x: usize, y: usize) -> bool
-    requires { ⌜ (length (now ends) ≡ 91) × (x < 182) × (y < 182) ⌝ }
+pub fn ends_in(ends: &[u8; 12], x: usize, y: usize) -> bool
+    requires { ⌜ (length (now ends) ≡ 12) × (x < 182) × (y < 182) ⌝ }
     ensures { λ r. ⌜ r ≡ endMarked (now (ends .entry)) x y ⌝ }
 {
     if y + REACH < x {
@@ -188,5 +220,5 @@ pub fn ends_in(ends: &[u8], x: usize, y: usize) -> bool
     if x + REACH < y {
         return false;
     }
-    layout::wide(ends[REACH + y - x]) == 1
+    is_marked(ends, REACH + y - x)
 }

@@ -19,7 +19,7 @@ pub enum Took {
 }
 
 // Whether place `z` is next to place `h`.
-fn leads(sheet: &[u8], h: usize, z: usize) -> bool
+fn leads(sheet: &[u8; 182], h: usize, z: usize) -> bool
     requires { ⌜ (length (now sheet) ≡ 182) × (h < 182) ⌝ }
     ensures { λ r. ⌜ r ≡ leads (nextIn (now (sheet .entry))) h z ⌝ }
 {
@@ -37,7 +37,7 @@ fn leads(sheet: &[u8], h: usize, z: usize) -> bool
 // The chain from the stack in place `h` on, by the pushes from number `k` on. `left` stacks may still be pushed, three at most, and one fewer at
 // each turn.
 fn take(
-    sheet: &[u8],
+    sheet: &[u8; 182],
     w: usize,
     start: usize,
     t: usize,
@@ -82,7 +82,7 @@ fn take(
 
 // The group pushes the stack in place `x` out of its road; the sheet is then as the chain leaves it.
 fn push_out(
-    sheet: &mut [u8],
+    sheet: &mut [u8; 182],
     w: usize,
     start: usize,
     a: usize,
@@ -103,7 +103,7 @@ fn push_out(
 
 // The group goes from place `a` into place `x` after `i` steps.
 fn enter(
-    sheet: &mut [u8],
+    sheet: &mut [u8; 182],
     w: usize,
     start: usize,
     i: usize,
@@ -133,7 +133,7 @@ fn enter(
 }
 
 // Whether route and pushes are legal steps from the start on, whatever the route's length.
-pub fn follows(sheet: &mut [u8], w: usize, start: usize, route: &[u16], pushes: &[u16]) -> bool
+pub fn follows(sheet: &mut [u8; 182], w: usize, start: usize, route: &[u16], pushes: &[u16]) -> bool
     requires { ⌜ (length (now sheet) ≡ 182) × (1 ≤ w) × (start < 65536) ⌝ }
     ensures { λ r. ⌜ r ≡ followsIn w start (now (sheet .entry)) 0 (homeFor w start) (now (route .entry)) 0 (now (pushes .entry)) ⌝ }
 {

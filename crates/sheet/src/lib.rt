@@ -21,7 +21,7 @@ pub const HIGH: usize = 13;
 pub const PLACES: usize = 182;
 
 // What place `i` is to those who move.
-pub fn stand_in(sheet: &[u8], i: usize) -> Stand
+pub fn stand_in(sheet: &[u8; 182], i: usize) -> Stand
     requires { ⌜ (length (now sheet) ≡ 182) × (i < 182) ⌝ }
     ensures { λ r. ⌜ r ≡ standIn (now (sheet .entry)) i ⌝ }
 {
@@ -51,7 +51,7 @@ pub fn side_bit(d: usize) -> usize
 }
 
 // Where a step from place `i` in direction `d` leads.
-pub fn next_in(sheet: &[u8], i: usize, d: usize) -> Beside
+pub fn next_in(sheet: &[u8; 182], i: usize, d: usize) -> Beside
     requires { ⌜ (length (now sheet) ≡ 182) × (i < 182) × (d < 6) ⌝ }
     ensures { λ r. ⌜ r ≡ nextIn (now (sheet .entry)) i d ⌝ }
 {
@@ -70,7 +70,7 @@ fn restood(m: usize, k: usize) -> usize
 }
 
 // A chain from place `x` to place `y` is done.
-pub fn shift(sheet: &mut [u8], x: usize, y: usize)
+pub fn shift(sheet: &mut [u8; 182], x: usize, y: usize)
     requires { ⌜ (length (now sheet) ≡ 182) × (x < 182) × (y < 182) ⌝ }
     ensures { λ _. ⌜ now (sheet .exit) ≡ shifted (now (sheet .entry)) x y ⌝ }
 {

@@ -10,7 +10,7 @@ use chains::Stand;
 use grid::Beside;
 
 // Whether the group goes from place `a` over place `x` as its last step.
-fn last_over(sheet: &[u8], home: usize, i: usize, a: usize, x: usize) -> bool
+fn last_over(sheet: &[u8; 182], home: usize, i: usize, a: usize, x: usize) -> bool
     requires { ⌜ (length (now sheet) ≡ 182) × (home < 182) × (a < 182) × (x < 182) × (i ≤ 2) ⌝ }
     ensures { λ r. ⌜ r ≡ overIn home (now (sheet .entry)) 0 i a x ⌝ }
 {
@@ -25,7 +25,7 @@ fn last_over(sheet: &[u8], home: usize, i: usize, a: usize, x: usize) -> bool
 }
 
 // Whether it has a last step from place `a`: then no chain's end matters.
-fn last(sheet: &[u8], home: usize, i: usize, a: usize) -> bool
+fn last(sheet: &[u8; 182], home: usize, i: usize, a: usize) -> bool
     requires { ⌜ (length (now sheet) ≡ 182) × (home < 182) × (a < 182) × (i ≤ 2) ⌝ }
     ensures { λ r. ⌜ r ≡ servesIn home (now (sheet .entry)) 1 i a ⌝ }
 {
@@ -41,7 +41,7 @@ fn last(sheet: &[u8], home: usize, i: usize, a: usize) -> bool
 }
 
 // Whether `k` more steps go on from place `a` after `i` steps; the recursion is for more than one.
-fn go_on(sheet: &mut [u8], home: usize, k: usize, i: usize, a: usize) -> bool
+fn go_on(sheet: &mut [u8; 182], home: usize, k: usize, i: usize, a: usize) -> bool
     requires { ⌜ (length (now sheet) ≡ 182) × (home < 182) × (a < 182) × (k + i ≤ 3) ⌝ }
     ensures { λ r. ⌜ (r ≡ servesIn home (now (sheet .entry)) k i a) × (now (sheet .exit) ≡ now (sheet .entry)) ⌝ }
 {
@@ -55,7 +55,7 @@ fn go_on(sheet: &mut [u8], home: usize, k: usize, i: usize, a: usize) -> bool
 }
 
 // The chain from place `x` to place `y` is done and `k` more steps are looked for; then the sheet is as it was.
-fn with_end(sheet: &mut [u8], home: usize, k: usize, i: usize, x: usize, y: usize) -> bool
+fn with_end(sheet: &mut [u8; 182], home: usize, k: usize, i: usize, x: usize, y: usize) -> bool
     requires { ⌜ (length (now sheet) ≡ 182) × (home < 182) × (x < 182) × (y < 182) × (k + i ≤ 2) ⌝ }
     ensures { λ r. ⌜ (r ≡ servesIn home (shifted (now (sheet .entry)) x y) k (i + 1) x) × (now (sheet .exit) ≡ now (sheet .entry)) ⌝ }
 {
@@ -70,8 +70,8 @@ fn with_end(sheet: &mut [u8], home: usize, k: usize, i: usize, x: usize, y: usiz
 
 // The same with each place in which a chain from place `x`, entered by the group from place `a`, may end.
 fn with_ends(
-    sheet: &mut [u8],
-    ends: &mut [u8],
+    sheet: &mut [u8; 182],
+    ends: &mut [u8; 12],
     home: usize,
     k: usize,
     i: usize,
@@ -95,16 +95,16 @@ fn with_ends(
 }
 
 // Whether the group, which goes from place `a` into place `x` and pushes the stack there, can be brought `k` steps further.
-fn shoves(sheet: &mut [u8], home: usize, k: usize, i: usize, a: usize, x: usize) -> bool
+fn shoves(sheet: &mut [u8; 182], home: usize, k: usize, i: usize, a: usize, x: usize) -> bool
     requires { ⌜ (length (now sheet) ≡ 182) × (home < 182) × (a < 182) × (x < 182) × (k + i ≤ 2) ⌝ }
     ensures { λ r. ⌜ (r ≡ shovesIn home (now (sheet .entry)) k i a x) × (now (sheet .exit) ≡ now (sheet .entry)) ⌝ }
 {
-    let mut ends = [0u8; 91];
+    let mut ends = [0u8; 12];
     with_ends(sheet, &mut ends, home, k, i, a, x)
 }
 
 // Whether the group goes from place `a` over place `x` and `k` steps further.
-fn over(sheet: &mut [u8], home: usize, k: usize, i: usize, a: usize, x: usize) -> bool
+fn over(sheet: &mut [u8; 182], home: usize, k: usize, i: usize, a: usize, x: usize) -> bool
     requires { ⌜ (length (now sheet) ≡ 182) × (home < 182) × (a < 182) × (x < 182) × (k + i ≤ 2) ⌝ }
     ensures { λ r. ⌜ (r ≡ overIn home (now (sheet .entry)) k i a x) × (now (sheet .exit) ≡ now (sheet .entry)) ⌝ }
 {
@@ -120,7 +120,7 @@ fn over(sheet: &mut [u8], home: usize, k: usize, i: usize, a: usize, x: usize) -
 
 // Whether a series of `k` more steps goes on from place `a` after `i` steps of a retreat that started from the place `home`. There are two
 // or three, and one fewer in each turn of the recursion, so it has two turns at most.
-fn serves(sheet: &mut [u8], home: usize, k: usize, i: usize, a: usize) -> bool
+fn serves(sheet: &mut [u8; 182], home: usize, k: usize, i: usize, a: usize) -> bool
     requires { ⌜ (length (now sheet) ≡ 182) × (home < 182) × (a < 182) × (k + i ≤ 3) × (2 ≤ k) ⌝ }
     ensures { λ r. ⌜ (r ≡ servesIn home (now (sheet .entry)) k i a) × (now (sheet .exit) ≡ now (sheet .entry)) ⌝ }
 {
@@ -137,7 +137,7 @@ fn serves(sheet: &mut [u8], home: usize, k: usize, i: usize, a: usize) -> bool
 
 // Whether a series of `k` steps begins at the place `home`, from which the group starts. The search is entered here and not by `go_on`, so
 // that the compiled recursion is that of `serves`, in which the last step has no turn.
-pub fn begins(sheet: &mut [u8], home: usize, k: usize) -> bool
+pub fn begins(sheet: &mut [u8; 182], home: usize, k: usize) -> bool
     requires { ⌜ (length (now sheet) ≡ 182) × (home < 182) × (k ≤ 3) ⌝ }
     ensures { λ r. ⌜ (r ≡ servesIn home (now (sheet .entry)) k 0 home) × (now (sheet .exit) ≡ now (sheet .entry)) ⌝ }
 {

@@ -15,30 +15,29 @@ use Rattle.pushes.proofs.judge_by.Statement.{statement}
 use Rattle.pushes.proofs.judge_by.Tie as tie
 
 -- what the search said
-found : (c : tie.After-slice-known3) →
-    let a = c .before .before .before .before .before .before .before .before .before .before .before .before .before .args in
-    c .before .before .begins .result ≡ pushesServe (board (a .p .now)) (a .f) (a .start) (a .n)
+found : (c : tie.After-begins) →
+    let a = c .before .before .before .before .before .before .before .before .args in
+    c .begins .result ≡ pushesServe (board (a .p .now)) (a .f) (a .start) (a .n)
 found c =
-    let k = c .before .before in
-    let home = k .before .before in
-    let m = home .before .before .before in
-    let s = m .before .before .before .before .before .before in
+    let home = c .before .before in
+    let m = home .before in
+    let s = m .before .before .before .before .before in
     searched (s .pre .0) (s .args .f) (s .args .start) (s .args .n) (s .pre .1) (s .pre .2) (m .draw .ensures) (home .home-for .ensures .0)
-    (k .begins .ensures .0)
+    (c .begins .ensures .0)
 
 -- and what the test said of the order
-followed : (c : tie.After-slice-known4) →
-    let k = c .before .before .before .before .before .before .before .before in
-    let a = k .before .before .before .before .before .before .before .before .before .before .before .args in
-    c .before .before .follows .result ≡ legalPushes (board (a .p .now)) (a .f) (a .start) (a .n) (a .route .now) (a .pushes .now)
-followed c =
+followed : (c : tie.After-follows) →
     let k = c .before .before .before .before in
-    let t = k .before .before .before .before in
-    let m = t .before .before .before .before .before in
-    let s = m .before .before .before .before .before .before in
+    let a = k .before .before .before .before .before .before .before .before .args in
+    c .follows .result ≡ legalPushes (board (a .p .now)) (a .f) (a .start) (a .n) (a .route .now) (a .pushes .now)
+followed c =
+    let k = c .before .before in
+    let t = k .before .before in
+    let m = t .before .before .before in
+    let s = m .before .before .before .before .before in
     let d = subst (Drawn (board (s .args .p .now)) (s .args .f) (s .args .start)) (sym (t .begins .ensures .1)) (m .draw .ensures) in
     tested (s .pre .0) (s .args .f) (s .args .start) (s .args .n) (s .pre .1) (s .pre .2) d (s .args .route .now) (s .args .pushes .now)
-    (k .if2 .left) (c .before .before .follows .ensures)
+    (k .if2 .left) (c .follows .ensures)
 
 draw-requires : tie.Need-draw-requires
 draw-requires c κs = search needs
@@ -48,18 +47,12 @@ home-for-requires c κs = search needs
 
 begins-requires : tie.Need-begins-requires
 begins-requires c κs =
-    let k = c .before .before .before .before in
-    let s = k .before .before .before .before .before .before in
+    let k = c .before .before in
+    let s = k .before .before .before .before .before in
     (k .draw .ensures .long, c .before .home-for .ensures .1, s .pre .2)
-
-same-length : tie.Need-same-length
-same-length c = search needs
 
 returns : tie.Need-returns
 returns c = sym (none-serves _ _ _ _ _ _ (sym (found (c .before)) ∙ not-true _ (c .if1 .taken)))
-
-same-length-2 : tie.Need-same-length-2
-same-length-2 c = search needs
 
 returns-2 : tie.Need-returns-2
 returns-2 c =
@@ -68,26 +61,20 @@ returns-2 c =
 
 follows-requires : tie.Need-follows-requires
 follows-requires c κs =
-    let k = c .before .before .before .before .before in
-    let m = k .before .before .before .before .before in
-    let s = m .before .before .before .before .before .before in
+    let k = c .before .before .before in
+    let m = k .before .before .before in
+    let s = m .before .before .before .before .before in
     let o = on-view (s .pre .0) (s .args .start) (s .pre .1) in
     (ap length (k .begins .ensures .1) ∙ m .draw .ensures .long, o .wide, omega (arith, s .pre .1, s .pre .0 .fits .hexes))
 
-same-length-3 : tie.Need-same-length-3
-same-length-3 c = search needs
-
 returns-3 : tie.Need-returns-3
 returns-3 c =
-    let k = c .before .before .before .before .before .before in
+    let k = c .before .before .before .before in
     sym (sent-right _ _ _ _ _ _ (sym (found (k .before)) ∙ not-false _ (k .if1 .left)) (sym (followed (c .before)) ∙ c .if3 .taken))
-
-same-length-4 : tie.Need-same-length-4
-same-length-4 c = search needs
 
 returns-4 : tie.Need-returns-4
 returns-4 c =
-    let k = c .before .before .before .before .before .before in
+    let k = c .before .before .before .before in
     sym (sent-wrong _ _ _ _ _ _ (sym (found (k .before)) ∙ not-false _ (k .if1 .left)) (sym (followed (c .before)) ∙ c .if3 .left))
 
 pub judge-by-spec : {M : Type 1} → statement M
@@ -97,12 +84,8 @@ judge-by-spec =
     draw-requires
     home-for-requires
     begins-requires
-    same-length
     returns
-    same-length-2
     returns-2
     follows-requires
-    same-length-3
     returns-3
-    same-length-4
     returns-4)

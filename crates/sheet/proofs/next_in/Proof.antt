@@ -16,8 +16,8 @@ side-bit-requires : tie.Need-side-bit-requires
 side-bit-requires c κs = search needs
 
 -- src/lib.rt:58:44
-shared-slice-read-wide : tie.Need-shared-slice-read-wide
-shared-slice-read-wide c = search needs
+element-copy-out-wide : tie.Need-element-copy-out-wide
+element-copy-out-wide c = search needs
 
 -- src/lib.rt:58:31
 wide-requires : tie.Need-wide-requires
@@ -44,7 +44,7 @@ next-in-spec =
     tie.close
     (tie.spec
     side-bit-requires
-    shared-slice-read-wide
+    element-copy-out-wide
     wide-requires
     has-requires
     neighbour-requires

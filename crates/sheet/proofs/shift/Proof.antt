@@ -11,8 +11,8 @@ use Rattle.position.proofs.layout.wide.Reads as wide-reads
 use Rattle.sheet.proofs.restood.Reads as restood-reads
 
 -- src/lib.rt:77:37
-slice-read-wide : tie.Need-slice-read-wide
-slice-read-wide c = search needs
+element-copy-out-wide : tie.Need-element-copy-out-wide
+element-copy-out-wide c = search needs
 
 -- src/lib.rt:77:24
 wide-requires : tie.Need-wide-requires
@@ -27,12 +27,12 @@ cast-sheet : tie.Need-cast-sheet
 cast-sheet c = search needs
 
 -- src/lib.rt:77:5
-slice-write-sheet : tie.Need-slice-write-sheet
-slice-write-sheet c = search needs
+element-write-sheet : tie.Need-element-write-sheet
+element-write-sheet c = search needs
 
 -- src/lib.rt:78:37
-slice-read-wide-2 : tie.Need-slice-read-wide-2
-slice-read-wide-2 c = search needs
+element-copy-out-wide-2 : tie.Need-element-copy-out-wide-2
+element-copy-out-wide-2 c = search needs
 
 -- src/lib.rt:78:24
 wide-requires-2 : tie.Need-wide-requires-2
@@ -47,12 +47,8 @@ cast-sheet-2 : tie.Need-cast-sheet-2
 cast-sheet-2 c = search needs
 
 -- src/lib.rt:78:5
-slice-write-sheet-2 : tie.Need-slice-write-sheet-2
-slice-write-sheet-2 c = search needs
-
--- src/lib.rt:73:1
-same-length : tie.Need-same-length
-same-length c = search needs
+element-write-sheet-2 : tie.Need-element-write-sheet-2
+element-write-sheet-2 c = search needs
 
 -- src/lib.rt:73:1
 returns : tie.Need-returns
@@ -65,15 +61,14 @@ pub shift-spec : {M : Type 1} → statement M
 shift-spec =
     tie.close
     (tie.spec
-    slice-read-wide
+    element-copy-out-wide
     wide-requires
     restood-requires
     cast-sheet
-    slice-write-sheet
-    slice-read-wide-2
+    element-write-sheet
+    element-copy-out-wide-2
     wide-requires-2
     restood-requires-2
     cast-sheet-2
-    slice-write-sheet-2
-    same-length
+    element-write-sheet-2
     returns)

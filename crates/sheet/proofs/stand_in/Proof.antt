@@ -10,8 +10,8 @@ use Rattle.sheet.proofs.stand_in.Lts as lts
 use Rattle.position.proofs.layout.wide.Reads as wide-reads
 
 -- src/lib.rt:28:26
-shared-slice-read-wide : tie.Need-shared-slice-read-wide
-shared-slice-read-wide c = search needs
+element-copy-out-wide : tie.Need-element-copy-out-wide
+element-copy-out-wide c = search needs
 
 -- src/lib.rt:28:13
 wide-requires : tie.Need-wide-requires
@@ -34,4 +34,9 @@ returns-3 c = sym (stand-shut _ (λ e. omega (arith, c .before .before .wide .en
 
 pub stand-in-spec : {M : Type 1} → statement M
 stand-in-spec =
-    tie.close (tie.spec shared-slice-read-wide wide-requires returns returns-2 returns-3)
+    tie.close (tie.spec
+    element-copy-out-wide
+    wide-requires
+    returns
+    returns-2
+    returns-3)

@@ -19,13 +19,13 @@ loop-holds : tie.Need-loop-holds Inv-loop μ-loop
 loop-holds c = (omega arith, pass-none)
 
 byte-for-requires : tie.Need-byte-for-requires Inv-loop μ-loop
-byte-for-requires c κs = (c .before .before .before .before .pre .0, c .before .before .before .before .pre .1, omega arith)
+byte-for-requires c κs = (c .before .before .before .pre .0, c .before .before .before .pre .1, omega arith)
 
 cast-room : tie.Need-cast-room Inv-loop μ-loop
 cast-room c = omega (arith, c .byte-for .ensures .1)
 
-slice-write-room : tie.Need-slice-write-room Inv-loop μ-loop
-slice-write-room c = omega (arith, c .before .before .loop .inv .1 .long, c .before .before .before .before .before .pre .2)
+element-write-room : tie.Need-element-write-room Inv-loop μ-loop
+element-write-room c = omega arith
 
 add-i : tie.Need-add-i Inv-loop μ-loop
 add-i c = search needs
@@ -37,16 +37,13 @@ loop-again : tie.Need-loop-again Inv-loop μ-loop
 unfolding drawing
 loop-again c =
     let k = c .before .before in
-    let s = k .before .before .before in
+    let s = k .before .before in
     let m = k .loop .inv .1 in
     (omega arith, pass-set m (omega (arith, m .long, s .pre .2)) _ (c .byte-for .ensures .0))
 
-same-length : tie.Need-same-length Inv-loop μ-loop
-same-length c = c .before .loop .inv .1 .long
-
 returns : tie.Need-returns Inv-loop μ-loop
 returns c =
-    let s = c .before .before .before .before in
+    let s = c .before .before .before in
     drawn (s .args .f) (s .args .start) (c .before .loop .i) (s .pre .0 .view) (s .pre .2) (omega arith) (c .before .loop .inv .1)
 
 pub draw-spec : {M : Type 1} → statement M
@@ -58,9 +55,8 @@ draw-spec =
     loop-holds
     byte-for-requires
     cast-room
-    slice-write-room
+    element-write-room
     add-i
     loop-less
     loop-again
-    same-length
     returns)

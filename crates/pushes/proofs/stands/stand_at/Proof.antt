@@ -9,7 +9,7 @@ use Rattle.position.specs.Bits.{has}
 use Rattle.position.specs.Board.{board}
 use Rattle.position.specs.Ground.{standable}
 use Rattle.chains.specs.Stand.{apart}
-use Rattle.pushes.proofs.Standing.{stand-barred, stand-zone, stand-vacant, stand-alone, stand-firm, stand-loose}
+use Rattle.pushes.proofs.Standing.{held-is, stand-barred, stand-zone, stand-vacant, stand-alone, stand-firm, stand-loose}
 use Rattle.pushes.proofs.stands.stand_at.Statement.{statement}
 use Rattle.pushes.proofs.stands.stand_at.Tie as tie
 
@@ -25,7 +25,7 @@ outside c = sym (c .before .has .ensures) ∙ c .if2 .left
 held : (c : tie.Else4) →
     let a = c .before .before .before .before .before .before .before .before .before .before .args in
     any (apart (board (a .p .now)) (a .a) (a .h)) (board (a .p .now) .units .count) ≡ true
-held c = sym (c .before .any-apart .ensures) ∙ not-false _ (c .if4 .left)
+held c = sym (c .before .shared .ensures) ∙ not-false _ (c .if4 .left)
 
 standable-requires : tie.Need-standable-requires
 standable-requires c κs = search needs
@@ -59,15 +59,20 @@ returns-3 c =
     let v = sym (c .before .has2 .ensures) ∙ not-true _ (c .if3 .taken) in
     sym (stand-vacant (board (a .p .now)) (a .f) (a .a) (a .h) (k .look .ensures) (may (k .before)) (outside z) v)
 
-any-apart-requires : tie.Need-any-apart-requires
-any-apart-requires c κs = search needs
+shared-requires : tie.Need-shared-requires
+shared-requires c κs =
+    let z = c .before .before in
+    let k = z .before .before in
+    let v = sym (c .before .has2 .ensures) ∙ not-false _ (c .if3 .left) in
+    let s = k .before .before .before .before in
+    (s .pre .0, held-is (board (s .args .p .now)) (s .args .f) (s .args .h) (k .look .ensures) v)
 
 returns-4 : tie.Need-returns-4
 returns-4 c =
     let z = c .before .before .before .before in
     let k = z .before .before in
     let a = k .before .before .before .before .args in
-    let n = sym (c .before .any-apart .ensures) ∙ not-true _ (c .if4 .taken) in
+    let n = sym (c .before .shared .ensures) ∙ not-true _ (c .if4 .taken) in
     sym (stand-alone (board (a .p .now)) (a .f) (a .a) (a .h) (k .look .ensures) (may (k .before)) (outside z) n)
 
 any-bars-requires : tie.Need-any-bars-requires
@@ -102,7 +107,7 @@ stand-at-spec =
     returns-2
     has-requires-2
     returns-3
-    any-apart-requires
+    shared-requires
     returns-4
     any-bars-requires
     returns-5

@@ -53,21 +53,21 @@ can-end-claims t = (
 
 can-end-has-rest-requires : (t : ℕ) → can-end-lts.Need-has-rest-requires (can-end-claims t) (can-end-at t) can-end.Post can-end-Inv-loop
     can-end-μ-loop
-can-end-has-rest-requires t c κs = (c .before .pre .1 .0, c .before .pre .1 .3)
+can-end-has-rest-requires t c κs = (c .pre .1 .0, c .pre .1 .3)
 
 can-end-returns : (t : ℕ) → can-end-lts.Need-returns (can-end-claims t) (can-end-at t) can-end.Post can-end-Inv-loop can-end-μ-loop
-can-end-returns t c = sym (can-rest _ _ _ _ (one-left (c .before .before .before .pre .1 .1)) (sym (c .before .has-rest .ensures) ∙ c .if1 .taken))
+can-end-returns t c = sym (can-rest _ _ _ _ (one-left (c .before .before .pre .1 .1)) (sym (c .before .has-rest .ensures) ∙ c .if1 .taken))
 
 can-end-longer-requires : (t : ℕ) → can-end-lts.Need-longer-requires (can-end-claims t) (can-end-at t) can-end.Post can-end-Inv-loop
     can-end-μ-loop
-can-end-longer-requires t c κs = let p = c .before .before .before .pre .1 in (p .2, omega arith, p .3)
+can-end-longer-requires t c κs = let p = c .before .before .pre .1 in (p .2, omega arith, p .3)
 
 can-end-loop-holds : (t : ℕ) → can-end-lts.Need-loop-holds (can-end-claims t) (can-end-at t) can-end.Post can-end-Inv-loop can-end-μ-loop
 can-end-loop-holds t c = endless-first
 
 can-end-next-in-requires : (t : ℕ) → can-end-lts.Need-next-in-requires (can-end-claims t) (can-end-at t) can-end.Post can-end-Inv-loop
     can-end-μ-loop
-can-end-next-in-requires t c κs = let p = c .before .before .before .before .before .before .pre .1 in (p .0, p .3, omega arith)
+can-end-next-in-requires t c κs = let p = c .before .before .before .before .before .pre .1 in (p .0, p .3, omega arith)
 
 can-end-loop-again : (t : ℕ) → can-end-lts.Need-loop-again (can-end-claims t) (can-end-at t) can-end.Post can-end-Inv-loop can-end-μ-loop
 can-end-loop-again t c = endless-off (c .before .before .before .before .loop .inv) (sym (c .before .before .next-in .ensures) ∙ c
@@ -76,78 +76,60 @@ can-end-loop-again t c = endless-off (c .before .before .before .before .loop .i
 can-end-yields-requires : (t : ℕ) → can-end-lts.Need-yields-requires (can-end-claims t) (can-end-at t) can-end.Post can-end-Inv-loop
     can-end-μ-loop
 can-end-yields-requires t c κs = (
-  c .before .before .before .before .before .before .before .before .before .before .pre .1 .0,
+  c .before .before .before .before .before .before .before .before .before .pre .1 .0,
   next-below _ _ _ _ (sym (c .before .before .before .next-in .ensures) ∙ c .before .z .given .1),
 )
 
 can-end-loop-again-2 : (t : ℕ) → can-end-lts.Need-loop-again-2 (can-end-claims t) (can-end-at t) can-end.Post can-end-Inv-loop
     can-end-μ-loop
-can-end-loop-again-2 t c = endless-held (c .before .before .before .before .before .before .before .loop .inv) _ (sym (c .before .before
-    .before .before .before .next-in .ensures) ∙ c .before .before .before .z .given .1) (sym (c .before .yields .ensures) ∙ not-true _ (c
+can-end-loop-again-2 t c = endless-held (c .before .before .before .before .before .before .before .loop .inv) _ (sym (c .before .before .before .before .before .next-in .ensures) ∙ c .before .before .before .z .given .1) (sym (c .before .yields .ensures) ∙ not-true _ (c
     .if2 .taken))
 
 can-end-has-rest-requires-2 : (t : ℕ) → can-end-lts.Need-has-rest-requires-2 (can-end-claims t) (can-end-at t) can-end.Post
     can-end-Inv-loop can-end-μ-loop
 can-end-has-rest-requires-2 t c κs = (
-  c .before .before .before .before .before .before .before .before .before .before .before
-      .before .before .pre .1 .0,
-  next-below _ _ _ _ (sym (c .before .before .before .before .before .before .next-in .ensures) ∙ c .before
-      .before .before .before .z .given .1),
+  c .before .before .before .before .before .before .before .before .before .before .before .before .pre .1 .0,
+  next-below _ _ _ _ (sym (c .before .before .before .before .before .before .next-in .ensures) ∙ c .before .before .before .before .z .given .1),
 )
 
 can-end-returns-2 : (t : ℕ) → can-end-lts.Need-returns-2 (can-end-claims t) (can-end-at t) can-end.Post can-end-Inv-loop can-end-μ-loop
-can-end-returns-2 t c = sym (can-via _ _ _ _ (one-left (c .before .before .before .before .before .before .before .before .before .before
-    .before .before .before .before .before .pre .1 .1)) _ _ (omega arith) (sym (c .before .before .before .before .before .before .before
-    .before .next-in .ensures) ∙ c .before .before .before .before .before .before .z .given .1) (sym (c .before .before .before
-    .before .before .before .before .before .before .before .before .before .before .has-rest .ensures) ∙ c .before .before .before
-    .before .before .before .before .before .before .before .before .before .if1 .left) (sym (c .before .before .before .before .yields
-    .ensures) ∙ not-false _ (c .before .before .before .if2 .left)) _ (c .before .before .before .before .before .before .before .before
-    .before .before .before .longer .ensures .0) (can-rest _ _ _ _ (omega arith) (sym (c .before .has-rest2 .ensures) ∙ c .if4 .taken)))
+can-end-returns-2 t c = sym (can-via _ _ _ _ (one-left (c .before .before .before .before .before .before .before .before .before .before .before .before .before .before .pre .1 .1)) _ _ (omega arith) (sym (c .before .before .before .before .before .before .before .before .next-in .ensures) ∙ c .before .before .before .before .before .before .z .given .1) (sym (c .before .before .before .before .before .before .before .before .before .before .before .before .before .has-rest .ensures) ∙ c .before .before .before .before .before .before .before .before .before .before .before .before .if1 .left) (sym (c .before .before .before .before .yields
+    .ensures) ∙ not-false _ (c .before .before .before .if2 .left)) _ (c .before .before .before .before .before .before .before .before .before .before .before .longer .ensures .0) (can-rest _ _ _ _ (omega arith) (sym (c .before .has-rest2 .ensures) ∙ c .if4 .taken)))
 
 can-end-loop-again-3 : (t : ℕ) → can-end-lts.Need-loop-again-3 (can-end-claims t) (can-end-at t) can-end.Post can-end-Inv-loop
     can-end-μ-loop
 can-end-loop-again-3 t c = endless-via (c .before .before .before .before .before .before .before .before .before .before .loop .inv) _
-    (sym (c .before .before .before .before .before .before .before .before .next-in .ensures) ∙ c .before .before .before .before .before
-    .before .z .given .1) _ (c .before .before .before .before .before .before .before .before .before .before .before .longer .ensures .0)
+    (sym (c .before .before .before .before .before .before .before .before .next-in .ensures) ∙ c .before .before .before .before .before .before .z .given .1) _ (c .before .before .before .before .before .before .before .before .before .before .before .longer .ensures .0)
     (can-none _ _ _ _ (omega arith) (omega arith) (sym (c .before .has-rest2 .ensures) ∙ c .if4 .left))
 
 can-end-can-end-requires : (t : ℕ) → can-end-lts.Need-can-end-requires (can-end-claims t) (can-end-at t) can-end.Post can-end-Inv-loop
     can-end-μ-loop
-can-end-can-end-requires t c κs = let p = c .before .before .before .before .before .before .before .before .before .before .before
-    .before .before .pre .1 in (
-      omega (
-        arith,
-        c .before .before .before .before .before .before .before .before .before .before
-            .before .before .before .pre .0,
-      ),
-      (
-        p .0,
-        omega arith,
-        c .before .before .before .before .before .before .before .before .before .longer
-            .ensures .1,
-        next-below _ _ _ _ (sym (c .before .before .before .before .before .before .next-in .ensures) ∙ c .before .before .before
-            .before .z .given .1),
-      ),
-    )
+can-end-can-end-requires t c κs = let p = c .before .before .before .before .before .before .before .before .before .before .before .before .pre .1 in (
+  omega (
+    arith,
+    c .before .before .before .before .before .before .before .before .before .before .before .before .pre .0,
+  ),
+  (
+    p .0,
+    omega arith,
+    c .before .before .before .before .before .before .before .before .before .longer
+        .ensures .1,
+    next-below _ _ _ _ (sym (c .before .before .before .before .before .before .next-in .ensures) ∙ c .before .before .before .before .z .given .1),
+  ),
+)
 
 can-end-returns-3 : (t : ℕ) → can-end-lts.Need-returns-3 (can-end-claims t) (can-end-at t) can-end.Post can-end-Inv-loop can-end-μ-loop
-can-end-returns-3 t c = sym (can-via _ _ _ _ (one-left (c .before .before .before .before .before .before .before .before .before .before
-    .before .before .before .before .before .pre .1 .1)) _ _ (omega arith) (sym (c .before .before .before .before .before .before .before
-    .before .next-in .ensures) ∙ c .before .before .before .before .before .before .z .given .1) (sym (c .before .before .before
-    .before .before .before .before .before .before .before .before .before .before .has-rest .ensures) ∙ c .before .before .before
-    .before .before .before .before .before .before .before .before .before .if1 .left) (sym (c .before .before .before .before .yields
-    .ensures) ∙ not-false _ (c .before .before .before .if2 .left)) _ (c .before .before .before .before .before .before .before .before
-    .before .before .before .longer .ensures .0) (sym (c .before .can-end .ensures) ∙ c .if5 .taken))
+can-end-returns-3 t c = sym (can-via _ _ _ _ (one-left (c .before .before .before .before .before .before .before .before .before .before .before .before .before .before .pre .1 .1)) _ _ (omega arith) (sym (c .before .before .before .before .before .before .before .before .next-in .ensures) ∙ c .before .before .before .before .before .before .z .given .1) (sym (c .before .before .before .before .before .before .before .before .before .before .before .before .before .has-rest .ensures) ∙ c .before .before .before .before .before .before .before .before .before .before .before .before .if1 .left) (sym (c .before .before .before .before .yields
+    .ensures) ∙ not-false _ (c .before .before .before .if2 .left)) _ (c .before .before .before .before .before .before .before .before .before .before .before .longer .ensures .0) (sym (c .before .can-end .ensures) ∙ c .if5 .taken))
 
 can-end-loop-again-4 : (t : ℕ) → can-end-lts.Need-loop-again-4 (can-end-claims t) (can-end-at t) can-end.Post can-end-Inv-loop
     can-end-μ-loop
 can-end-loop-again-4 t c = endless-via (c .before .before .before .before .before .before .before .before .before .before .loop .inv) _
-    (sym (c .before .before .before .before .before .before .before .before .next-in .ensures) ∙ c .before .before .before .before .before
-    .before .z .given .1) _ (c .before .before .before .before .before .before .before .before .before .before .before .longer .ensures .0)
+    (sym (c .before .before .before .before .before .before .before .before .next-in .ensures) ∙ c .before .before .before .before .before .before .z .given .1) _ (c .before .before .before .before .before .before .before .before .before .before .before .longer .ensures .0)
     (sym (c .before .can-end .ensures) ∙ c .if5 .left)
 
 can-end-returns-4 : (t : ℕ) → can-end-lts.Need-returns-4 (can-end-claims t) (can-end-at t) can-end.Post can-end-Inv-loop can-end-μ-loop
-can-end-returns-4 t c = sym (endless (c .before .loop .inv) (one-left (c .before .before .before .before .before .before .pre .1 .1)) (omega
+can-end-returns-4 t c = sym (endless (c .before .loop .inv) (one-left (c .before .before .before .before .before .pre .1 .1)) (omega
     arith) (sym (c .before .before .before .before .has-rest .ensures) ∙ c .before .before .before .if1 .left))
 
 pub +can-end-spec : {M : Type 1} → statement M

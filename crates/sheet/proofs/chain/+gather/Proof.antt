@@ -64,11 +64,11 @@ gather-claims t = (
 
 gather-has-rest-requires : (t : ℕ) → gather-lts.Need-has-rest-requires (gather-claims t) (gather-at t) gather.Post gather-Inv-loop
     gather-μ-loop
-gather-has-rest-requires t c κs = let p = c .before .before .pre .1 in (p .0, p .5 .below)
+gather-has-rest-requires t c κs = let p = c .pre .1 in (p .0, p .5 .below)
 
 gather-mark-rests-requires : (t : ℕ) → gather-lts.Need-mark-rests-requires (gather-claims t) (gather-at t) gather.Post gather-Inv-loop
     gather-μ-loop
-gather-mark-rests-requires t c κs = let p = c .before .before .before .before .before .pre .1 in (
+gather-mark-rests-requires t c κs = let p = c .before .before .before .pre .1 in (
   p .0,
   p .1,
   p .2,
@@ -76,24 +76,20 @@ gather-mark-rests-requires t c κs = let p = c .before .before .before .before .
       arith) (p .5),
 )
 
-gather-same-length : (t : ℕ) → gather-lts.Need-same-length (gather-claims t) (gather-at t) gather.Post gather-Inv-loop gather-μ-loop
-gather-same-length t c = c .before .before .mark-rests .ensures .long
-
 gather-returns : (t : ℕ) → gather-lts.Need-returns (gather-claims t) (gather-at t) gather.Post gather-Inv-loop gather-μ-loop
-gather-returns t c = marks-as (λ y k. ends-rest _ _ _ _ _ y (one-left (c .before .before .before .before .before .before .before .before .pre .1 .3))
-    (sym (c .before .before .before .before .before .has-rest .ensures) ∙ c .before .before .before .before .if1 .taken)) (c .before
-    .before .mark-rests .ensures)
+gather-returns t c = marks-as (λ y k. ends-rest _ _ _ _ _ y (one-left (c .before .before .before .before .pre .1 .3))
+    (sym (c .before .before .before .has-rest .ensures) ∙ c .before .before .if1 .taken)) (c .mark-rests .ensures)
 
 gather-longer-requires : (t : ℕ) → gather-lts.Need-longer-requires (gather-claims t) (gather-at t) gather.Post gather-Inv-loop
     gather-μ-loop
-gather-longer-requires t c κs = let p = c .before .before .before .before .pre .1 in (p .4, omega arith, p .5 .below)
+gather-longer-requires t c κs = let p = c .before .before .pre .1 in (p .4, omega arith, p .5 .below)
 
 gather-loop-holds : (t : ℕ) → gather-lts.Need-loop-holds (gather-claims t) (gather-at t) gather.Post gather-Inv-loop gather-μ-loop
 gather-loop-holds t c = (omega arith, upto-none _)
 
 gather-next-in-requires : (t : ℕ) → gather-lts.Need-next-in-requires (gather-claims t) (gather-at t) gather.Post gather-Inv-loop
     gather-μ-loop
-gather-next-in-requires t c κs = let p = c .before .before .before .before .before .before .before .pre .1 in (
+gather-next-in-requires t c κs = let p = c .before .before .before .before .before .pre .1 in (
   p .0,
   p .5 .below,
   omega arith,
@@ -102,14 +98,13 @@ gather-next-in-requires t c κs = let p = c .before .before .before .before .bef
 gather-loop-again : (t : ℕ) → gather-lts.Need-loop-again (gather-claims t) (gather-at t) gather.Post gather-Inv-loop gather-μ-loop
 gather-loop-again t c = (
   omega arith,
-  upto-skip _ (c .before .before .before .before .loop .inv .1) (via-off _ _ _ _ _ _ (sym (c .before
-      .before .next-in .ensures) ∙ c .enum-told .given .1)),
+  upto-skip _ (c .before .before .before .before .loop .inv .1) (via-off _ _ _ _ _ _ (sym (c .before .before .next-in .ensures) ∙ c .enum-told .given .1)),
 )
 
 gather-yields-requires : (t : ℕ) → gather-lts.Need-yields-requires (gather-claims t) (gather-at t) gather.Post gather-Inv-loop
     gather-μ-loop
 gather-yields-requires t c κs = (
-  c .before .before .before .before .before .before .before .before .before .before .before .pre .1
+  c .before .before .before .before .before .before .before .before .before .pre .1
       .0,
   next-below _ _ _ _ (sym (c .before .before .before .next-in .ensures) ∙ c .before .z .given .1),
 )
@@ -117,82 +112,62 @@ gather-yields-requires t c κs = (
 gather-loop-again-2 : (t : ℕ) → gather-lts.Need-loop-again-2 (gather-claims t) (gather-at t) gather.Post gather-Inv-loop gather-μ-loop
 gather-loop-again-2 t c = (
   omega arith,
-  upto-held _ _ _ _ _ _ (sym (c .before .before .before .before .before .next-in .ensures) ∙ c
-      .before .before .before .z .given .1) _ (c .before .before .before .before .before .before .before .loop .inv .1) (sym (c .before
+  upto-held _ _ _ _ _ _ (sym (c .before .before .before .before .before .next-in .ensures) ∙ c .before .before .before .z .given .1) _ (c .before .before .before .before .before .before .before .loop .inv .1) (sym (c .before
       .yields .ensures) ∙ not-true _ (c .if2 .taken)) refl,
 )
 
 gather-mark-last-requires : (t : ℕ) → gather-lts.Need-mark-last-requires (gather-claims t) (gather-at t) gather.Post gather-Inv-loop
     gather-μ-loop
-gather-mark-last-requires t c κs = let p = c .before .before .before .before .before .before .before .before .before .before
-    .before .before .before .before .before .pre .1 in (
-      p .0,
-      c .before .before .before .before .before .before .before .before .before
-          .loop .inv .1 .long ∙ p .1,
-      p .2,
-      close-more 2 (omega (arith, p .4 .few)) (close-step _ _ _ _ (sym (c .before .before .before .before
-          .before .before .before .next-in .ensures) ∙ c .before .before .before .before .before .z .given .1) (p .5)),
-    )
+gather-mark-last-requires t c κs = let p = c .before .before .before .before .before .before .before .before .before .before .before .before .before .pre .1 in (
+  p .0,
+  c .before .before .before .before .before .before .before .before .before
+      .loop .inv .1 .long ∙ p .1,
+  p .2,
+  close-more 2 (omega (arith, p .4 .few)) (close-step _ _ _ _ (sym (c .before .before .before .before .before .before .before .next-in .ensures) ∙ c .before .before .before .before .before .z .given .1) (p .5)),
+)
 
 gather-loop-again-3 : (t : ℕ) → gather-lts.Need-loop-again-3 (gather-claims t) (gather-at t) gather.Post gather-Inv-loop gather-μ-loop
 gather-loop-again-3 t c = (
   omega arith,
-  upto-ends _ _ _ _ _ _ (sym (c .before .before .before .before .before .before .before .before
-      .before .before .next-in .ensures) ∙ c .before .before .before .before .before .before .before .before .z .given .1) _ _ (c .before
-      .before .before .before .before .before .before .before .before .before .before .before .loop .inv .1) (sym (c .before .before .before
-      .before .before .before .yields .ensures) ∙ not-false _ (c .before .before .before .before .before .if2 .left)) (c .before .before
-      .before .before .before .before .before .before .before .before .before .before .before .longer .ensures .0) (marks-left _ _ _ _ (omega
-      arith) (c .before .before .mark-last .ensures)),
+  upto-ends _ _ _ _ _ _ (sym (c .before .before .before .before .before .before .before .before .next-in .ensures) ∙ c .before .before .before .before .before .before .z .given .1) _ _ (c .before .before .before .before .before .before .before .before .before .before .loop .inv .1) (sym (c .before .before .before .before .yields .ensures) ∙ not-false _ (c .before .before .before .if2 .left)) (c .before .before .before .before .before .before .before .before .before .before .before .longer .ensures .0) (marks-left _ _ _ _ (omega
+      arith) (c .mark-last .ensures)),
 )
 
 gather-gather-requires : (t : ℕ) → gather-lts.Need-gather-requires (gather-claims t) (gather-at t) gather.Post gather-Inv-loop
     gather-μ-loop
-gather-gather-requires t c κs = let p = c .before .before .before .before .before .before .before .before .before .before .before
-    .before .before .before .before .pre .1 in (
-      omega (
-        arith,
-        c .before .before .before .before .before .before .before .before
-            .before .before .before .before .before .before .before .pre .0,
-      ),
-      (
-        p .0,
-        c .before .before .before .before .before .before .before
-            .before .before .loop .inv .1 .long ∙ p .1,
-        p .2,
-        omega arith,
-        c .before .before .before .before .before .before .before .before
-            .before .before .longer .ensures .1,
-        close-more _ (omega (arith, p .4 .few)) (close-step _ _ _ _ (sym (c .before .before .before
-            .before .before .before .before .next-in .ensures) ∙ c .before .before .before .before .before .z .given .1) (p .5)),
-      ),
-    )
+gather-gather-requires t c κs = let p = c .before .before .before .before .before .before .before .before .before .before .before .before .before .pre .1 in (
+  omega (
+    arith,
+    c .before .before .before .before .before .before .before .before .before .before .before .before .before .pre .0,
+  ),
+  (
+    p .0,
+    c .before .before .before .before .before .before .before .before .before .loop .inv .1 .long ∙ p .1,
+    p .2,
+    omega arith,
+    c .before .before .before .before .before .before .before .before .before .before .longer .ensures .1,
+    close-more _ (omega (arith, p .4 .few)) (close-step _ _ _ _ (sym (c .before .before .before .before .before .before .before .next-in .ensures) ∙ c .before .before .before .before .before .z .given .1) (p .5)),
+  ),
+)
 
 gather-loop-again-4 : (t : ℕ) → gather-lts.Need-loop-again-4 (gather-claims t) (gather-at t) gather.Post gather-Inv-loop gather-μ-loop
 gather-loop-again-4 t c = (
   omega arith,
-  upto-ends _ _ _ _ _ _ (sym (c .before .before .before .before .before .before .before .before
-      .before .before .next-in .ensures) ∙ c .before .before .before .before .before .before .before .before .z .given .1) _ _ (c .before
-      .before .before .before .before .before .before .before .before .before .before .before .loop .inv .1) (sym (c .before .before .before
-      .before .before .before .yields .ensures) ∙ not-false _ (c .before .before .before .before .before .if2 .left)) (c .before .before
-      .before .before .before .before .before .before .before .before .before .before .before .longer .ensures .0) (c .before .before .gather
+  upto-ends _ _ _ _ _ _ (sym (c .before .before .before .before .before .before .before .before .next-in .ensures) ∙ c .before .before .before .before .before .before .z .given .1) _ _ (c .before .before .before .before .before .before .before .before .before .before .loop .inv .1) (sym (c .before .before .before .before .yields .ensures) ∙ not-false _ (c .before .before .before .if2 .left)) (c .before .before .before .before .before .before .before .before .before .before .before .longer .ensures .0) (c .gather
       .ensures),
 )
 
-gather-same-length-2 : (t : ℕ) → gather-lts.Need-same-length-2 (gather-claims t) (gather-at t) gather.Post gather-Inv-loop gather-μ-loop
-gather-same-length-2 t c = c .before .loop .inv .1 .long
-
 gather-returns-2 : (t : ℕ) → gather-lts.Need-returns-2 (gather-claims t) (gather-at t) gather.Post gather-Inv-loop gather-μ-loop
-gather-returns-2 t c = upto-all _ (omega arith) (omega arith) (λ y. ends-via _ _ _ _ _ y (one-left (c .before .before .before .before .before
-    .before .before .pre .1 .3)) (sym (c .before .before .before .before .has-rest .ensures) ∙ c .before .before .before
+gather-returns-2 t c = upto-all _ (omega arith) (omega arith) (λ y. ends-via _ _ _ _ _ y (one-left (c .before .before .before .before .before .pre .1 .3)) (sym (c .before .before .before .before .has-rest .ensures) ∙ c .before .before .before
     .if1 .left)) (c .before .loop .inv .1)
 
 pub +gather-spec : {M : Type 1} → statement M
 +gather-spec =
     close μ-gather
     (λ t. gather-lts.spec (gather-claims t) (gather-at t) gather.Post gather-Inv-loop gather-μ-loop
-    (gather-has-rest-requires t) (gather-mark-rests-requires t) (gather-same-length t) (gather-returns t)
+    (gather-has-rest-requires t) (gather-mark-rests-requires t) (gather-returns t)
     (gather-longer-requires t) (gather-loop-holds t) (gather-next-in-requires t) (λ c. search needs) (λ c. search needs)
     (λ c. search needs) (λ c. search needs) (gather-loop-again t) (gather-yields-requires t) (λ c. search needs)
     (λ c. search needs) (gather-loop-again-2 t) (gather-mark-last-requires t) (λ c. search needs) (λ c. search needs)
     (gather-loop-again-3 t) (λ c. omega arith) (gather-gather-requires t) (λ c. search needs) (λ c. search needs)
-    (gather-loop-again-4 t) (gather-same-length-2 t) (gather-returns-2 t))
+    (gather-loop-again-4 t) (gather-returns-2 t))

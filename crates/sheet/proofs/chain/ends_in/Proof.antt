@@ -24,25 +24,18 @@ add-if2 c = search needs
 returns-2 : tie.Need-returns-2
 returns-2 c = sym (end-after _ _ _ (omega arith))
 
--- src/chain.rt:149:23
-add-wide : tie.Need-add-wide
-add-wide c = search needs
+add-is-marked : tie.Need-add-is-marked
+add-is-marked c = search needs
 
--- src/chain.rt:149:23
-sub-wide : tie.Need-sub-wide
-sub-wide c = search needs
+sub-is-marked : tie.Need-sub-is-marked
+sub-is-marked c = search needs
 
--- src/chain.rt:149:18
-shared-slice-read-wide : tie.Need-shared-slice-read-wide
-shared-slice-read-wide c = search needs
-
--- src/chain.rt:149:5
-wide-requires : tie.Need-wide-requires
-wide-requires c κs = search needs
+is-marked-requires : tie.Need-is-marked-requires
+is-marked-requires c κs = omega arith
 
 -- src/chain.rt:139:1
 returns-3 : tie.Need-returns-3
-returns-3 c = end-read _ _ _ (c .wide .result) (omega arith) (omega arith) (c .wide .ensures .is)
+returns-3 c = end-read _ _ _ (c .is-marked .result) (omega arith) (omega arith) (c .is-marked .ensures)
 
 pub ends-in-spec : {M : Type 1} → statement M
 ends-in-spec =
@@ -52,8 +45,7 @@ ends-in-spec =
     returns
     add-if2
     returns-2
-    add-wide
-    sub-wide
-    shared-slice-read-wide
-    wide-requires
+    add-is-marked
+    sub-is-marked
+    is-marked-requires
     returns-3)

@@ -53,7 +53,7 @@ loop-again c = (omega arith, any-miss _ _ (way-off _ _ _ _ _ (sym (c .before .be
 
 -- src/chain.rt:92:12
 rests-requires : tie.Need-rests-requires Inv-loop μ-loop
-rests-requires c κs = (c .before .before .before .before .before .before .before .pre .0, next-below _ _ _ _ (sym (c .before .before .before .next-in .ensures) ∙ c .before .z .given .1))
+rests-requires c κs = (c .before .before .before .before .before .before .pre .0, next-below _ _ _ _ (sym (c .before .before .before .next-in .ensures) ∙ c .before .z .given .1))
 
 -- src/chain.rt:93:13
 returns : tie.Need-returns Inv-loop μ-loop

@@ -1,11 +1,11 @@
 use Rattle.sheet.proofs.Ends.{close-step, upTo, upto-none, upto-skip, upto-all, upto-rest, upto-stay, restAt, rest-off, rest-all}
 use Rattle.sheet.proofs.Sheets.{next-below}
-use Rattle.sheet.specs.Ends.{Close, Marks}
+use Rattle.sheet.specs.Ends.{Close, MarkSet, Marks}
 use Rattle.sheet.specs.Trail.{trailOf}
 use Rattle.sheet.specs.Sheet.{standIn, nextIn}
 use mathlib.Core.List.{_∷_}
 use mathlib.Core.Logic.{⊎-elim}
-use mathlib.Core.Path.{sym, _∙_}
+use mathlib.Core.Path.{sym, subst, _∙_}
 use Prim.Native.Nat.{_-_, _≤_}
 use borrow.Author.Needs.{needs}
 use native.Mathlib.Omega.{arith}
@@ -52,23 +52,22 @@ loop-again c = (omega arith, upto-skip _ (c .before .before .before .before .loo
 
 -- src/chain.rt:108:12
 rests-requires : tie.Need-rests-requires Inv-loop μ-loop
-rests-requires c κs = (c .before .before .before .before .before .before .before .before .pre .0, next-below _ _ _ _ (sym (c .before .before .before .next-in .ensures) ∙ c .before .z .given .1))
+rests-requires c κs = (c .before .before .before .before .before .before .pre .0, next-below _ _ _ _ (sym (c .before .before .before .next-in .ensures) ∙ c .before .z .given .1))
 
 -- the place at hand is close
-z-close : (c : tie.After-rests Inv-loop μ-loop) → Close (c .before .before .before .before .before .before .before .before .before .args .x) (c .before .before .z .given .0 .0) 3
-z-close c = close-step _ _ _ _ (sym (c .before .before .before .before .next-in .ensures) ∙ c .before .before .z .given .1) (c .before .before .before .before .before .before .before .before .before .pre .3)
+z-close : (c : tie.After-rests Inv-loop μ-loop) → Close (c .before .before .before .before .before .before .before .args .x) (c .before .before .z .given .0 .0) 3
+z-close c = close-step _ _ _ _ (sym (c .before .before .before .before .next-in .ensures) ∙ c .before .before .z .given .1) (c .before .before .before .before .before .before .before .pre .3)
 
--- src/chain.rt:109:18
-add-ends : tie.Need-add-ends Inv-loop μ-loop
-add-ends c = let k = z-close (c .before) in omega arith
+add-mark : tie.Need-add-mark Inv-loop μ-loop
+add-mark c = let k = z-close (c .before .before) in omega arith
 
--- src/chain.rt:109:18
-sub-ends : tie.Need-sub-ends Inv-loop μ-loop
-sub-ends c = let k = z-close (c .before) in omega arith
+sub-mark : tie.Need-sub-mark Inv-loop μ-loop
+sub-mark c = let k = z-close (c .before .before) in omega arith
 
--- src/chain.rt:109:13
-slice-write-ends : tie.Need-slice-write-ends Inv-loop μ-loop
-slice-write-ends c = let k = z-close (c .before) in omega (arith, c .before .before .before .before .before .before .before .loop .inv .1 .long)
+mark-requires : tie.Need-mark-requires Inv-loop μ-loop
+mark-requires c κs =
+    let k = z-close (c .before .before) in
+    (c .before .before .before .before .before .before .before .before .loop .inv .1 .long ∙ c .before .before .before .before .before .before .before .before .before .pre .1, omega arith)
 
 -- src/chain.rt:104:9
 add-d-2 : tie.Need-add-d-2 Inv-loop μ-loop
@@ -86,14 +85,10 @@ loop-again-2 c =
     let k = c .before .before .before .before .before .before .before .loop .inv .1 in (
       omega arith,
       ⊎-elim
-          (λ w. upto-rest _ _ _ _ _ _ e k (sym r ∙ w .0 .taken) (z-close (c .before)) (k .long ∙ c .before .before .before .before .before .before .before .before .before .before .pre .1) (w .1))
+          (λ w. upto-rest _ _ _ _ _ _ e k (sym r ∙ w .0 .taken) (z-close (c .before)) (subst (MarkSet _ _) (sym (w .3)) (w .2 .ensures)))
           (λ w. upto-stay _ _ _ _ _ _ e k (sym r ∙ w .0 .left) (w .1))
           (c .if1 .came),
     )
-
--- src/chain.rt:100:1
-same-length : tie.Need-same-length Inv-loop μ-loop
-same-length c = c .before .loop .inv .1 .long
 
 -- src/chain.rt:100:1
 returns : tie.Need-returns Inv-loop μ-loop
@@ -113,11 +108,10 @@ mark-rests-spec =
     loop-less
     loop-again
     rests-requires
-    add-ends
-    sub-ends
-    slice-write-ends
+    add-mark
+    sub-mark
+    mark-requires
     add-d-2
     loop-less-2
     loop-again-2
-    same-length
     returns)

@@ -35,4 +35,10 @@ returns-3 c = ap not (c .on-trail .ensures) ∙ sym (rests-past _ _ _ _ (sym (c 
 
 pub rests-spec : {M : Type 1} → statement M
 rests-spec =
-    tie.close (tie.spec stand-in-requires enum-told returns returns-2 on-trail-requires returns-3)
+    tie.close (tie.spec
+    stand-in-requires
+    enum-told
+    returns
+    returns-2
+    on-trail-requires
+    returns-3)

@@ -35,4 +35,10 @@ returns-3 c = ap not (c .on-trail .ensures) ∙ sym (yields-past _ _ _ _ (sym (c
 
 pub yields-spec : {M : Type 1} → statement M
 yields-spec =
-    tie.close (tie.spec stand-in-requires enum-told returns returns-2 on-trail-requires returns-3)
+    tie.close (tie.spec
+    stand-in-requires
+    enum-told
+    returns
+    returns-2
+    on-trail-requires
+    returns-3)

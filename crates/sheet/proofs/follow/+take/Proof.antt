@@ -52,17 +52,17 @@ take-returns : (t : ℕ) → take-lts.Need-returns (take-claims t) (take-at t) t
 take-returns t c = took-none (omega arith)
 
 take-cast-place-for : (t : ℕ) → take-lts.Need-cast-place-for (take-claims t) (take-at t) take.Post
-take-cast-place-for t c = omega (arith, c .shared-slice-known3 .given (c .before .before .before .before .args .k))
+take-cast-place-for t c = omega (arith, c .shared-slice-known2 .given (c .before .before .before .args .k))
 
 take-place-for-requires : (t : ℕ) → take-lts.Need-place-for-requires (take-claims t) (take-at t) take.Post
 take-place-for-requires t c κs = (
-  c .before .before .before .before .pre .1 .1,
-  c .before .before .before .before .pre .1 .2,
-  omega (arith, c .shared-slice-known3 .given (c .before .before .before .before .args .k)),
+  c .before .before .before .pre .1 .1,
+  c .before .before .before .pre .1 .2,
+  omega (arith, c .shared-slice-known2 .given (c .before .before .before .args .k)),
 )
 
 take-leads-requires : (t : ℕ) → take-lts.Need-leads-requires (take-claims t) (take-at t) take.Post
-take-leads-requires t c κs = (c .before .before .before .before .before .pre .1 .0, c .before .before .before .before .before .pre .1 .5)
+take-leads-requires t c κs = (c .before .before .before .before .pre .1 .0, c .before .before .before .before .pre .1 .5)
 
 take-returns-2 : (t : ℕ) → take-lts.Need-returns-2 (take-claims t) (take-at t) take.Post
 take-returns-2 t c = took-apart (omega arith) (c .before .before .place-for .ensures .0) (sym (c .before .leads .ensures)
@@ -70,26 +70,26 @@ take-returns-2 t c = took-apart (omega arith) (c .before .before .place-for .ens
 
 take-rests-requires : (t : ℕ) → take-lts.Need-rests-requires (take-claims t) (take-at t) take.Post
 take-rests-requires t c κs = (
-  c .before .before .before .before .before .before .before .pre .1 .0,
+  c .before .before .before .before .before .before .pre .1 .0,
   led-below _ _ _ (sym (c .before .leads .ensures) ∙ not-false _ (c .if2 .left)),
 )
 
 take-returns-3 : (t : ℕ) → take-lts.Need-returns-3 (take-claims t) (take-at t) take.Post
 take-returns-3 t c = took-rest (omega arith) (c .before .before .before .before .place-for .ensures .0)
-    (c .before .before .before .before .before .before .before .before .before .pre .1 .4)
+    (c .before .before .before .before .before .before .before .before .pre .1 .4)
     (sym (c .before .before .before .leads .ensures) ∙ not-false _ (c .before .before .if2 .left)) (sym (c .before .rests .ensures)
     ∙ c .if3 .taken)
 
 take-returns-4 : (t : ℕ) → take-lts.Need-returns-4 (take-claims t) (take-at t) take.Post
 take-returns-4 t c = took-last (omega arith) (c .before .before .before .before .before .place-for .ensures .0)
-    (c .before .before .before .before .before .before .before .before .before .before .pre .1 .4) (c .if4 .taken)
+    (c .before .before .before .before .before .before .before .before .before .pre .1 .4) (c .if4 .taken)
     (sym (c .before .before .before .before .leads .ensures) ∙ not-false _ (c .before .before .before .if2 .left))
     (sym (c .before .before .rests .ensures) ∙ c .before .if3 .left)
 
 take-has-rest-requires : (t : ℕ) → take-lts.Need-has-rest-requires (take-claims t) (take-at t) take.Post
 take-has-rest-requires t c κs = (
-  c .before .before .before .before .before .before .before .before .before .before .pre .1 .0,
-  c .before .before .before .before .before .before .before .before .before .before .pre .1 .5,
+  c .before .before .before .before .before .before .before .before .before .pre .1 .0,
+  c .before .before .before .before .before .before .before .before .before .pre .1 .5,
 )
 
 take-returns-5 : (t : ℕ) → take-lts.Need-returns-5 (take-claims t) (take-at t) take.Post
@@ -100,7 +100,7 @@ take-returns-5 t c = took-shy (omega arith) (c .before .before .before .before .
 
 take-yields-requires : (t : ℕ) → take-lts.Need-yields-requires (take-claims t) (take-at t) take.Post
 take-yields-requires t c κs = (
-  c .before .before .before .before .before .before .before .before .before .before .before .before .pre .1
+  c .before .before .before .before .before .before .before .before .before .before .before .pre .1
       .0,
   led-below _ _ _ (sym (c .before .before .before .before .before .before .leads .ensures)
       ∙ not-false _ (c .before .before .before .before .before .if2 .left)),
@@ -116,33 +116,29 @@ take-returns-6 t c = took-firm (omega arith) (c .before .before .before .before 
 
 take-longer-requires : (t : ℕ) → take-lts.Need-longer-requires (take-claims t) (take-at t) take.Post
 take-longer-requires t c κs = (
-  c .before .before .before .before .before .before .before .before .before .before .before .before .before
-      .before .pre .1 .3,
+  c .before .before .before .before .before .before .before .before .before .before .before .before .before .pre .1 .3,
   omega arith,
-  c .before .before .before .before .before .before .before .before .before .before .before .before
-      .before .before .pre .1 .5,
+  c .before .before .before .before .before .before .before .before .before .before .before .before .before .pre .1 .5,
 )
 
 take-take-requires : (t : ℕ) → take-lts.Need-take-requires (take-claims t) (take-at t) take.Post
-take-take-requires t c κs = let p = c .before .before .before .before .before .before .before .before .before .before .before .before
-    .before .before .before .pre .1 in (
-      omega arith,
-      (
-        p .0,
-        p .1,
-        p .2,
-        c .longer .ensures .1,
-        omega arith,
-        led-below _ _ _ (sym (c .before .before .before .before .before .before .before .before .before .leads .ensures)
-            ∙ not-false _ (c .before .before .before .before .before .before .before .before .if2 .left)),
-        omega arith,
-      ),
-    )
+take-take-requires t c κs = let p = c .before .before .before .before .before .before .before .before .before .before .before .before .before .before .pre .1 in (
+  omega arith,
+  (
+    p .0,
+    p .1,
+    p .2,
+    c .longer .ensures .1,
+    omega arith,
+    led-below _ _ _ (sym (c .before .before .before .before .before .before .before .before .before .leads .ensures)
+        ∙ not-false _ (c .before .before .before .before .before .before .before .before .if2 .left)),
+    omega arith,
+  ),
+)
 
 take-returns-7 : (t : ℕ) → take-lts.Need-returns-7 (take-claims t) (take-at t) take.Post
 take-returns-7 t c = took-on (omega arith) (c .before .before .before .before .before .before .before .before .before .before .before
-    .place-for .ensures .0) (c .before .before .before .before .before .before .before .before .before .before .before .before .before
-    .before .before .before .pre .1 .4) (sym (c .before .before .before .before .before .before .before .before .before .before .leads
+    .place-for .ensures .0) (c .before .before .before .before .before .before .before .before .before .before .before .before .before .before .before .pre .1 .4) (sym (c .before .before .before .before .before .before .before .before .before .before .leads
     .ensures) ∙ not-false _ (c .before .before .before .before .before .before .before .before .before .if2 .left))
     (sym (c .before .before .before .before .before .before .before .before .rests .ensures)
     ∙ c .before .before .before .before .before .before .before .if3 .left) (sym

@@ -13,9 +13,6 @@ use Rattle.sheet.proofs.follow.enter.Tie as tie
 leads-requires : tie.Need-leads-requires
 leads-requires c κs = search needs
 
-same-length : tie.Need-same-length
-same-length c = search needs
-
 returns : tie.Need-returns
 returns c = stepped-apart (sym (c .before .leads .ensures) ∙ not-true _ (c .if1 .taken))
 
@@ -29,17 +26,11 @@ distance-requires c κs = (
       ∙ not-false _ (c .before .if1 .left))),
 )
 
-same-length-2 : tie.Need-same-length-2
-same-length-2 c = search needs
-
 returns-2 : tie.Need-returns-2
 returns-2 c = stepped-far (λ e. omega (arith, e, far-off _ _ _ (c .before .distance .ensures) (c .before .before .home-for .ensures .0)))
 
 sub-if3 : tie.Need-sub-if3
 sub-if3 c = search needs
-
-same-length-3 : tie.Need-same-length-3
-same-length-3 c = search needs
 
 returns-3 : tie.Need-returns-3
 returns-3 c = stepped-far (λ e. omega (
@@ -51,7 +42,7 @@ returns-3 c = stepped-far (λ e. omega (
 
 stand-in-requires : tie.Need-stand-in-requires
 stand-in-requires c κs = (
-  c .before .before .before .before .before .before .before .before .before .before .pre .0,
+  c .before .before .before .before .before .before .before .before .before .pre .0,
   led-below _ _ _ (sym (c .before .before .before .before .before .before .leads .ensures)
       ∙ not-false _ (c .before .before .before .before .before .if1 .left)),
 )
@@ -66,20 +57,16 @@ enum-told-3 : tie.Need-enum-told-3
 enum-told-3 c = search needs
 
 push-out-requires : tie.Need-push-out-requires
-push-out-requires c κs = let p = c .before .before .before .before .before .before .before .before .before .before .before .before .before
-    .before .pre in (
-      p .0,
-      p .1,
-      p .2,
-      p .3,
-      led-below _ _ _ (sym
-          (c .before .before .before .before .before .before .before .before .before .before .leads .ensures)
-          ∙ not-false _ (c .before .before .before .before .before .before .before .before .before .if1 .left)),
-      p .4,
-    )
-
-same-length-4 : tie.Need-same-length-4
-same-length-4 c = search needs
+push-out-requires c κs = let p = c .before .before .before .before .before .before .before .before .before .before .before .before .before .pre in (
+  p .0,
+  p .1,
+  p .2,
+  p .3,
+  led-below _ _ _ (sym
+      (c .before .before .before .before .before .before .before .before .before .before .leads .ensures)
+      ∙ not-false _ (c .before .before .before .before .before .before .before .before .before .if1 .left)),
+  p .4,
+)
 
 returns-4 : tie.Need-returns-4
 returns-4 c = stepped-shut (sym (c .before .before .before .before .before .before .before .before .before .leads .ensures)
@@ -88,51 +75,36 @@ returns-4 c = stepped-shut (sym (c .before .before .before .before .before .befo
     (c .before .before .before .before .before .before .before .home-for .ensures .0)
     ∙ omega arith) (sym (c .before .before .stand-in .ensures) ∙ c .enum-told .given .1)
 
-same-length-5 : tie.Need-same-length-5
-same-length-5 c = search needs
-
 returns-5 : tie.Need-returns-5
 returns-5 c = stepped-free (sym (c .before .before .before .before .before .before .before .before .before .leads .ensures)
     ∙ not-false _ (c .before .before .before .before .before .before .before .before .if1 .left))
     (far-off _ _ _ (c .before .before .before .before .before .before .distance .ensures)
     (c .before .before .before .before .before .before .before .home-for .ensures .0)
     ∙ omega arith) (sym (c .before .before .stand-in .ensures) ∙ c .enum-told2 .given .1)
-    (c .before .before .before .before .before .before .before .before .before .before .before .before .before .pre .4)
-
-same-length-6 : tie.Need-same-length-6
-same-length-6 c = search needs
+    (c .before .before .before .before .before .before .before .before .before .before .before .before .pre .4)
 
 returns-6 : tie.Need-returns-6
-returns-6 c = stepped-loose (sym (c .before .before .before .before .before .before .before .before .before .before .before .before
-    .before .leads .ensures) ∙ not-false _ (c .before .before .before .before .before .before .before .before .before .before .before
-    .before .if1 .left)) (far-off _ _ _ (c .before .before .before .before .before .before .before .before .before .before .distance
-    .ensures) (c .before .before .before .before .before .before .before .before .before .before .before .home-for .ensures .0)
-    ∙ omega arith) _ (sym (c .before .before .before .before .before .before .stand-in .ensures)
-    ∙ c .before .before .before .before .enum-told3 .given .1) (c .before .before .before .before .before .before .before .before .before
-    .before .before .before .before .before .before .before .before .pre .0) (c .before .before .push-out .ensures)
+returns-6 c = stepped-loose (sym (c .before .before .before .before .before .before .before .before .before .before .before .leads .ensures) ∙ not-false _ (c .before .before .before .before .before .before .before .before .before .before .if1 .left)) (far-off _ _ _ (c .before .before .before .before .before .before .before .before .distance
+    .ensures) (c .before .before .before .before .before .before .before .before .before .home-for .ensures .0)
+    ∙ omega arith) _ (sym (c .before .before .before .before .stand-in .ensures)
+    ∙ c .before .before .enum-told3 .given .1) (c .before .before .before .before .before .before .before .before .before .before .before .before .before .before .pre .0) (c .push-out .ensures)
 
 pub enter-spec : {M : Type 1} → statement M
 enter-spec =
     tie.close
     (tie.spec
     leads-requires
-    same-length
     returns
     home-for-requires
     distance-requires
-    same-length-2
     returns-2
     sub-if3
-    same-length-3
     returns-3
     stand-in-requires
     enum-told
     enum-told-2
     enum-told-3
     push-out-requires
-    same-length-4
     returns-4
-    same-length-5
     returns-5
-    same-length-6
     returns-6)

@@ -16,10 +16,10 @@ abbrev μ-loop : tie.MeasureT-loop
 μ-loop sheet₀ w start route pushes a₀ k₀ i₀ i-end sheet a k i = length route - i
 
 home-for-requires : tie.Need-home-for-requires Inv-loop μ-loop
-home-for-requires c κs = c .before .before .before .pre .1
+home-for-requires c κs = c .before .before .pre .1
 
 loop-holds : tie.Need-loop-holds Inv-loop μ-loop
-loop-holds c = followed-none (c .before .before .before .before .pre .0) (c .home-for .ensures .0) (c .home-for .ensures .1)
+loop-holds c = followed-none (c .before .before .before .pre .0) (c .home-for .ensures .0) (c .home-for .ensures .1)
 
 mul-place-for : tie.Need-mul-place-for Inv-loop μ-loop
 mul-place-for c = search needs
@@ -32,8 +32,8 @@ cast-place-for c = omega (arith, c .shared-slice-known3 .given (c .before .befor
 
 place-for-requires : tie.Need-place-for-requires Inv-loop μ-loop
 place-for-requires c κs = (
-  c .before .before .before .before .before .before .before .pre .1,
-  c .before .before .before .before .before .before .before .pre .2,
+  c .before .before .before .before .before .before .pre .1,
+  c .before .before .before .before .before .before .pre .2,
   omega (
     arith,
     c .shared-slice-known3 .given (c .before .before .loop .i),
@@ -43,8 +43,8 @@ place-for-requires c κs = (
 enter-requires : tie.Need-enter-requires Inv-loop μ-loop
 enter-requires c κs = let u = c .before .before .before .before .loop .inv in (
   u .long,
-  c .before .before .before .before .before .before .before .before .before .pre .1,
-  c .before .before .before .before .before .before .before .before .before .pre .2,
+  c .before .before .before .before .before .before .before .before .pre .1,
+  c .before .before .before .before .before .before .before .before .pre .2,
   u .inside,
   u .few,
 )
@@ -55,14 +55,9 @@ enum-known-m c = search needs
 enum-told : tie.Need-enum-told Inv-loop μ-loop
 enum-told c = search needs
 
-same-length : tie.Need-same-length Inv-loop μ-loop
-same-length c = c .before .before .before .before .enter .ensures .long
-    ∙ c .before .before .before .before .before .before .before .before .before .loop .inv .long
-    ∙ sym (c .before .before .before .before .before .before .before .before .before .before .before .before .before .before .pre .0)
-
 returns : tie.Need-returns Inv-loop μ-loop
-returns c = sym (followed-wrong (c .before .before .before .before .before .before .before .before .before .loop .inv) (omega arith)
-    (c .before .before .before .before .before .before .place-for .ensures .0) (c .before .before .before .before .enter .ensures)
+returns c = sym (followed-wrong (c .before .before .before .before .before .before .before .loop .inv) (omega arith)
+    (c .before .before .before .before .place-for .ensures .0) (c .before .before .enter .ensures)
     (c .enum-told .given .1))
 
 add-i : tie.Need-add-i Inv-loop μ-loop
@@ -72,12 +67,9 @@ loop-less : tie.Need-loop-less Inv-loop μ-loop
 loop-less c = omega arith
 
 loop-again : tie.Need-loop-again Inv-loop μ-loop
-loop-again c = followed-more (c .before .before .before .before .before .before .before .before .before .before .loop .inv) (omega arith)
-    (c .before .before .before .before .before .before .before .place-for .ensures .0)
-    (c .before .before .before .before .before .enter .ensures) (c .before .m .given .1)
-
-same-length-2 : tie.Need-same-length-2 Inv-loop μ-loop
-same-length-2 c = c .before .loop .inv .long ∙ sym (c .before .before .before .before .before .before .pre .0)
+loop-again c = followed-more (c .before .before .before .before .before .before .before .before .loop .inv) (omega arith)
+    (c .before .before .before .before .before .place-for .ensures .0)
+    (c .before .before .before .enter .ensures) (c .before .m .given .1)
 
 returns-2 : tie.Need-returns-2 Inv-loop μ-loop
 returns-2 c = sym (followed-all (c .before .loop .inv) (omega arith))
@@ -97,10 +89,8 @@ follows-spec =
     enter-requires
     enum-known-m
     enum-told
-    same-length
     returns
     add-i
     loop-less
     loop-again
-    same-length-2
     returns-2)

@@ -19,7 +19,7 @@ loop-holds : tie.Need-loop-holds Inv-loop μ-loop
 loop-holds c = record { most = omega arith; none = any-zero _ }
 
 next-in-requires : tie.Need-next-in-requires Inv-loop μ-loop
-next-in-requires c κs = (c .before .before .before .pre .0, c .before .before .before .pre .1, omega arith)
+next-in-requires c κs = (c .before .before .pre .0, c .before .before .pre .1, omega arith)
 
 enum-known-x : tie.Need-enum-known-x Inv-loop μ-loop
 enum-known-x c = search needs

@@ -7,10 +7,10 @@ use Rattle.sheet.proofs.follow.push_out.Statement.{statement}
 use Rattle.sheet.proofs.follow.push_out.Tie as tie
 
 own-requires : tie.Need-own-requires
-own-requires c κs = c .before .before .pre .3
+own-requires c κs = c .before .pre .3
 
 take-requires : tie.Need-take-requires
-take-requires c κs = let p = c .before .before .before .before .pre in (
+take-requires c κs = let p = c .before .before .before .pre in (
   p .0,
   p .1,
   p .2,
@@ -27,31 +27,29 @@ enum-known-y c = search needs
 enum-told : tie.Need-enum-told
 enum-told c = search needs
 
-same-length : tie.Need-same-length
-same-length c = search needs
-
 returns : tie.Need-returns
 returns c = pushed-wrong (c .before .before .before .before .own .ensures .0) (c .before .before .take .ensures) (c .enum-told .given .1)
 
 shift-requires : tie.Need-shift-requires
 shift-requires c κs = (
-  c .before .before .before .before .before .before .before .before .before .pre .0,
-  c .before .before .before .before
-      .before .before .before .before .before .pre .4,
+  c .before .before .before .before .before .before .before .before .pre .0,
+  c .before .before .before .before .before .before .before .before .pre .4,
   c .before .before .before .before .take .ensures .ends _ _ (c .before .before .y
       .given .1) .0,
 )
 
-same-length-2 : tie.Need-same-length-2
-same-length-2 c = search needs
-
 returns-2 : tie.Need-returns-2
-returns-2 c = pushed-to (c .before .before .before .before .before .before .before .before .before .own .ensures .0) (c .before .before
-    .before .before .before .before .before .take .ensures) (c .before .before .before .before .before .y .given .1) (c .before .before
+returns-2 c = pushed-to (c .before .before .before .before .before .before .before .own .ensures .0) (c .before .before .before .before .before .take .ensures) (c .before .before .before .y .given .1) (c
     .shift .ensures)
 
 pub push-out-spec : {M : Type 1} → statement M
 push-out-spec =
     tie.close
     (tie.spec
-    own-requires take-requires enum-known-y enum-told same-length returns shift-requires same-length-2 returns-2)
+    own-requires
+    take-requires
+    enum-known-y
+    enum-told
+    returns
+    shift-requires
+    returns-2)

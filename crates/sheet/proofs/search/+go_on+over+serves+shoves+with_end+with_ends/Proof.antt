@@ -8,9 +8,9 @@ use borrow.Fn.Kinds.{In}
 use borrow.Fn.PlainCycle.{Measures, is, falls, and}
 use borrow.Author.Needs.{needs}
 use borrow.Author.Tests.{not-false, not-true}
-use lib.ListN.{length, length-set}
+use lib.ListN.{length}
 use Rattle.position.proofs.Tallies.{any-zero}
-use Rattle.sheet.proofs.Sheets.{next-below}
+use Rattle.sheet.proofs.Sheets.{next-below, shifted-long}
 use Rattle.sheet.proofs.Ends.{close-self}
 use Rattle.sheet.proofs.Searching.{Unserved, Unended, blank, gathered, on-sheet}
 use Rattle.sheet.proofs.Searching.{over-far, over-free, over-loose, over-shut, served, serves-done, serves-last, put-back, shoved}
@@ -121,20 +121,20 @@ over-claims t = (
 )
 
 over-distance-requires : (t : ℕ) → over-lts.Need-distance-requires (over-claims t) (over-at t) over.Post
-over-distance-requires t c κs = (on-sheet _ (c .before .pre .1 .1), on-sheet _ (c .before .pre .1 .3))
+over-distance-requires t c κs = (on-sheet _ (c .pre .1 .1), on-sheet _ (c .pre .1 .3))
 
 over-returns : (t : ℕ) → over-lts.Need-returns (over-claims t) (over-at t) over.Post
 over-returns t c = (sym (over-far _ _ _ _ _ _ (λ e. c .if1 .taken (c .before .distance .ensures ∙ e))), refl)
 
 over-stand-in-requires : (t : ℕ) → over-lts.Need-stand-in-requires (over-claims t) (over-at t) over.Post
-over-stand-in-requires t c κs = (c .before .before .before .before .pre .1 .0, c .before .before .before .before .pre .1 .3)
+over-stand-in-requires t c κs = (c .before .before .before .pre .1 .0, c .before .before .before .pre .1 .3)
 
 over-go-on-requires : (t : ℕ) → over-lts.Need-go-on-requires (over-claims t) (over-at t) over.Post
-over-go-on-requires t c κs = let p = c .before .before .before .before .before .before .before .before .pre .1 in
+over-go-on-requires t c κs = let p = c .before .before .before .before .before .before .before .pre .1 in
     (omega arith, (p .0, p .1, p .3, omega arith))
 
 over-shoves-requires : (t : ℕ) → over-lts.Need-shoves-requires (over-claims t) (over-at t) over.Post
-over-shoves-requires t c κs = (omega arith, c .before .before .before .before .before .before .before .before .pre .1)
+over-shoves-requires t c κs = (omega arith, c .before .before .before .before .before .before .before .pre .1)
 
 over-returns-2 : (t : ℕ) → over-lts.Need-returns-2 (over-claims t) (over-at t) over.Post
 over-returns-2 t c = (
@@ -145,22 +145,22 @@ over-returns-2 t c = (
 
 over-returns-3 : (t : ℕ) → over-lts.Need-returns-3 (over-claims t) (over-at t) over.Post
 over-returns-3 t c = (
-  c .before .before .go-on .ensures .0 ∙ sym (over-free _ _ _ _ _ _
-      (sym (c .before .before .before .before .before .before .before .before .before .distance .ensures)
-      ∙ c .before .before .before .before .before .before .before .before .if1 .left)
-      (sym (c .before .before .before .before .before .before .stand-in .ensures)
-      ∙ c .before .before .before .before .enum-told2 .given .1)),
-  c .before .before .go-on .ensures .1,
+  c .go-on .ensures .0 ∙ sym (over-free _ _ _ _ _ _
+      (sym (c .before .before .before .before .before .before .before .distance .ensures)
+      ∙ c .before .before .before .before .before .before .if1 .left)
+      (sym (c .before .before .before .before .stand-in .ensures)
+      ∙ c .before .before .enum-told2 .given .1)),
+  c .go-on .ensures .1,
 )
 
 over-returns-4 : (t : ℕ) → over-lts.Need-returns-4 (over-claims t) (over-at t) over.Post
 over-returns-4 t c = (
-  c .before .before .shoves .ensures .0 ∙ sym (over-loose _ _ _ _ _ _
-      (sym (c .before .before .before .before .before .before .before .before .before .distance .ensures)
-      ∙ c .before .before .before .before .before .before .before .before .if1 .left)
-      (sym (c .before .before .before .before .before .before .stand-in .ensures)
-      ∙ c .before .before .before .before .enum-told3 .given .1)),
-  c .before .before .shoves .ensures .1,
+  c .shoves .ensures .0 ∙ sym (over-loose _ _ _ _ _ _
+      (sym (c .before .before .before .before .before .before .before .distance .ensures)
+      ∙ c .before .before .before .before .before .before .if1 .left)
+      (sym (c .before .before .before .before .stand-in .ensures)
+      ∙ c .before .before .enum-told3 .given .1)),
+  c .shoves .ensures .1,
 )
 
 abbrev serves-Inv-loop : serves-lts.InvT-loop
@@ -178,8 +178,8 @@ serves-loop-holds t c = record { same = refl; most = omega arith; none = any-zer
 serves-next-in-requires : (t : ℕ) → serves-lts.Need-next-in-requires (serves-claims t)
     (serves-at t) serves.Post serves-Inv-loop serves-μ-loop
 serves-next-in-requires t c κs = (
-  ap length (c .before .before .loop .inv .same) ∙ c .before .before .before .before .pre .1 .0,
-  c .before .before .before .before .pre .1 .2,
+  ap length (c .before .before .loop .inv .same) ∙ c .before .before .before .pre .1 .0,
+  c .before .before .before .pre .1 .2,
   omega arith,
 )
 
@@ -188,10 +188,10 @@ serves-loop-again t c = unserved-off (c .before .before .before .before .before 
     (sym (c .before .before .next-in .ensures) ∙ c .enum-told .given .1)
 
 serves-sub-over : (t : ℕ) → serves-lts.Need-sub-over (serves-claims t) (serves-at t) serves.Post serves-Inv-loop serves-μ-loop
-serves-sub-over t c = omega (arith, c .before .before .before .before .before .before .before .before .before .pre .1 .4)
+serves-sub-over t c = omega (arith, c .before .before .before .before .before .before .before .before .pre .1 .4)
 
 serves-over-requires : (t : ℕ) → serves-lts.Need-over-requires (serves-claims t) (serves-at t) serves.Post serves-Inv-loop serves-μ-loop
-serves-over-requires t c κs = let p = c .before .before .before .before .before .before .before .before .before .pre .1 in (
+serves-over-requires t c κs = let p = c .before .before .before .before .before .before .before .before .pre .1 in (
   omega arith,
   (
     ap length (c .before .before .before .before .before .before .before .loop .inv .same) ∙ p .0,
@@ -202,71 +202,52 @@ serves-over-requires t c κs = let p = c .before .before .before .before .before
   ),
 )
 
-serves-same-length : (t : ℕ) → serves-lts.Need-same-length (serves-claims t) (serves-at t) serves.Post serves-Inv-loop serves-μ-loop
-serves-same-length t c = ap length (c .before .before .before .over .ensures .1
-    ∙ c .before .before .before .before .before .before .before .before .before .before .before .loop .inv .same)
-
 serves-returns : (t : ℕ) → serves-lts.Need-returns (serves-claims t) (serves-at t) serves.Post serves-Inv-loop serves-μ-loop
 serves-returns t c = (
-  sym (served (c .before .before .before .before .before .before .before .before .before .before .before .loop .inv)
-      (λ e. omega (arith, e, c .before .before .before .before .before .before .before .before .before .before .before .before .before .pre .1 .4)) (omega arith)
-      (sym (c .before .before .before .before .before .before .before .before .next-in .ensures)
-      ∙ c .before .before .before .before .before .before .x .given .1) (sym (c .before .before .before .over .ensures .0)
+  sym (served (c .before .before .before .before .before .before .before .before .before .loop .inv)
+      (λ e. omega (arith, e, c .before .before .before .before .before .before .before .before .before .before .pre .1 .4)) (omega arith)
+      (sym (c .before .before .before .before .before .before .next-in .ensures)
+      ∙ c .before .before .before .before .x .given .1) (sym (c .before .over .ensures .0)
       ∙ c .if1 .taken)),
-  c .before .before .before .over .ensures .1
-      ∙ c .before .before .before .before .before .before .before .before .before .before .before .loop .inv .same,
+  c .before .over .ensures .1
+      ∙ c .before .before .before .before .before .before .before .before .before .loop .inv .same,
 )
 
 serves-loop-again-2 : (t : ℕ) → serves-lts.Need-loop-again-2 (serves-claims t) (serves-at t) serves.Post serves-Inv-loop serves-μ-loop
-serves-loop-again-2 t c = unserved-over (c .before .before .before .before .before .before .before .before .before .before .before .loop
-    .inv) (omega arith) (sym (c .before .before .before .before .before .before .before .before .next-in .ensures)
-    ∙ c .before .before .before .before .before .before .x .given .1) (sym (c .before .before .before .over .ensures .0)
-    ∙ c .if1 .left) (c .before .before .before .over .ensures .1)
+serves-loop-again-2 t c = unserved-over (c .before .before .before .before .before .before .before .before .before .loop
+    .inv) (omega arith) (sym (c .before .before .before .before .before .before .next-in .ensures)
+    ∙ c .before .before .before .before .x .given .1) (sym (c .before .over .ensures .0)
+    ∙ c .if1 .left) (c .before .over .ensures .1)
 
 serves-returns-2 : (t : ℕ) → serves-lts.Need-returns-2 (serves-claims t) (serves-at t) serves.Post serves-Inv-loop serves-μ-loop
-serves-returns-2 t c = (sym (unserved (c .before .loop .inv) (λ e. omega (arith, e, c .before .before .before .pre .1 .4)) (omega arith)), c .before .loop .inv .same)
+serves-returns-2 t c = (sym (unserved (c .before .loop .inv) (λ e. omega (arith, e, c .before .before .pre .1 .4)) (omega arith)), c .before .loop .inv .same)
 
 abbrev shoves-claims : ℕ → shoves-lts.Claims
 shoves-claims t = (with-ends-below t, with-ends.Post)
 
 shoves-with-ends-requires : (t : ℕ) → shoves-lts.Need-with-ends-requires (shoves-claims t) (shoves-at t) shoves.Post
-shoves-with-ends-requires t c κs = let p = c .before .before .before .pre .1 in (omega arith, (p .0, blank, p .1, p .2, p .3, p .4))
+shoves-with-ends-requires t c κs = let p = c .before .before .pre .1 in (omega arith, (p .0, blank, p .1, p .2, p .3, p .4))
 
 abbrev with-end-claims : ℕ → with-end-lts.Claims
 with-end-claims t = (shift-reads.Asked, shift-reads.Learnt, go-on-below t, go-on.Post)
 
 with-end-shift-requires : (t : ℕ) → with-end-lts.Need-shift-requires (with-end-claims t) (with-end-at t) with-end.Post
-with-end-shift-requires t c κs = let p = c .before .before .before .before .pre .1 in (p .0, p .2, p .3)
+with-end-shift-requires t c κs = let p = c .before .before .before .pre .1 in (p .0, p .2, p .3)
 
 with-end-go-on-requires : (t : ℕ) → with-end-lts.Need-go-on-requires (with-end-claims t) (with-end-at t) with-end.Post
-with-end-go-on-requires t c κs = let p = c .before .before .before .before .before .before .before .before .pre .1 in
-    (omega arith, (c .before .before .before .shift .kept .0 ∙ p .0, p .1, p .2, omega arith))
+with-end-go-on-requires t c κs = let p = c .before .before .before .before .before .pre .1 in
+    (omega arith, (ap length (c .before .shift .ensures) ∙ shifted-long _ _ _ ∙ p .0, p .1, p .2, omega arith))
 
-with-end-slice-write-sheet : (t : ℕ) → with-end-lts.Need-slice-write-sheet (with-end-claims t) (with-end-at t) with-end.Post
-with-end-slice-write-sheet t c = omega (
-  arith,
-  c .before .before .before .before .before .before .before .before .before .before .before
-      .pre .1 .0,
-  c .before .before .before .before .before .before .shift .kept .0,
-  ap length (c .before .before .go-on .ensures .1),
-)
+with-end-element-write-sheet : (t : ℕ) → with-end-lts.Need-element-write-sheet (with-end-claims t) (with-end-at t) with-end.Post
+with-end-element-write-sheet t c = search needs
 
-with-end-slice-write-sheet-2 : (t : ℕ) → with-end-lts.Need-slice-write-sheet-2 (with-end-claims t) (with-end-at t) with-end.Post
-with-end-slice-write-sheet-2 t c = simp length-set (omega (
-  arith,
-  c .before .before .before .before .before .before .before .before .before .before .before .pre .1 .0,
-  c .before .before .before .before .before .before .shift .kept .0,
-  ap length (c .before .before .go-on .ensures .1),
-))
-
-with-end-same-length : (t : ℕ) → with-end-lts.Need-same-length (with-end-claims t) (with-end-at t) with-end.Post
-with-end-same-length t c = ap length (put-back _ _ (c .before .before .before .before .before .before .shift .ensures)
-    (c .before .before .go-on .ensures .1))
+with-end-element-write-sheet-2 : (t : ℕ) → with-end-lts.Need-element-write-sheet-2 (with-end-claims t) (with-end-at t) with-end.Post
+with-end-element-write-sheet-2 t c = search needs
 
 with-end-returns : (t : ℕ) → with-end-lts.Need-returns (with-end-claims t) (with-end-at t) with-end.Post
 with-end-returns t c = (
-  c .before .before .go-on .ensures .0 ∙ rw (c .before .before .before .before .before .before .shift .ensures),
-  put-back _ _ (c .before .before .before .before .before .before .shift .ensures) (c .before .before .go-on .ensures .1),
+  c .go-on .ensures .0 ∙ rw (c .before .before .shift .ensures),
+  put-back _ _ (c .before .before .shift .ensures) (c .go-on .ensures .1),
 )
 
 abbrev with-ends-Inv-loop : with-ends-lts.InvT-loop
@@ -289,17 +270,17 @@ with-ends-claims t = (
 
 with-ends-gather-requires : (t : ℕ) → with-ends-lts.Need-gather-requires (with-ends-claims t)
     (with-ends-at t) with-ends.Post with-ends-Inv-loop with-ends-μ-loop
-with-ends-gather-requires t c κs = let p = c .before .before .before .before .before .pre .1 in
+with-ends-gather-requires t c κs = let p = c .before .before .before .pre .1 in
     (p .0, p .1 .long, p .4, omega arith, c .before .before .own .ensures .1, close-self _ (p .4))
 
 with-ends-loop-holds : (t : ℕ) → with-ends-lts.Need-loop-holds (with-ends-claims t)
     (with-ends-at t) with-ends.Post with-ends-Inv-loop with-ends-μ-loop
-with-ends-loop-holds t c = let p = c .before .before .before .before .before .before .before .before .pre .1 in
+with-ends-loop-holds t c = let p = c .before .before .before .before .pre .1 in
     record {
       same = refl;
       long = p .0;
       inside = p .4;
-      told = gathered _ (c .before .before .before .before .before .own .ensures .0) (c .before .before .gather .ensures)
+      told = gathered _ (c .before .before .before .own .ensures .0) (c .gather .ensures)
           (p .1) (p .4);
       most = omega arith;
       none = any-zero _;
@@ -308,9 +289,9 @@ with-ends-loop-holds t c = let p = c .before .before .before .before .before .be
 with-ends-ends-in-requires : (t : ℕ) → with-ends-lts.Need-ends-in-requires (with-ends-claims t)
     (with-ends-at t) with-ends.Post with-ends-Inv-loop with-ends-μ-loop
 with-ends-ends-in-requires t c κs = (
-  c .before .before .before .before .before .gather .kept .1 .0
-      ∙ c .before .before .before .before .before .before .before .before .before .before .before .pre .1 .1 .long,
-  c .before .before .before .before .before .before .before .before .before .before .before .pre .1 .4,
+  c .before .before .before .gather .ensures .long
+      ∙ c .before .before .before .before .before .before .before .pre .1 .1 .long,
+  c .before .before .before .before .before .before .before .pre .1 .4,
   omega arith,
 )
 
@@ -321,70 +302,55 @@ with-ends-loop-again t c = unended-not (c .before .before .before .before .loop 
 
 with-ends-with-end-requires : (t : ℕ) → with-ends-lts.Need-with-end-requires (with-ends-claims t)
     (with-ends-at t) with-ends.Post with-ends-Inv-loop with-ends-μ-loop
-with-ends-with-end-requires t c κs = let p = c .before .before .before .before .before .before .before .before .before .before .before
-    .before .before .before .pre .1 in (
-      omega arith,
-      (
-        ap length (c .before .before .before .before .before .loop .inv .same) ∙ p .0,
-        p .2,
-        p .4,
-        omega arith,
-        p .5,
-      ),
-    )
-
-with-ends-same-length : (t : ℕ) → with-ends-lts.Need-same-length (with-ends-claims t)
-    (with-ends-at t) with-ends.Post with-ends-Inv-loop with-ends-μ-loop
-with-ends-same-length t c = ap length (c .before .before .before .with-end .ensures .1
-    ∙ c .before .before .before .before .before .before .before .before .before .loop .inv .same)
-
-with-ends-same-length-2 : (t : ℕ) → with-ends-lts.Need-same-length-2 (with-ends-claims t)
-    (with-ends-at t) with-ends.Post with-ends-Inv-loop with-ends-μ-loop
-with-ends-same-length-2 t c = c .before .before .before .before .before .before .before .before .before .before .before .before .gather
-    .kept .1 .0
+with-ends-with-end-requires t c κs = let p = c .before .before .before .before .before .before .before .before .before .before .pre .1 in (
+  omega arith,
+  (
+    ap length (c .before .before .before .before .before .loop .inv .same) ∙ p .0,
+    p .2,
+    p .4,
+    omega arith,
+    p .5,
+  ),
+)
 
 with-ends-returns : (t : ℕ) → with-ends-lts.Need-returns (with-ends-claims t)
     (with-ends-at t) with-ends.Post with-ends-Inv-loop with-ends-μ-loop
 with-ends-returns t c = (
-  sym (shoved (c .before .before .before .before .before .before .before .before .before .loop .inv) (omega arith)
-      (sym (c .before .before .before .before .before .before .ends-in .ensures)
-      ∙ not-false _ (c .before .before .before .before .before .if1 .left)) (sym (c .before .before .before .with-end .ensures .0)
+  sym (shoved (c .before .before .before .before .before .before .before .loop .inv) (omega arith)
+      (sym (c .before .before .before .before .ends-in .ensures)
+      ∙ not-false _ (c .before .before .before .if1 .left)) (sym (c .before .with-end .ensures .0)
       ∙ c .if2 .taken)),
-  c .before .before .before .with-end .ensures .1
-      ∙ c .before .before .before .before .before .before .before .before .before .loop .inv .same,
+  c .before .with-end .ensures .1
+      ∙ c .before .before .before .before .before .before .before .loop .inv .same,
 )
 
 with-ends-loop-again-2 : (t : ℕ) → with-ends-lts.Need-loop-again-2 (with-ends-claims t)
     (with-ends-at t) with-ends.Post with-ends-Inv-loop with-ends-μ-loop
-with-ends-loop-again-2 t c = unended-with (c .before .before .before .before .before .before .before .before .before .loop .inv)
-    (omega arith) (sym (c .before .before .before .before .before .before .ends-in .ensures)
-    ∙ not-false _ (c .before .before .before .before .before .if1 .left)) (sym (c .before .before .before .with-end .ensures .0)
-    ∙ c .if2 .left) (c .before .before .before .with-end .ensures .1)
+with-ends-loop-again-2 t c = unended-with (c .before .before .before .before .before .before .before .loop .inv)
+    (omega arith) (sym (c .before .before .before .before .ends-in .ensures)
+    ∙ not-false _ (c .before .before .before .if1 .left)) (sym (c .before .with-end .ensures .0)
+    ∙ c .if2 .left) (c .before .with-end .ensures .1)
 
 pub +go-on+over+serves+shoves+with-end+with-ends-spec : {M : Type 1} → statement M
 +go-on+over+serves+shoves+with-end+with-ends-spec =
     close μ-go-on μ-over μ-serves μ-shoves μ-with-end μ-with-ends
-    (λ t. go-on-lts.spec (go-on-claims t) (go-on-at t) go-on.Post (go-on-returns t) (λ c κs. let p = c .before .before .before .before
-    .pre .1 in (p .0, p .1, p .2, omega arith)) (λ c. search needs) (go-on-returns-2 t) (λ c κs. let p = c .before .before .before .before .pre .1 in
-    (omega arith, (p .0, p .1, p .2, p .3, omega arith))) (λ c. search needs) (λ c. c .before .before .serves .ensures))
+    (λ t. go-on-lts.spec (go-on-claims t) (go-on-at t) go-on.Post (go-on-returns t)
+    (λ c κs. let p = c .before .before .before .pre .1 in (p .0, p .1, p .2, omega arith)) (go-on-returns-2 t)
+    (λ c κs. let p = c .before .before .before .pre .1 in (omega arith, (p .0, p .1, p .2, p .3, omega arith)))
+    (λ c. c .serves .ensures))
     (λ t. over-lts.spec (over-claims t) (over-at t) over.Post (over-distance-requires t) (λ c. omega arith) (over-returns t)
     (over-stand-in-requires t) (λ c. search needs) (λ c. search needs) (λ c. omega arith) (over-go-on-requires t) (λ c. search needs)
-    (over-shoves-requires t) (λ c. search needs) (over-returns-2 t) (λ c. search needs) (over-returns-3 t) (λ c. search needs)
-    (over-returns-4 t))
-    (λ t. serves-lts.spec (serves-claims t) (serves-at t) serves.Post serves-Inv-loop serves-μ-loop (serves-loop-holds t) (serves-next-in-requires t) (λ c. search needs) (λ c. search needs) (λ c. omega arith) (λ c. omega arith)
-    (serves-loop-again t) (serves-sub-over t) (serves-over-requires t) (serves-same-length t) (serves-returns t) (λ c. omega arith) (λ
-    c. omega arith) (serves-loop-again-2 t) (λ c. search needs) (serves-returns-2 t))
-    (λ t. shoves-lts.spec (shoves-claims t) (shoves-at t) shoves.Post (λ c. search needs) (shoves-with-ends-requires t) (λ c. search
-    needs) (λ c. c .before .before .before .with-ends .ensures))
+    (over-shoves-requires t) (over-returns-2 t) (over-returns-3 t) (over-returns-4 t))
+    (λ t. serves-lts.spec (serves-claims t) (serves-at t) serves.Post serves-Inv-loop serves-μ-loop (serves-loop-holds t)
+    (serves-next-in-requires t) (λ c. search needs) (λ c. search needs) (λ c. omega arith) (λ c. omega arith) (serves-loop-again t)
+    (serves-sub-over t) (serves-over-requires t) (serves-returns t) (λ c. omega arith) (λ c. omega arith) (serves-loop-again-2 t)
+    (serves-returns-2 t))
+    (λ t. shoves-lts.spec (shoves-claims t) (shoves-at t) shoves.Post (shoves-with-ends-requires t) (λ c. c .with-ends .ensures))
     (λ t. with-end-lts.spec (with-end-claims t) (with-end-at t) with-end.Post (λ c. omega arith) (λ c. omega arith)
-    (with-end-shift-requires t) (λ c. omega arith) (with-end-go-on-requires t) (with-end-slice-write-sheet t)
-    (with-end-slice-write-sheet-2 t) (with-end-same-length t) (with-end-returns t))
-    (λ t. with-ends-lts.spec (with-ends-claims t) (with-ends-at t) with-ends.Post with-ends-Inv-loop with-ends-μ-loop (λ c κs. c .before
-    .before .pre .1 .3) (with-ends-gather-requires t) (with-ends-loop-holds t) (with-ends-ends-in-requires t) (λ c. omega arith) (λ c.
-    omega arith) (with-ends-loop-again t) (with-ends-with-end-requires t) (with-ends-same-length t) (with-ends-same-length-2 t)
-    (with-ends-returns t) (λ c. omega arith) (λ c. omega arith) (with-ends-loop-again-2 t) (λ c. ap length (c .before .loop .inv .same))
-    (λ c. c .before .before .before .before .gather .kept .1 .0) (λ c. (
-      sym (unended (c .before .loop .inv) (omega arith)),
-      c .before
-          .loop .inv .same,
-    )))
+    (with-end-shift-requires t) (λ c. omega arith) (with-end-go-on-requires t) (with-end-element-write-sheet t)
+    (with-end-element-write-sheet-2 t) (with-end-returns t))
+    (λ t. with-ends-lts.spec (with-ends-claims t) (with-ends-at t) with-ends.Post with-ends-Inv-loop with-ends-μ-loop
+    (λ c κs. c .pre .1 .3) (with-ends-gather-requires t) (with-ends-loop-holds t) (with-ends-ends-in-requires t) (λ c. omega arith)
+    (λ c. omega arith) (with-ends-loop-again t) (with-ends-with-end-requires t) (with-ends-returns t) (λ c. omega arith)
+    (λ c. omega arith) (with-ends-loop-again-2 t)
+    (λ c. (sym (unended (c .before .loop .inv) (omega arith)), c .before .loop .inv .same)))

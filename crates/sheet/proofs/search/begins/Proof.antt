@@ -13,20 +13,19 @@ returns c = (sym (serves-done _ _ _ _ _ (c .if1 .taken)), refl)
 last-requires : tie.Need-last-requires
 last-requires c κs = search needs
 
-same-length : tie.Need-same-length
-same-length c = search needs
-
 returns-2 : tie.Need-returns-2
 returns-2 c = (c .last .ensures ∙ serves-last _ _ _ _ _ (c .before .before .if2 .taken), refl)
 
 serves-requires : tie.Need-serves-requires
 serves-requires c κs = search needs
 
-same-length-2 : tie.Need-same-length-2
-same-length-2 c = search needs
-
 returns-3 : tie.Need-returns-3
 returns-3 c = search needs
 
 pub begins-spec : {M : Type 1} → statement M
-begins-spec = tie.close (tie.spec returns last-requires same-length returns-2 serves-requires same-length-2 returns-3)
+begins-spec = tie.close (tie.spec
+    returns
+    last-requires
+    returns-2
+    serves-requires
+    returns-3)

@@ -20,7 +20,7 @@ loop-holds : tie.Need-loop-holds Inv-loop μ-loop
 loop-holds c = record { same = refl; most = omega arith; none = any-zero _ }
 
 next-in-requires : tie.Need-next-in-requires Inv-loop μ-loop
-next-in-requires c κs = (c .before .before .before .pre .0, c .before .before .before .pre .2, omega arith)
+next-in-requires c κs = (c .before .before .pre .0, c .before .before .pre .2, omega arith)
 
 enum-known-x : tie.Need-enum-known-x Inv-loop μ-loop
 enum-known-x c = search needs
@@ -39,7 +39,7 @@ loop-again c = unserved-off (c .before .before .before .before .loop .inv) (omeg
     .enum-told .given .1)
 
 last-over-requires : tie.Need-last-over-requires Inv-loop μ-loop
-last-over-requires c κs = let p = c .before .before .before .before .before .before .before .pre in (
+last-over-requires c κs = let p = c .before .before .before .before .before .before .pre in (
   p .0,
   p .1,
   p .2,
@@ -49,8 +49,7 @@ last-over-requires c κs = let p = c .before .before .before .before .before .be
 )
 
 returns : tie.Need-returns Inv-loop μ-loop
-returns c = sym (served (c .before .before .before .before .before .before .before .loop .inv) (λ e. omega arith) (omega arith) (sym (c
-    .before .before .before .before .before .next-in .ensures) ∙ c .before .before .before .x .given .1) (sym (c .before .last-over
+returns c = sym (served (c .before .before .before .before .before .before .before .loop .inv) (λ e. omega arith) (omega arith) (sym (c .before .before .before .before .before .next-in .ensures) ∙ c .before .before .before .x .given .1) (sym (c .before .last-over
     .ensures) ∙ c .if1 .taken))
 
 add-d-2 : tie.Need-add-d-2 Inv-loop μ-loop
@@ -60,8 +59,7 @@ loop-less-2 : tie.Need-loop-less-2 Inv-loop μ-loop
 loop-less-2 c = search needs
 
 loop-again-2 : tie.Need-loop-again-2 Inv-loop μ-loop
-loop-again-2 c = unserved-over (c .before .before .before .before .before .before .before .loop .inv) (omega arith) (sym (c .before .before
-    .before .before .before .next-in .ensures) ∙ c .before .before .before .x .given .1) (sym (c .before .last-over .ensures) ∙ c .if1
+loop-again-2 c = unserved-over (c .before .before .before .before .before .before .before .loop .inv) (omega arith) (sym (c .before .before .before .before .before .next-in .ensures) ∙ c .before .before .before .x .given .1) (sym (c .before .last-over .ensures) ∙ c .if1
     .left) refl
 
 returns-2 : tie.Need-returns-2 Inv-loop μ-loop
@@ -71,5 +69,18 @@ pub last-spec : {M : Type 1} → statement M
 last-spec =
     tie.close
     (tie.spec
-    Inv-loop μ-loop loop-holds next-in-requires enum-known-x enum-told add-d loop-less loop-again last-over-requires returns
-    add-d-2 loop-less-2 loop-again-2 returns-2)
+    Inv-loop
+    μ-loop
+    loop-holds
+    next-in-requires
+    enum-known-x
+    enum-told
+    add-d
+    loop-less
+    loop-again
+    last-over-requires
+    returns
+    add-d-2
+    loop-less-2
+    loop-again-2
+    returns-2)

@@ -8,7 +8,7 @@ use Rattle.sheet.proofs.search.last_over.Statement.{statement}
 use Rattle.sheet.proofs.search.last_over.Tie as tie
 
 distance-requires : tie.Need-distance-requires
-distance-requires c κs = (on-sheet _ (c .before .pre .1), on-sheet _ (c .before .pre .3))
+distance-requires c κs = (on-sheet _ (c .pre .1), on-sheet _ (c .pre .3))
 
 add-if1 : tie.Need-add-if1
 add-if1 c = omega arith
@@ -17,7 +17,7 @@ returns : tie.Need-returns
 returns c = sym (over-far _ _ _ _ _ _ (λ e. c .if1 .taken (c .before .distance .ensures ∙ e)))
 
 stand-in-requires : tie.Need-stand-in-requires
-stand-in-requires c κs = (c .before .before .before .pre .0, c .before .before .before .pre .3)
+stand-in-requires c κs = (c .before .before .pre .0, c .before .before .pre .3)
 
 enum-told : tie.Need-enum-told
 enum-told c = search needs
@@ -29,15 +29,14 @@ enum-told-3 : tie.Need-enum-told-3
 enum-told-3 c = search needs
 
 own-requires : tie.Need-own-requires
-own-requires c κs = c .before .before .before .before .before .before .pre .2
+own-requires c κs = c .before .before .before .before .before .pre .2
 
 can-end-requires : tie.Need-can-end-requires
 can-end-requires c κs = (
-  c .before .before .before .before .before .before .before .pre .0,
+  c .before .before .before .before .before .before .pre .0,
   omega arith,
   c .own .ensures .1,
-  c .before
-      .before .before .before .before .before .before .pre .3,
+  c .before .before .before .before .before .before .pre .3,
 )
 
 returns-2 : tie.Need-returns-2
@@ -57,5 +56,15 @@ pub last-over-spec : {M : Type 1} → statement M
 last-over-spec =
     tie.close
     (tie.spec
-    distance-requires add-if1 returns stand-in-requires enum-told enum-told-2 enum-told-3 own-requires can-end-requires returns-2
-    returns-3 returns-4)
+    distance-requires
+    add-if1
+    returns
+    stand-in-requires
+    enum-told
+    enum-told-2
+    enum-told-3
+    own-requires
+    can-end-requires
+    returns-2
+    returns-3
+    returns-4)
