@@ -31,10 +31,16 @@ fn address(operands: &str) -> Result<u64, String> {
     u64::from_str_radix(digits, 16).map_err(|_| format!("no address in {operands}"))
 }
 
+/// Whether the function ends in another one, which then returns in its place.
+fn leaves(step: &Instruction) -> bool {
+    step.name == "jmp" && step.linked.is_some()
+}
+
 fn onward(step: &Instruction) -> Result<Onward, String> {
     match step.name.as_str() {
         "ret" | "ud2" | "int3" | "hlt" => Ok(Onward::Nowhere),
-        name if name.starts_with('j') && step.linked.is_some() => Err("it ends in another function".to_string()),
+        _ if leaves(step) => Ok(Onward::Nowhere),
+        name if name.starts_with('j') && step.linked.is_some() => Err("it may end in another function".to_string()),
         "jmp" if step.operands.starts_with('*') => Ok(Onward::Table),
         "jmp" => address(&step.operands).map(Onward::To),
         name if name.starts_with('j') => address(&step.operands).map(Onward::NextOr),
@@ -108,7 +114,7 @@ impl Ways<'_> {
         let step = &self.code[index];
         let before = self.depths[index].expect("a way has come here");
         let depth = before.checked_add_signed(lowered(step)? as isize).ok_or("it pops too much")?;
-        if step.name == "ret" && depth != RETURN {
+        if (step.name == "ret" || leaves(step)) && depth != RETURN {
             return Err(format!("it returns with {depth} bytes"));
         }
         match onward(step)? {
@@ -163,7 +169,7 @@ fn depths(code: &[Instruction]) -> Result<Vec<Option<usize>>, String> {
 
 /// The function that an instruction calls.
 fn called(step: &Instruction) -> Result<Option<String>, String> {
-    if step.name != "call" {
+    if step.name != "call" && !leaves(step) {
         return Ok(None);
     }
     let direct = step.operands.split_once(" <").and_then(|(_, name)| name.strip_suffix('>'));
@@ -178,7 +184,8 @@ pub fn frame(function: &Function) -> Result<Frame, String> {
     for (step, depth) in function.code.iter().zip(depths) {
         let Some(depth) = depth else { continue };
         frame.own = frame.own.max(depth + below(step));
-        frame.calls.extend(called(step)?.map(|name| (name, depth)));
+        let kept = if leaves(step) { depth - RETURN } else { depth };
+        frame.calls.extend(called(step)?.map(|name| (name, kept)));
     }
     Ok(frame)
 }
@@ -213,6 +220,13 @@ mod tests {
     }
 
     #[test]
+    fn a_function_that_ends_in_another_keeps_nothing() {
+        let code = " 0:\tpush   %rax\n 1:\tpop    %rax\n 2:\tjmp    7 <f+0x7>\n\t\t\t3: R_X86_64_PLT32\tg-0x4\n";
+        let frame = of(code).unwrap();
+        assert_eq!((frame.own, frame.calls), (16, vec![("g".to_string(), 0)]));
+    }
+
+    #[test]
     fn what_cannot_be_followed_is_an_error() {
         for code in [
             " 0:\tmov    %rbp,%rsp\n 3:\tret\n",
@@ -224,6 +238,7 @@ mod tests {
             " 0:\tret\n 1:\tret\n",
             " 0:\tcall   *%rax\n 2:\tret\n",
             " 0:\tje     5 <f+0x5>\n\t\t\t1: R_X86_64_PLT32\tg-0x4\n 5:\tret\n",
+            " 0:\tpush   %rax\n 1:\tjmp    6 <f+0x6>\n\t\t\t2: R_X86_64_PLT32\tg-0x4\n",
         ] {
             assert!(of(code).is_err(), "{code}");
         }
