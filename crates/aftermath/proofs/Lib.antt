@@ -7,3 +7,4 @@ pub mod KeepAdvance
 pub mod Rulings
 pub mod AllLost
 pub mod Closed
+pub mod Bounds

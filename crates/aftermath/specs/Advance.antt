@@ -13,6 +13,7 @@ use Rattle.position.specs.Ground.{joined}
 use Rattle.position.specs.Crowd.{others}
 use Rattle.position.specs.Change.{Change}
 use Rattle.position.specs.Change.Change.{placed, assigned}
+use Rattle.ruling.specs.Values.{accepting}
 use Rattle.ruling.specs.Verdict.{Verdict}
 use Rattle.ruling.specs.Verdict.Judge.{rule}
 use Rattle.ruling.specs.Verdict.Verdict.{refuseIf, judge}
@@ -64,7 +65,7 @@ advanceChecks b u hex rest =
     (refuseIf (not (eqb (b .desk .battle .stage) Stage.advances)) 2 0 (unitChecks b u hex rest)))
 
 unfoldable pub advanceRule : Board → ℕ → ℕ → Verdict
-advanceRule b u hex = advanceChecks b u hex (judge (rule [] (thenOn b (advanceChanges b u hex)) []))
+advanceRule b u hex = advanceChecks b u hex (judge (rule accepting (thenOn b (advanceChanges b u hex)) []))
 
 -- "Close ends stage 3, making all roles 0."
 unfoldable pub closeChanges : Board → List Change
@@ -72,4 +73,4 @@ closeChanges b = map (λ u. assigned u Role.none) (sieve (mayAdvance b) (b .unit
 
 -- "wrong stage (.. close 3)"
 unfoldable pub closeRule : Board → Verdict
-closeRule b = refuseIf (not (eqb (b .desk .battle .stage) Stage.advances)) 2 0 (judge (rule [] (thenOn b (closeChanges b)) []))
+closeRule b = refuseIf (not (eqb (b .desk .battle .stage) Stage.advances)) 2 0 (judge (rule accepting (thenOn b (closeChanges b)) []))

@@ -14,6 +14,7 @@ use Rattle.position.specs.Change.{Change}
 use Rattle.position.specs.Change.Change.{destroyed, assigned}
 use Rattle.line.specs.Line.{fighterOf}
 use Rattle.line.specs.declared.Fighter.{Fighter}
+use Rattle.ruling.specs.Values.{accepting}
 use Rattle.ruling.specs.Verdict.{Verdict, along}
 use Rattle.ruling.specs.Verdict.Judge.{rule}
 use Rattle.ruling.specs.Verdict.Verdict.{refuseIf, judge}
@@ -84,4 +85,4 @@ lossChecks b units rest =
     (refuseIf (not (eqb (b .desk .battle .stage) Stage.losses)) 2 0 (losses b units (refuseIf (short b units) 15 0 rest))))
 
 unfoldable pub lossesRule : Board → List ℕ → Verdict
-lossesRule b units = lossChecks b units (judge (rule [] (thenOn b (lossChanges b units)) []))
+lossesRule b units = lossChecks b units (judge (rule accepting (thenOn b (lossChanges b units)) []))

@@ -8,6 +8,7 @@ use Rattle.grid.specs.Rulings.{Row, row}
 use Rattle.position.specs.Kind.{force}
 use Rattle.position.specs.Board.{Board, nowhere, forceOf}
 use Rattle.position.specs.Tally.{any}
+use Rattle.ruling.specs.Values.{accepting}
 use Rattle.ruling.specs.Verdict.{Ruling, along, judged, outcome}
 use Rattle.ruling.specs.Verdict.Ruling.{refused, accepted}
 use Rattle.field.specs.Listed.{listLength, noUnit, allThere, named, andThen}
@@ -79,7 +80,7 @@ infantry u = 2
 -- "Dx need 3, attackers 6 and 4: either alone stands; special infantry 20 and infantry 3, need 3: infantry alone is 15"
 abbrev pub aftermathRows : List Row
 aftermathRows =
-    row (answerTo (owing infantry (firstOr 6 4)) (0 ∷ [])) (accepted []) ∷
-    row (answerTo (owing infantry (firstOr 6 4)) (1 ∷ [])) (accepted []) ∷
+    row (answerTo (owing infantry (firstOr 6 4)) (0 ∷ [])) (accepted accepting) ∷
+    row (answerTo (owing infantry (firstOr 6 4)) (1 ∷ [])) (accepted accepting) ∷
     row (answerTo (owing (firstOr 4 2) (firstOr 20 3)) (1 ∷ [])) (refused 15 0) ∷
     []

@@ -23,6 +23,7 @@ use Rattle.position.specs.Kind.{force, mayBelong}
 use Rattle.position.specs.Layout.{strength}
 use Rattle.position.specs.Tally.{tally}
 use Rattle.ruling.proofs.Meets.{seen-all}
+use Rattle.ruling.specs.Values.{foughtWith}
 use Rattle.ruling.specs.Verdict.{Met, Outcome, judged, outcome, turnedAll}
 use Rattle.ruling.specs.Verdict.Ruling.{accepted}
 use Rattle.walk.proofs.Marks.{le-or}
@@ -268,7 +269,7 @@ pub battled :
     → Decides (board p) target units die (map (strength p) (participants (board p) target units)) c k x
     → q ≡ makes (turnedAll p (participants (board p) target units)) (battleChanges (board p) target units (upshot k) x)
     → m ≡ replicate (board p .map .hexes) 0
-    → Met p l (battle (board p) target units die) (accepted ((c + 1) ∷ k ∷ [])) q m
+    → Met p l (battle (board p) target units die) (accepted (foughtWith (c + 1) k)) q m
 unfolding battle ruled outcome judged
 battled {p} {l} {q} {m} {target} {units} {die} {c} {k} {x} s d e f =
     let b = board p in
@@ -276,7 +277,7 @@ battled {p} {l} {q} {m} {target} {units} {die} {c} {k} {x} s d e f =
     let ss = map (strength p) us in
     let z = seen-all s us (ruled b target units die) in
     record {
-      answers = ap₂ (λ (y w : ℕ). accepted ((y + 1) ∷ w ∷ [])) (d .column) (d .code) ∙ sym (ap (λ (o : Outcome). o .answer) z);
+      answers = ap₂ (λ (y w : ℕ). accepted (foughtWith (y + 1) w)) (d .column) (d .code) ∙ sym (ap (λ (o : Outcome). o .answer) z);
       leaves =
           e
           ∙ ap₂ (λ (y w : ℕ). makes (turnedAll p us) (battleChanges b target units (upshot y) w)) (d .code) (d .need)

@@ -1,13 +1,12 @@
 -- An accepted position stays accepted after an attack.
 -- Assumes nothing.
 use Prim.Native.Nat.{ℕ, _+_, _-_, _*_, _≤_, _<_}
-use mathlib.Core.Path.{_≡_, sym, ap, _∙_}
+use mathlib.Core.Path.{_≡_, ap, _∙_}
 use mathlib.Core.Bool.{true, false, not, _&&_}
 use mathlib.Core.List.{List, [], _∷_, map}
 use native.Mathlib.Omega.{arith}
-use lib.ListN.{length}
 use lib.Dec.{leb, eqb}
-use borrow.Author.Tests.{leb-true, leb-false, eqb-true, eqb-false, not-true, not-false}
+use borrow.Author.Tests.{leb-true, leb-false, eqb-true, eqb-false, not-false}
 use Rattle.position.specs.Tally.{any}
 use Rattle.position.specs.Layout.{strength}
 use Rattle.position.specs.Board.{Board, board, nowhere, forceOf, enemy}
@@ -23,6 +22,7 @@ use Rattle.ruling.proofs.Turning.{uncovered, kept-seen, kept-each}
 use Rattle.field.specs.Scene.{scene, forceIn}
 use Rattle.field.specs.Phasing.{notPhasing}
 use Rattle.field.specs.Zone.{standsOn, enemyOn, holdsEnemy}
+use Rattle.field.proofs.Lists.{list-in}
 use Rattle.field.proofs.Zones.{force-in, enemy-other}
 use Rattle.field.specs.Listed.{listLength, noUnit, allThere, named, andThen}
 use Rattle.results.specs.declared.Upshot.{Upshot}
@@ -41,21 +41,14 @@ use Rattle.battle.proofs.LawfulAfter.{Held, Ready, crowd-there, crowd-s
 use Rattle.battle.proofs.Battles.{defenders-each, defenders-long, stands-is, attackers-below, lawful-battle}
 
 -- what each question leaves known
-list-fits : (units : List ℕ) → not (listLength units) ≡ false → In 1 (length units) 18
-unfolding listLength
-list-fits units e =
-    let n = length units in
-    let h = both-yes (leb 1 n) (leb n 18) (not-false (leb 1 n && leb n 18) e) in
-    record { low = leb-true 1 n (h .0); high = leb-true n 18 (h .1) }
-
-die-in : (die : ℕ) → not (dieFits die) ≡ false → In 1 die 6
+pub die-in : (die : ℕ) → not (dieFits die) ≡ false → In 1 die 6
 unfolding dieFits
 die-in die e =
     let h = both-yes (leb 1 die) (leb die 6) (not-false (leb 1 die && leb die 6) e) in
     record { low = leb-true 1 die (h .0); high = leb-true die 6 (h .1) }
 
 -- the column is one of the table, and so its code is a result
-code-fits :
+pub code-fits :
     {b : Board} → Lawful b → 1 ≤ b .results .columns → (attack defence die : ℕ) → 1 ≤ die → die ≤ 6
     → In 1 (b .results .code (column (b .results) attack defence) die) 10
 unfolding column
@@ -201,7 +194,7 @@ module _ {p : List ℕ} (a : Accepted p) (target : ℕ) (units : List ℕ) (die 
       1
       _
       (λ fit _.
-      let some = list-fits units n in
+      let some = list-in units n in
       let small = hexes-most (a .shaped) in
       kept-battle a
       (record {

@@ -8,3 +8,4 @@ pub mod Striking
 pub mod LawfulAfter
 pub mod Battles
 pub mod KeepAttack
+pub mod Bounds

@@ -1,10 +1,11 @@
 -- The battle: what an attack that is let through turns over, answers and changes; and the ruling on the attack.
 -- Assumes nothing.
 use Prim.Native.Nat.{ℕ, _+_, _*_}
-use mathlib.Core.List.{List, [], _∷_}
+use mathlib.Core.List.{List}
 use lib.ListN.{replicate}
 use Rattle.position.specs.Board.{Board}
 use Rattle.line.specs.Line.{fightingTotal, printedTotal}
+use Rattle.ruling.specs.Values.{foughtWith}
 use Rattle.ruling.specs.Verdict.{Verdict, Judge, revealAll}
 use Rattle.ruling.specs.Verdict.Judge.{rule}
 use Rattle.ruling.specs.Verdict.Verdict.{judge}
@@ -30,7 +31,7 @@ needFor b target units die ss =
 -- "The answer is column, from 1, and result code."
 unfoldable pub ruled : Board → ℕ → List ℕ → ℕ → List ℕ → Judge
 ruled b target units die ss =
-    rule ((columnOf b target units ss + 1) ∷ codeOf b target units die ss ∷ [])
+    rule (foughtWith (columnOf b target units ss + 1) (codeOf b target units die ss))
     (battleChanges b target units (upshot (codeOf b target units die ss)) (needFor b target units die ss))
     (replicate (b .map .hexes) 0)
 

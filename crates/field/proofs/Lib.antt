@@ -2,6 +2,7 @@ pub mod Zones
 pub mod Scenes
 pub mod Bearings
 pub mod Lists
+pub mod Bounds
 pub mod Making
 pub mod Named
 pub mod Sieves

@@ -1,18 +1,19 @@
 -- Laws of lists: refusal 3 along them, who is named, and the numbers that pass a test.
 -- Assumes nothing.
 use Prim.Native.Nat.{_+_, _<_, _≤_, suc, zero, ℕ}
-use mathlib.Core.Bool.{Bool, and-false, cond, false, or-false, or-true, true}
+use mathlib.Core.Bool.{Bool, _&&_, and-false, cond, false, not, or-false, or-true, true}
 use mathlib.Core.List.{List, [], _++_, _∷_, append-nil, map}
 use mathlib.Core.Path.{_∙_, _≡_, ap, ap₂, refl, subst}
 use native.Mathlib.Numerals.{add-one}
 use native.Mathlib.Omega.{arith}
 use borrow.Author.Count.{below-more}
-use borrow.Author.Tests.{eq-eqb, le-leb, lt-leb, ne-eqb}
-use lib.Dec.{eqb}
+use borrow.Author.Tests.{eq-eqb, le-leb, leb-true, lt-leb, ne-eqb, not-false}
+use lib.Dec.{eqb, leb}
 use lib.ListN.{List·getD-append, getD, length, length-append, take}
 use lib.Seq.{getD-append-seam, getD-take, length-take-le, take-suc}
-use Rattle.position.proofs.Tallies.{either, neither, same-or}
+use Rattle.position.proofs.Tallies.{both-yes, either, neither, same-or}
 use Rattle.position.specs.Board.{Board, board}
+use Rattle.position.specs.Shape.{In}
 use Rattle.position.specs.Tally.{tally}
 use Rattle.ruling.proofs.Going.{Gone, GoneFrom, gone-end, gone-more, gone-none, gone-stop}
 use Rattle.ruling.proofs.Meets.{pass, stop}
@@ -31,6 +32,13 @@ module _ (units : List ℕ) where
   pub list-fits : 1 ≤ length units → length units ≤ 18 → listLength units ≡ true
   unfolding listLength
   list-fits l m = simp (le-leb 1 (length units) l, le-leb (length units) 18 m)
+
+  pub list-in : not (listLength units) ≡ false → In 1 (length units) 18
+  unfolding listLength
+  list-in e =
+      let n = length units in
+      let h = both-yes (leb 1 n) (leb n 18) (not-false (leb 1 n && leb n 18) e) in
+      record { low = leb-true 1 n (h .0); high = leb-true n 18 (h .1) }
 
 -- who is named in a list
 pub named-nil : (u : ℕ) → named [] u ≡ false

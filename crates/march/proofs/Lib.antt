@@ -5,3 +5,4 @@ pub mod KeepMove
 pub mod KeepEnd
 pub mod Ends
 pub mod EndDesk
+pub mod Bounds

@@ -11,6 +11,7 @@ use Rattle.position.specs.Bits.{with, without, supplied, moved, fought}
 use Rattle.position.specs.Board.{Board, nowhere}
 use Rattle.position.specs.Change.{Change}
 use Rattle.position.specs.Change.Change.{marked, timed}
+use Rattle.ruling.specs.Values.{accepting}
 use Rattle.ruling.specs.Verdict.{Verdict}
 use Rattle.ruling.specs.Verdict.Judge.{rule}
 use Rattle.ruling.specs.Verdict.Verdict.{refuseIf, judge}
@@ -66,4 +67,4 @@ endRule b long =
     refuseIf (not (eqb long (b .map .hexes))) 3 0
     (refuseIf (not (eqb (b .desk .battle .stage) Stage.quiet)) 2 0
     (refuseIf (isLast (b .desk .clock) (b .desk .lastTurn)) 16 0
-    (judge (rule [] (endChanges b) (replicate (b .map .hexes) 0)))))
+    (judge (rule accepting (endChanges b) (replicate (b .map .hexes) 0)))))

@@ -14,6 +14,7 @@ use Rattle.position.specs.Ground.{joined, standable}
 use Rattle.position.specs.Crowd.{others}
 use Rattle.position.specs.Change.{Change}
 use Rattle.position.specs.Change.Change.{placed, marked}
+use Rattle.ruling.specs.Values.{accepting}
 use Rattle.ruling.specs.Verdict.{Verdict, along}
 use Rattle.ruling.specs.Verdict.Judge.{rule}
 use Rattle.ruling.specs.Verdict.Verdict.{refuseIf, judge}
@@ -91,7 +92,7 @@ moveChanges b u h = placed u h ∷ marked u (with moved (b .units .state .marks 
 
 -- "three others already there", "for a move's 11 the last place"; then the move is made
 unfoldable pub arrival : Board → ℕ → ℕ → ℕ → Verdict
-arrival b u last h = refuseIf (leb 3 (others b u h)) 11 last (judge (rule [] (moveChanges b u h) []))
+arrival b u last h = refuseIf (leb 3 (others b u h)) 11 last (judge (rule accepting (moveChanges b u h) []))
 
 unfoldable pub moveRule : Board → ℕ → List ℕ → Verdict
 moveRule b u path = moveChecks b u path (λ l. arrival b u (length path) (l .at))

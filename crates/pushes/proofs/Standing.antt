@@ -77,9 +77,9 @@ held-apart b a h e n =
     let c = b .units .count in
     let s = any-some (standsOn (scene b) h) c (not-false (any (standsOn (scene b) h) c) e) in
     let u = s .at in
-    let i = eqb-true (b .units .hex u) h (s .passes) in
+    let i = eqb-true (b .units .state .hex u) h (s .passes) in
     any-true (apart b a h) c u (s .below)
-    (same-or (b .units .role u) 1 (λ r. apart-owes b a h u i r ∙ ap not (ne-eqb h a n)) (λ r. apart-stays b a h u i r))
+    (same-or (b .units .state .role u) 1 (λ r. apart-owes b a h u i r ∙ ap not (ne-eqb h a n)) (λ r. apart-stays b a h u i r))
 
 -- where no unit may stand, in an Enemy zone, and elsewhere
 module _ (b : Board) (f a h : ℕ) where

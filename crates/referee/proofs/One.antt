@@ -2,7 +2,8 @@
 -- Assumes nothing.
 use mathlib.Core.Path.{sym, ap, _∙_}
 use Rattle.ruling.proofs.Meets.{only}
-use Rattle.referee.specs.Packed.{packed, OneExport}
+use Rattle.ruling.specs.Packed.{packed}
+use Rattle.referee.specs.Exported.{OneExport}
 
 pub one-export : OneExport
 one-export p l v r r′ q q′ m m′ g h =

@@ -2,12 +2,13 @@
 ghost use mathlib.Core.Path.{_≡_};
 ghost use mathlib.Core.List.{[]};
 ghost use Rattle.ruling.specs.Answers.{answerAs};
+ghost use Rattle.ruling.specs.Packed.{refusalOf, packed};
 ghost use Rattle.march.specs.Answers.{movedAs};
 ghost use Rattle.battle.specs.Answers.{foughtAs};
 ghost use Rattle.retreat.specs.Answers.{retreatedAs};
 ghost use Rattle.rules.specs.Order.{verdict};
 ghost use Rattle.rules.specs.Order.Order.{supply, move, endPhase, attack, retreat, losses, advance, close};
-ghost use Rattle.referee.specs.Packed.{refusalOf, packed, Exported};
+ghost use Rattle.referee.specs.Exported.{Exported};
 use battle::Fought;
 use march::Moved;
 use retreat::Retreated;
@@ -38,7 +39,7 @@ fn pack_moved(a: Moved) -> u64
     }
 }
 
-// Column and code: the values of an answer, in bits 8 to 15 and from bit 16 on.
+// The column in bits 8 to 15, the code from bit 16 on.
 fn pack_fought(a: Fought) -> u64
     ensures { λ r. ⌜ r ≡ packed (foughtAs a) ⌝ }
 {

@@ -8,3 +8,4 @@ pub mod Leaving
 pub mod Rulings
 pub mod Words
 pub mod Road
+pub mod Bounds

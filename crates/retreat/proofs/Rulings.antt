@@ -2,13 +2,14 @@
 -- Assumes nothing.
 use Prim.Native.Nat.{ℕ}
 use mathlib.Core.Bool.{Bool, _||_, cond, false, true}
-use mathlib.Core.List.{List, [], _∷_}
+use mathlib.Core.List.{List, []}
 use mathlib.Core.Path.{_≡_}
 use Rattle.position.proofs.Tallies.{either}
 use Rattle.position.specs.Board.{board}
 use Rattle.position.specs.Change.{makes}
 use Rattle.ruling.proofs.Meets.{pass, ruled, stop}
 use Rattle.ruling.specs.Judged.{Passes, Stops}
+use Rattle.ruling.specs.Values.{retreatedTo, eliminated}
 use Rattle.ruling.specs.Verdict.{Met}
 use Rattle.ruling.specs.Verdict.Ruling.{accepted, refused}
 use Rattle.aftermath.specs.Stage.{thenOn}
@@ -39,7 +40,7 @@ module _ {p : List ℕ} (h : ℕ) (route pushes : List ℕ) where
     -- destroyed with its part route
     pub ends-doomed :
         {q : List ℕ} → Falls (board p) h route pushes → q ≡ makes p (thenOn (board p) (doomChanges (board p) h route))
-        → Met p [] (retreatRule (board p) h route pushes) (accepted (2 ∷ [])) q []
+        → Met p [] (retreatRule (board p) h route pushes) (accepted eliminated) q []
     unfolding retreatRule retreatValues leaveChanges
     ends-doomed g f =
         o [] _ _ _ _
@@ -70,7 +71,7 @@ module _ {p : List ℕ} (h : ℕ) (route pushes : List ℕ) where
     pub ends-going :
         {r : Bool} {q : List ℕ} {end : ℕ} → Goes (board p) h route pushes r → end ≡ endOf (board p) route
         → q ≡ makes p (thenOn (board p) (cond r (retreatChanges (board p) h route) (pushChanges (board p) h route pushes)))
-        → Met p [] (retreatRule (board p) h route pushes) (accepted (1 ∷ end ∷ [])) q []
+        → Met p [] (retreatRule (board p) h route pushes) (accepted (retreatedTo end)) q []
     unfolding retreatRule retreatValues leaveChanges
     ends-going g i f =
         o [] _ _ _ _

@@ -3,7 +3,7 @@
 -- Assumes nothing.
 use Prim.Native.Nat.{ℕ}
 use mathlib.Core.Bool.{Bool, _&&_, false, not, true}
-use mathlib.Core.List.{List, [], _∷_}
+use mathlib.Core.List.{List, []}
 use mathlib.Core.Logic.{_↔_, inl, inr}
 use mathlib.Core.Path.{_∙_, _≡_, ap, refl, sym}
 use native.Mathlib.Omega.{arith}
@@ -15,6 +15,10 @@ use Rattle.position.specs.Crowd.{owesAt}
 use Rattle.position.specs.Tally.{any}
 use Rattle.ruling.specs.Judged.{Passes}
 use Rattle.ruling.proofs.Checks.{checked}
+use Rattle.ruling.specs.Values.{Manner, Values, retreatedTo, eliminated}
+use Rattle.ruling.specs.Values.Manner.{plain, fought, retreated, destroyed}
+use Rattle.ruling.specs.Answers.{AnswersDestroyed, AnswersRetreated}
+use Rattle.ruling.proofs.Meets.{no-refusal}
 use Rattle.ruling.specs.Verdict.{Ruling}
 use Rattle.ruling.specs.Verdict.Ruling.{accepted, refused}
 use Rattle.field.proofs.Lists.{map-all}
@@ -129,11 +133,11 @@ module _ (b : Board) (h : ℕ) where
 
 -- what is answered, by the group's fate
 abbrev answerOf : ℕ → Fate → Ruling
-answerOf end F.Lost = accepted (2 ∷ [])
+answerOf end F.Lost = accepted eliminated
 answerOf end F.NoRoute = refused 14 0
 answerOf end F.NoPushes = refused 17 0
-answerOf end F.Vacant = accepted (1 ∷ end ∷ [])
-answerOf end F.Pushing = accepted (1 ∷ end ∷ [])
+answerOf end F.Vacant = accepted (retreatedTo end)
+answerOf end F.Pushing = accepted (retreatedTo end)
 
 module _ {p : List ℕ} {h : ℕ} {route pushes : List ℕ} (d : Due p h route pushes) where
   answers : (f : Fate) → FateSays (board p) h route pushes f → answerTo p h route pushes ≡ answerOf (endOf (board p) route) f
@@ -148,19 +152,26 @@ module _ {p : List ℕ} {h : ℕ} {route pushes : List ℕ} (d : Due p h route p
       answers (fateOf (board p) h route pushes) (fate-says (board p) h route pushes) ∙ ap (answerOf (endOf (board p) route)) e
 
 -- answers of different kinds differ
+abbrev rank : Manner → ℕ
+rank plain = 1
+rank fought = 2
+rank retreated = 3
+rank destroyed = 4
+
 abbrev sort : Ruling → ℕ
 sort (refused n k) = 0
-sort (accepted []) = 0
-sort (accepted (x ∷ xs)) = x
+sort (accepted vs) = rank (vs .manner)
 
--- where the answer hangs on one test, each of two answers is given exactly if it holds, or does not
-module _ {P : Type 0} {t : Bool} {x y n : Ruling} (r : (t ≡ true) ↔ P) (yes : t ≡ true → x ≡ y) (no : t ≡ false → x ≡ n)
-    (other : sort y ≡ sort n → ⊥) where
-  when-yes : (x ≡ y) ↔ P
-  when-yes = (λ e. either t (r .0) (λ z. absurd (other (ap sort (sym e ∙ no z)))), λ h. yes (r .1 h))
+-- where the answer hangs on one test, a group retreats exactly if it holds, and what was sent is refused exactly if it does not
+module _ {P : Type 0} {t : Bool} {x : Ruling} {n k : ℕ} (r : (t ≡ true) ↔ P) (no : t ≡ false → x ≡ refused n k) where
+  when-yes : {end : ℕ} → (t ≡ true → x ≡ accepted (retreatedTo end)) → AnswersRetreated x end ↔ P
+  when-yes {end} told = (
+    λ a. either t (r .0) (λ z. absurd (no-refusal (sym (a .accepts) ∙ no z))),
+    λ h. record { values = retreatedTo end; accepts = told (r .1 h); manner = refl; hex = refl },
+  )
 
-  when-no : (x ≡ n) ↔ (P → ⊥)
-  when-no = (λ e h. other (ap sort (sym (yes (r .1 h)) ∙ e)), λ h. no (fails t r .1 h))
+  when-no : {vs : Values} → (t ≡ true → x ≡ accepted vs) → (x ≡ refused n k) ↔ (P → ⊥)
+  when-no told = (λ e h. no-refusal (sym (told (r .1 h)) ∙ e), λ h. no (fails t r .1 h))
 
 -- a test of the route, and nothing beside it
 with-none : {P : Type 0} (t : Bool) (pushes : List ℕ) → (t ≡ true) ↔ P → ((t && none pushes) ≡ true) ↔ P × (pushes ≡ [])
@@ -195,8 +206,8 @@ pub destroyed-right : DestroyedRight
 destroyed-right p h route pushes d =
     let b = board p in
     let x = answerTo p h route pushes in
-    let other : (f : Fate) → x ≡ answerOf (endOf b route) f → (sort (answerOf (endOf b route) f) ≡ 2 → ⊥) → x ≡ accepted (2 ∷ []) → ⊥ =
-    λ f e k a. k (ap sort (sym e ∙ a)) in (
+    let other : (f : Fate) → x ≡ answerOf (endOf b route) f → (sort (answerOf (endOf b route) f) ≡ 4 → ⊥) → AnswersDestroyed x → ⊥ =
+    λ f e k a. k (ap sort (sym e ∙ a .accepts) ∙ ap rank (a .manner)) in (
       λ a.
           either (doomed b h)
           (λ e.
@@ -214,31 +225,36 @@ destroyed-right p h route pushes d =
           either (serves b h route pushes)
           (λ f. other F.Pushing (answered d (fate-pushing b h route pushes e r f)) (λ z. omega arith) a)
           (λ f. other F.NoPushes (answered d (fate-no-pushes b h route pushes e r f)) (λ z. omega arith) a)))),
-      λ l. answered d (fate-lost b h route pushes (lost-any b h (l .0)) (parts-right b h route pushes .1 (l .1, l .2))),
+      λ l.
+          record {
+            values = eliminated;
+            accepts = answered d (fate-lost b h route pushes (lost-any b h (l .0)) (parts-right b h route pushes .1 (l .1, l .2)));
+            manner = refl;
+          },
     )
 
 pub trapped-right : TrappedRight
 trapped-right p h route pushes d t =
     let b = board p in
     let e = lost-any b h t in
-    let yes : parts b h route pushes ≡ true → answerTo p h route pushes ≡ accepted (2 ∷ []) =
+    let yes : parts b h route pushes ≡ true → answerTo p h route pushes ≡ accepted eliminated =
     λ f. answered d (fate-lost b h route pushes e f) in
     let no : parts b h route pushes ≡ false → answerTo p h route pushes ≡ refused 14 0 =
     λ f. answered d (fate-no-part b h route pushes e f) in
-    when-no (parts-right b h route pushes) yes no (λ z. omega arith)
+    when-no (parts-right b h route pushes) no yes
 
 pub retreated-right : RetreatedRight
 retreated-right p h route pushes d y n =
     let b = board p in
     let r = route-right b h .1 y in
     let e = spared-route b h (walks b h n) r in
-    let yes : fits b h route pushes ≡ true → answerTo p h route pushes ≡ accepted (1 ∷ endOf b route ∷ []) =
+    let yes : fits b h route pushes ≡ true → answerTo p h route pushes ≡ accepted (retreatedTo (endOf b route)) =
     λ f. answered d (fate-vacant b h route pushes e r f) in
     let no : fits b h route pushes ≡ false → answerTo p h route pushes ≡ refused 14 0 =
     λ f. answered d (fate-no-route b h route pushes e r f) in
     record {
-      retreats = when-yes (fits-right b h route pushes) yes no (λ z. omega arith);
-      refuses = when-no (fits-right b h route pushes) yes no (λ z. omega arith);
+      retreats = when-yes (fits-right b h route pushes) no yes;
+      refuses = when-no (fits-right b h route pushes) no yes;
     }
 
 pub pushed-right : PushedRight
@@ -247,13 +263,13 @@ pushed-right p h route pushes d m y n =
     let r = fails (hasRoute b h) (route-right b h) .1 m in
     let e = spared-series b h (walks b h n) (series-right b h .1 y) in
     let t = legal-pushes-right b (groupForce b h) h (b .desk .battle .owed) route pushes in
-    let yes : serves b h route pushes ≡ true → answerTo p h route pushes ≡ accepted (1 ∷ endOf b route ∷ []) =
+    let yes : serves b h route pushes ≡ true → answerTo p h route pushes ≡ accepted (retreatedTo (endOf b route)) =
     λ f. answered d (fate-pushing b h route pushes e r f) in
     let no : serves b h route pushes ≡ false → answerTo p h route pushes ≡ refused 17 0 =
     λ f. answered d (fate-no-pushes b h route pushes e r f) in
     record {
-      retreats = when-yes t yes no (λ z. omega arith);
-      refuses = when-no t yes no (λ z. omega arith);
+      retreats = when-yes t no yes;
+      refuses = when-no t no yes;
     }
 
 -- units of two forces do not both owe

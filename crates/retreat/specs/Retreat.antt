@@ -15,6 +15,7 @@ use Rattle.position.specs.Crowd.{owesAt, routes}
 use Rattle.position.specs.Change.{Change}
 use Rattle.position.specs.Change.Change.{placed, destroyed, assigned, routed}
 use Rattle.position.specs.Effect.{change}
+use Rattle.ruling.specs.Values.{Values, retreatedTo, eliminated}
 use Rattle.ruling.specs.Verdict.{Verdict}
 use Rattle.ruling.specs.Verdict.Judge.{rule}
 use Rattle.ruling.specs.Verdict.Verdict.{refuseIf, judge}
@@ -89,9 +90,9 @@ pushChanges b h route pushes = noteOf b h route ∷ marches (change b (noteOf b 
 unfoldable pub doomChanges : Board → ℕ → List ℕ → List Change
 doomChanges b h route = noteOf b h route ∷ map destroyed (group b h)
 
--- "The answer is one of: retreated with its end, destroyed, or refused": 1 and the end, or 2
-unfoldable pub retreatValues : Board → ℕ → List ℕ → List ℕ
-retreatValues b h route = cond (doomed b h) (2 ∷ []) (1 ∷ endOf b route ∷ [])
+-- "The answer is one of: retreated with its end, destroyed, or refused"
+unfoldable pub retreatValues : Board → ℕ → List ℕ → Values
+retreatValues b h route = cond (doomed b h) eliminated (retreatedTo (endOf b route))
 
 -- what the questions before that of the route leave known
 pub record Owing (b : Board) (h : ℕ) : Type 0 where

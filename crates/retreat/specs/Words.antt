@@ -12,7 +12,8 @@ use Rattle.position.specs.Board.{Board, board, forceOf, nowhere}
 use Rattle.position.specs.Crowd.{owesAt, routes}
 use Rattle.acceptance.specs.Accepted.{Accepted}
 use Rattle.ruling.specs.Verdict.{Ruling, afterCheck, outcome}
-use Rattle.ruling.specs.Verdict.Ruling.{refused, accepted}
+use Rattle.ruling.specs.Verdict.Ruling.{refused}
+use Rattle.ruling.specs.Answers.{AnswersDestroyed, AnswersRetreated}
 use Rattle.field.specs.Listed.{Charted}
 use Rattle.routes.specs.Run.{LegalRoute, RouteExists}
 use Rattle.routes.specs.Part.{PartRoute}
@@ -83,7 +84,7 @@ pub record PartFor (b : Board) (h : ℕ) (route : List ℕ) : Type 0 where
 abbrev pub DestroyedRight : Type 0
 DestroyedRight =
     (p : List ℕ) (h : ℕ) (route pushes : List ℕ) → Due p h route pushes
-    → (answerTo p h route pushes ≡ accepted (2 ∷ [])) ↔ Trapped (board p) h × PartFor (board p) h route × (pushes ≡ [])
+    → AnswersDestroyed (answerTo p h route pushes) ↔ Trapped (board p) h × PartFor (board p) h route × (pushes ≡ [])
 
 -- and one that is trapped is refused by 14 exactly if it was sent anything else
 abbrev pub TrappedRight : Type 0
@@ -99,14 +100,14 @@ pub record Road (p : List ℕ) (h : ℕ) (route : List ℕ) (after : Board) : Ty
 
 abbrev pub RoadRight : Type 0
 RoadRight =
-    (p : List ℕ) (h : ℕ) (route pushes : List ℕ) → Due p h route pushes → answerTo p h route pushes ≡ accepted (2 ∷ [])
+    (p : List ℕ) (h : ℕ) (route pushes : List ℕ) → Due p h route pushes → AnswersDestroyed (answerTo p h route pushes)
     → (boardAfter p h route pushes .desk .battle .stage ≡ Stage.quiet → ⊥) → Road p h route (boardAfter p h route pushes)
 
 -- if a vacant route exists, the group retreats to the route's end exactly if the route sent is one and no pushes were sent, and is refused
 -- by 14 exactly if not
 pub record ByRoute (p : List ℕ) (h : ℕ) (route pushes : List ℕ) : Type 0 where
   pub retreats :
-      (answerTo p h route pushes ≡ accepted (1 ∷ endOf (board p) route ∷ [])) ↔ LegalFor (board p) h route × (pushes ≡ [])
+      AnswersRetreated (answerTo p h route pushes) (endOf (board p) route) ↔ LegalFor (board p) h route × (pushes ≡ [])
   pub refuses : (answerTo p h route pushes ≡ refused 14 0) ↔ (LegalFor (board p) h route × (pushes ≡ []) → ⊥)
 
 abbrev pub RetreatedRight : Type 0
@@ -117,7 +118,7 @@ RetreatedRight =
 -- if only pushes serve, it retreats exactly if route and pushes are legal together, and is refused by 17 exactly if not
 pub record ByPushes (p : List ℕ) (h : ℕ) (route pushes : List ℕ) : Type 0 where
   pub retreats :
-      (answerTo p h route pushes ≡ accepted (1 ∷ endOf (board p) route ∷ [])) ↔ LegalWith (board p) h route pushes
+      AnswersRetreated (answerTo p h route pushes) (endOf (board p) route) ↔ LegalWith (board p) h route pushes
   pub refuses : (answerTo p h route pushes ≡ refused 17 0) ↔ (LegalWith (board p) h route pushes → ⊥)
 
 abbrev pub PushedRight : Type 0

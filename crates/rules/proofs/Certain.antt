@@ -7,7 +7,7 @@ use Rattle.retreat.proofs.Words.{group-right, destroyed-right, trapped-right, r
 use Rattle.rules.specs.Order.{step}
 use Rattle.rules.specs.Referee.{Meets}
 use Rattle.rules.specs.Certain.{DemandOne, DemandTwo, Certain}
-use Rattle.rules.proofs.Demands.{total, one-result, refusals-leave-all, supply-right, stays-accepted, old-desks-right, secrecy}
+use Rattle.rules.proofs.Demands.{total, one-result, numbers-right, refusals-leave-all, supply-right, stays-accepted, old-desks-right, secrecy}
 use Rattle.rules.proofs.Referees.{agree}
 use Rattle.rules.proofs.Rulings.{small-rulings}
 use Rattle.rules.proofs.Useless.{four-useless}
@@ -17,7 +17,7 @@ rules-meet : Meets step
 rules-meet p c = record { answers = refl; leaves = refl; lends = refl }
 
 demand-one : DemandOne
-demand-one = record { total = total; one = one-result; leaves = refusals-leave-all }
+demand-one = record { total = total; one = one-result; numbers = numbers-right; leaves = refusals-leave-all }
 
 demand-two : DemandTwo
 demand-two =

@@ -14,11 +14,14 @@ use Rattle.position.specs.Change.{makes}
 use Rattle.acceptance.specs.Accepted.{Accepted}
 use Rattle.position.specs.Effect.{changes}
 use Rattle.position.proofs.Players.{old-enemy, old-neutral}
+use Rattle.ruling.specs.Values.{accepting}
 use Rattle.ruling.specs.Verdict.{Met}
 use Rattle.ruling.specs.Verdict.Ruling.{accepted}
 use Rattle.ruling.proofs.Meets.{pass, ruled, only, untouched}
 use Rattle.ruling.proofs.Checks.{checked}
 use Rattle.ruling.proofs.Kept.{Kept, kept-checked, kept-past, kept-ruled}
+use Rattle.ruling.proofs.Bounded.{Bounded, bounded-checked}
+use Rattle.ruling.proofs.Packs.{packs}
 use Rattle.ruling.proofs.Secrets.{secret-runs}
 use Rattle.ruling.proofs.OldDesks.{old-desks}
 use Rattle.field.specs.Scene.{scene}
@@ -26,15 +29,20 @@ use Rattle.walk.specs.Chain.{OneIf}
 use Rattle.walk.proofs.Marks.{tab-at}
 use Rattle.supply.specs.Supply.{supplied, supplyMap, supplyRule}
 use Rattle.supply.proofs.Supplies.{supplied-right}
+use Rattle.supply.proofs.Bounds.{supply-bounded}
+use Rattle.march.proofs.Bounds.{move-bounded, end-bounded}
 use Rattle.march.proofs.KeepMove.{move-keeps}
 use Rattle.march.proofs.KeepEnd.{end-keeps}
+use Rattle.battle.proofs.Bounds.{attack-bounded}
 use Rattle.battle.proofs.KeepAttack.{attack-keeps}
+use Rattle.aftermath.proofs.Bounds.{losses-bounded, advance-bounded, close-bounded}
 use Rattle.aftermath.proofs.KeepLosses.{losses-keeps}
 use Rattle.aftermath.proofs.KeepAdvance.{advance-keeps, close-keeps}
+use Rattle.retreat.proofs.Bounds.{retreat-bounded}
 use Rattle.retreat.proofs.KeepRetreat.{retreat-keeps}
-use Rattle.rules.specs.Order.{Order, ruleOf, verdict, step}
+use Rattle.rules.specs.Order.{Order, ruleOf, repliesOf, verdict, step}
 use Rattle.rules.specs.Order.Order.{supply, move, endPhase, attack, retreat, losses, advance, close}
-use Rattle.rules.specs.Demands.{Total, SupplyRight, StaysAccepted, OldDesksRight, Secrecy, OneResult, RefusalsLeaveAll}
+use Rattle.rules.specs.Demands.{Total, NumbersRight, SupplyRight, StaysAccepted, OldDesksRight, Secrecy, OneResult, RefusalsLeaveAll}
 
 pub total : Total
 total p c = (step p c, record { answers = refl; leaves = refl; lends = refl })
@@ -42,7 +50,7 @@ total p c = (step p c, record { answers = refl; leaves = refl; lends = refl })
 -- what an accepted supply call hands back
 supply-lends :
     (p l : List ℕ) (n : ℕ) → Accepted p → length l ≡ board p .map .hexes → n ≤ 4
-    → Met p l (verdict p (supply n) l) (accepted []) p (supplyMap (scene (board p)) n)
+    → Met p l (verdict p (supply n) l) (accepted accepting) p (supplyMap (scene (board p)) n)
 unfolding ruleOf supplyRule makes
 supply-lends p l n a e le =
     checked a
@@ -78,6 +86,21 @@ order-keeps p l close a = close-keeps a
 
 pub stays-accepted : StaysAccepted
 stays-accepted p c a = kept-checked a (order-keeps p (c .lent) (c .order) a) .ok
+
+-- every answer has room in a number
+order-bounded : (p l : List ℕ) (o : Order) → Accepted p → Bounded (repliesOf o) p l (ruleOf (board p) o (length l))
+unfolding ruleOf repliesOf
+order-bounded p l (supply n) a = supply-bounded (board p) n (length l)
+order-bounded p l (move u path) a = move-bounded (board p) u path
+order-bounded p l endPhase a = end-bounded (board p) (length l)
+order-bounded p l (attack target units die) a = attack-bounded a target units die (length l)
+order-bounded p l (retreat hex route pushes) a = retreat-bounded a hex route pushes
+order-bounded p l (losses units) a = losses-bounded (board p) units
+order-bounded p l (advance unit hex) a = advance-bounded (board p) unit hex
+order-bounded p l close a = close-bounded (board p)
+
+pub numbers-right : NumbersRight
+numbers-right p c = packs (repliesOf (c .order)) (step p c .answer) (bounded-checked (order-bounded p (c .lent) (c .order)) .ok)
 
 pub old-desks-right : OldDesksRight
 old-desks-right = record { enemies = old-enemy; neutrals = old-neutral; rulings = old-desks ruleOf }

@@ -11,6 +11,8 @@ use Rattle.position.specs.Board.{Board, board}
 use Rattle.position.proofs.Tallies.{either, same-or}
 use Rattle.acceptance.specs.Accepted.{Accepted}
 use Rattle.ruling.specs.Secret.{Sent}
+use Rattle.ruling.specs.Values.{Values}
+use Rattle.ruling.specs.Answers.{IsAccepted}
 use Rattle.ruling.specs.Verdict.{Ruling}
 use Rattle.ruling.specs.Verdict.Ruling.{accepted}
 use Rattle.clock.specs.Clock.{isLast}
@@ -19,7 +21,6 @@ use Rattle.rules.specs.Order.Order.{close, endPhase, losses}
 use Rattle.rules.specs.Onward.{
   AllAccepted,
   Falls,
-  IsAccepted,
   NeverStuck,
   OnwardAccepted,
   PlayedOut,
@@ -83,7 +84,7 @@ goes p a o =
     let e : b .desk .battle .stage ≡ 3 = omega arith in
     goes-as (order-advances b e) (close-goes a e))))
 
-is-accepted : {a : Ruling} {vs : List ℕ} → a ≡ accepted vs → IsAccepted a
+is-accepted : {a : Ruling} {vs : Values} → a ≡ accepted vs → IsAccepted a
 is-accepted e = subst IsAccepted (sym e) tt
 
 pub onward-accepted : OnwardAccepted

@@ -10,6 +10,7 @@ use Rattle.position.specs.Effect.{changes}
 use Rattle.position.proofs.Changes.{board-makes}
 use Rattle.acceptance.specs.Accepted.{Accepted}
 use Rattle.ruling.specs.Secret.{Sent}
+use Rattle.ruling.specs.Values.{Values}
 use Rattle.ruling.specs.Verdict.{Met}
 use Rattle.ruling.specs.Verdict.Ruling.{accepted}
 use Rattle.ruling.proofs.Checks.{checked}
@@ -17,16 +18,16 @@ use Rattle.rules.specs.Order.{Order, ruleOf, step}
 use Rattle.rules.specs.Onward.{left}
 
 pub record Goes (p : List ℕ) (c : Sent Order) : Type 0 where
-  pub values : List ℕ
+  pub values : Values
   pub answers : step p c .answer ≡ accepted values
   pub falls : left (board (step p c .position)) < left (board p)
 
 -- a rule that is met with an acceptance on an accepted position, where its changes leave less
 pub goes-met :
-    {p vs m : List ℕ} → Accepted p → (c : Sent Order) (xs : List Change)
+    {p m : List ℕ} {vs : Values} → Accepted p → (c : Sent Order) (xs : List Change)
     → Met p (c .lent) (ruleOf (board p) (c .order) (length (c .lent))) (accepted vs) (makes p xs) m
     → left (changes (board p) xs) < left (board p) → Goes p c
-goes-met {p} {vs} a c xs r f =
+goes-met {p} {vs = vs} a c xs r f =
     let g = checked a r in
     record {
       values = vs;

@@ -8,6 +8,8 @@ use lib.ListN.{replicate}
 use Rattle.position.specs.Layout.{phase, hex}
 use Rattle.position.specs.Parts.{butDesk, built, deskPhase}
 use Rattle.acceptance.specs.Examples.{roster, rosterParts}
+use Rattle.ruling.specs.Values.{accepting}
+use Rattle.ruling.proofs.Meets.{no-refusal}
 use Rattle.ruling.specs.Verdict.{Ruling, Outcome}
 use Rattle.ruling.specs.Verdict.Ruling.{refused, accepted}
 use Rattle.ruling.specs.Secret.{Sent}
@@ -45,7 +47,7 @@ untouched-alike p q (c ∷ cs) a h =
     let o = secrecy p q (c ∷ []) a (h .0, tt) in (o .0, o .1, a, untouched-alike p q cs a (h .1))
 
 -- on the roster's position the phase ends, and nothing else changes; a sixth nationality is refused
-ended : step roster ending ≡ record { answer = accepted []; position = built (butDesk rosterParts deskPhase 1); lent = replicate 3 0 }
+ended : step roster ending ≡ record { answer = accepted accepting; position = built (butDesk rosterParts deskPhase 1); lent = replicate 3 0 }
 unfolding playing
 ended = refl
 
@@ -53,17 +55,14 @@ sixth-out : step roster sixth .answer ≡ refused 3 0
 unfolding playing
 sixth-out = refl
 
-no-refusal : {n k : ℕ} {vs : List ℕ} → refused n k ≡ accepted vs → ⊥
-no-refusal e = let z : _≡_ {A = ℕ} 0 1 = cc in omega arith
-
 refusing-out : (number place : Sent Order → ℕ) → Meets (refusesAll number place) → ⊥
 unfolding refusesAll
-refusing-out number place m = no-refusal (m roster ending .answers ∙ ap (λ (o : Outcome). o .answer) ended)
+refusing-out number place m = no-refusal (sym (m roster ending .answers ∙ ap (λ (o : Outcome). o .answer) ended))
 
 same-out : (a : Ruling) → Meets (alwaysRules a) → ⊥
 unfolding alwaysRules
 same-out a m =
-    no-refusal (sym (m roster sixth .answers ∙ sixth-out) ∙ (m roster ending .answers ∙ ap (λ (o : Outcome). o .answer) ended))
+    no-refusal (sym (m roster ending .answers ∙ ap (λ (o : Outcome). o .answer) ended) ∙ (m roster sixth .answers ∙ sixth-out))
 
 untouched-out : Meets leavesUntouched → ⊥
 unfolding playing leavesUntouched

@@ -4,16 +4,18 @@
 use Rattle.shoves.specs.Played.{LegalPlayedRight}
 use Rattle.retreat.specs.Words.{GroupRight, DestroyedRight, TrappedRight, RoadRight, RetreatedRight, PushedRight}
 use Rattle.rules.specs.Order.{step}
-use Rattle.rules.specs.Demands.{Total, OneResult, RefusalsLeaveAll, SupplyRight, StaysAccepted, OldDesksRight, Secrecy}
+use Rattle.rules.specs.Demands.{Total, NumbersRight, OneResult, RefusalsLeaveAll, SupplyRight, StaysAccepted, OldDesksRight, Secrecy}
 use Rattle.rules.specs.Referee.{Meets, Agree}
 use Rattle.rules.specs.Useless.{FourUseless}
 use Rattle.rules.specs.Rulings.{SmallRulings}
 use Rattle.rules.specs.Onward.{NeverStuck}
 
--- 1. Every call, on all bytes, orders and buffers, has an outcome that its promise allows, and no other. A refusal changes no byte.
+-- 1. Every call, on all bytes, orders and buffers, has an outcome that its promise allows, and no other. Its answer is read back from its
+-- number. A refusal changes no byte.
 pub record DemandOne : Type 0 where
   pub total : Total
   pub one : OneResult
+  pub numbers : NumbersRight
   pub leaves : RefusalsLeaveAll
 
 -- 2. The rulings of the rules keep every promise, and a referee that keeps every promise gives no others. A unit is in supply exactly if an

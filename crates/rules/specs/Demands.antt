@@ -10,12 +10,13 @@ use Rattle.position.specs.Board.{board, enemy, neutral}
 use Rattle.acceptance.specs.Accepted.{Accepted}
 use Rattle.ruling.specs.Verdict.{Ruling, Outcome, Met}
 use Rattle.ruling.specs.Verdict.Ruling.{refused}
+use Rattle.ruling.specs.Packed.{Packs}
 use Rattle.ruling.specs.Secret.{Sent, Keeping, SecretRuns}
 use Rattle.ruling.specs.OldDesk.{OldDesk, OldDesks}
 use Rattle.field.specs.Scene.{scene}
 use Rattle.walk.specs.Chain.{mark, OneIf}
 use Rattle.supply.specs.Supply.{Supplied}
-use Rattle.rules.specs.Order.{Order, ruleOf, verdict, step}
+use Rattle.rules.specs.Order.{Order, ruleOf, repliesOf, verdict, step}
 use Rattle.rules.specs.Order.Order.{supply}
 
 -- demand 1: "Every call takes every position, order, list and roll, bad ones included, ends, and answers with a ruling or a refusal by
@@ -24,6 +25,11 @@ abbrev pub Total : Type 0
 Total =
     (p : List ℕ) (c : Sent Order)
     → (o : Outcome) × Met p (c .lent) (verdict p (c .order) (c .lent)) (o .answer) (o .position) (o .lent)
+
+-- and the number that the C library answers with is read back: it and the order give the ruling, its low byte is 0 exactly if the call is
+-- accepted, and refusals are 1 to 18
+abbrev pub NumbersRight : Type 0
+NumbersRight = (p : List ℕ) (c : Sent Order) → Packs (repliesOf (c .order)) (step p c .answer)
 
 -- "A unit is in supply exactly if an unblocked line of hexes to a source exists.": what an accepted supply call writes for a hex is 1 if
 -- the chain exists, and 0 if it does not

@@ -13,8 +13,7 @@ use Rattle.position.specs.Board.{Board, board}
 use Rattle.position.specs.Crowd.{holders}
 use Rattle.position.specs.Tally.{any}
 use Rattle.acceptance.specs.Accepted.{Accepted}
-use Rattle.ruling.specs.Verdict.{Ruling}
-use Rattle.ruling.specs.Verdict.Ruling.{refused, accepted}
+use Rattle.ruling.specs.Answers.{IsAccepted}
 use Rattle.ruling.specs.Secret.{Sent}
 use Rattle.field.specs.Listed.{sieve}
 use Rattle.routes.specs.declared.Found.{Found}
@@ -97,10 +96,6 @@ phasesOf b = phasesLeft (b .desk .lastTurn) (b .desk .clock)
 
 unfoldable pub left : Board → ℕ
 left b = phasesOf b + battleLeft b
-
-abbrev pub IsAccepted : Ruling → Type 0
-IsAccepted (refused n k) = ⊥
-IsAccepted (accepted vs) = Unit {0}
 
 -- unless the game is over, the order is accepted
 abbrev pub OnwardAccepted : Type 0

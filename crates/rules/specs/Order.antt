@@ -3,6 +3,8 @@
 use Prim.Native.Nat.{ℕ}
 use mathlib.Core.List.{List}
 use Rattle.ruling.specs.Verdict.{Verdict, Outcome}
+use Rattle.ruling.specs.Packed.{Replies}
+use Rattle.ruling.specs.Packed.Replies.{plainly, ofBattle, ofRetreat}
 use Rattle.ruling.specs.Secret.{Sent, Rules, verdictOn, afterCall}
 use Rattle.supply.specs.Supply.{supplyRule}
 use Rattle.march.specs.Move.{moveRule}
@@ -35,6 +37,17 @@ ruleOf b (retreat hex route pushes) long = retreatRule b hex route pushes
 ruleOf b (losses units) long = lossesRule b units
 ruleOf b (advance unit hex) long = advanceRule b unit hex
 ruleOf b close long = closeRule b
+
+-- "The answer is column, from 1, and result code" of an attack; "retreated with its end, destroyed" of a retreat
+unfoldable pub repliesOf : Order → Replies
+repliesOf (supply n) = plainly
+repliesOf (move u path) = plainly
+repliesOf endPhase = plainly
+repliesOf (attack target units die) = ofBattle
+repliesOf (retreat hex route pushes) = ofRetreat
+repliesOf (losses units) = plainly
+repliesOf (advance unit hex) = plainly
+repliesOf close = plainly
 
 -- the ruling on an order with the bytes lent: refusal 1 unless the position is accepted
 abbrev pub verdict : List ℕ → Order → List ℕ → Verdict

@@ -10,6 +10,7 @@ use Rattle.acceptance.specs.Broken.{broken}
 use Rattle.position.specs.Change.{Change}
 use Rattle.position.specs.Effect.{changes}
 use Rattle.acceptance.proofs.Keeps.{accepted-makes}
+use Rattle.ruling.specs.Values.{Values}
 use Rattle.ruling.specs.Verdict.{Verdict, afterCheck, along, judged, outcome}
 use Rattle.ruling.specs.Verdict.Judge.{rule}
 use Rattle.ruling.specs.Verdict.Verdict.{refuseIf, judge}
@@ -40,6 +41,6 @@ module _ {p l : List ℕ} (a : Accepted p) where
   kept-along P f s h [] k v g = g s h
   kept-along P {next = next} f s h (x ∷ xs) k v g = f s x k _ h (λ i. kept-along P f (next s x) i xs (k + 1) v g)
 
-  pub kept-ruled : {vs m : List ℕ} (xs : List Change) → Lawful (changes (board p) xs) → Kept p l (judge (rule vs xs m))
+  pub kept-ruled : {vs : Values} {m : List ℕ} (xs : List Change) → Lawful (changes (board p) xs) → Kept p l (judge (rule vs xs m))
   unfolding outcome judged
   kept-ruled xs h = record { ok = accepted-makes a xs h }

@@ -2,6 +2,8 @@ pub mod Meets
 pub mod Checks
 pub mod Going
 pub mod Kept
+pub mod Bounded
+pub mod Packs
 pub mod Secrets
 pub mod OldDesks
 pub mod Turning

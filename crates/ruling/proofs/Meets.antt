@@ -13,6 +13,7 @@ use Rattle.position.specs.Shape.{Shaped}
 use Rattle.position.specs.Change.{Change, makes, turned}
 use Rattle.position.proofs.Front.{shaped-kept}
 use Rattle.position.proofs.Changes.{turned-made}
+use Rattle.ruling.specs.Values.{Values}
 use Rattle.ruling.specs.Verdict.{Judge, Verdict, Ruling, Outcome, revealAll, turnedAll, along, judged, outcome, Met}
 use Rattle.ruling.specs.Verdict.Judge.{reveal, rule}
 use Rattle.ruling.specs.Verdict.Verdict.{refuseIf, judge}
@@ -44,7 +45,7 @@ unfolding along
 along-at test next s xs i k v l = rw (add-one, drop-cons xs i 0 l)
 
 -- at the end of the judgement
-pub ruled : {p l : List ℕ} {vs : List ℕ} {xs : List Change} {m q : List ℕ} → q ≡ makes p xs → Met p l (judge (rule vs xs m)) (accepted vs) q m
+pub ruled : {p l : List ℕ} {vs : Values} {xs : List Change} {m q : List ℕ} → q ≡ makes p xs → Met p l (judge (rule vs xs m)) (accepted vs) q m
 unfolding outcome judged
 ruled e = record { answers = refl; leaves = e; lends = refl }
 
@@ -67,11 +68,15 @@ only g h =
       lent = g .lends ∙ sym (h .lends);
     }
 
+-- what is accepted is not refused
+pub no-refusal : {vs : Values} {n k : ℕ} → accepted vs ≡ refused n k → ⊥
+no-refusal e = let z : _≡_ {A = ℕ} 0 1 = cc in omega arith
+
 -- a judgement is no refusal, and a refusal changes no byte
 pub rules : (p : List ℕ) (j : Judge) {n k : ℕ} → judged p j .answer ≡ refused n k → ⊥
 unfolding judged
 rules p (reveal u f) e = rules (turned p u) (f (strength p u)) e
-rules p (rule vs xs l) e = let z : _≡_ {A = ℕ} 0 1 = cc in omega arith
+rules p (rule vs xs l) e = no-refusal e
 
 pub untouched : (p l : List ℕ) (v : Verdict) {n k : ℕ} → outcome p l v .answer ≡ refused n k → (outcome p l v .position ≡ p) × (outcome p l v .lent ≡ l)
 unfolding outcome

@@ -13,12 +13,12 @@ use Rattle.position.proofs.Twins.{twin-makes}
 use Rattle.acceptance.specs.Accepted.{Accepted}
 use Rattle.acceptance.specs.Broken.{accepted?, broken-true}
 use Rattle.acceptance.proofs.OldDesks.{broken-with}
-use Rattle.ruling.specs.Verdict.{Judge, Verdict, Outcome, afterCheck, judged, outcome}
+use Rattle.ruling.specs.Verdict.{Judge, Verdict, afterCheck, judged, outcome}
 use Rattle.ruling.specs.Verdict.Judge.{reveal, rule}
 use Rattle.ruling.specs.Verdict.Verdict.{refuseIf, judge}
 use Rattle.ruling.specs.Verdict.Ruling.{accepted}
-use Rattle.ruling.specs.Secret.{Sent, Rules, verdictOn, afterCall}
-use Rattle.ruling.specs.OldDesk.{OldDesk, playersIn, OldDesks}
+use Rattle.ruling.specs.Secret.{Rules, verdictOn, afterCall}
+use Rattle.ruling.specs.OldDesk.{playersIn, OldDesks}
 
 -- one judgement of both
 judged-with : (j : Judge) (p q : List ℕ) → Lengthened p q → judged q j ≡ playersIn (judged p j)

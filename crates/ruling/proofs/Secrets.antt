@@ -1,24 +1,23 @@
 -- Secrecy over the language, once for all calls: it asks only that what is turned over is equal, at the moment when it is.
 -- Assumes nothing.
 use Prim.Native.Nat.{ℕ}
-use mathlib.Core.Path.{_≡_, refl, sym, ap, ap₂, _∙_}
+use mathlib.Core.Path.{_≡_, refl, sym, ap₂, _∙_}
 use mathlib.Core.Bool.{Bool, true, false}
 use mathlib.Core.List.{List, [], _∷_}
 use lib.ListN.{length}
 use Rattle.position.specs.Layout.{strength}
-use Rattle.position.specs.Board.{Board, board}
+use Rattle.position.specs.Board.{Board}
 use Rattle.position.specs.Shape.{Shaped}
-use Rattle.acceptance.specs.Accepted.{Accepted}
 use Rattle.acceptance.specs.Broken.{broken-false}
-use Rattle.position.specs.Change.{Change, makes, turned}
+use Rattle.position.specs.Change.{turned}
 use Rattle.acceptance.specs.Alike.{Same, Alike}
 use Rattle.position.proofs.Front.{shaped-kept}
 use Rattle.position.proofs.Changes.{turned-made}
 use Rattle.acceptance.proofs.Alikes.{front-same, board-alike, same-makes, same-turned}
-use Rattle.ruling.specs.Verdict.{Judge, Verdict, Outcome, afterCheck, judged, outcome, revealedBy, revealed}
+use Rattle.ruling.specs.Verdict.{Judge, Verdict, afterCheck, judged, outcome, revealedBy, revealed}
 use Rattle.ruling.specs.Verdict.Judge.{reveal, rule}
 use Rattle.ruling.specs.Verdict.Verdict.{refuseIf, judge}
-use Rattle.ruling.specs.Secret.{Each, OneStrength, SameOutcome, Sent, Rules, verdictOn, afterCall, Keeping, ShownAlike, RunsAlike, SecretRuns}
+use Rattle.ruling.specs.Secret.{Each, OneStrength, SameOutcome, Sent, Rules, verdictOn, afterCall, Keeping, SecretRuns}
 
 pub each-by : {P Q : ℕ → Type 0} → ((u : ℕ) → P u → Q u) → (us : List ℕ) → Each P us → Each Q us
 each-by f [] h = tt

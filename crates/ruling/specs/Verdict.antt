@@ -8,11 +8,12 @@ use mathlib.Core.List.{List, [], _∷_}
 use Rattle.position.specs.Layout.{strength}
 use Rattle.position.specs.Change.{Change, makes, turned}
 use Rattle.acceptance.specs.Broken.{broken}
+use Rattle.ruling.specs.Values.{Values}
 
 -- a unit is turned over and its strength handed on; at the end stand the answer's values, the changes, and the bytes handed back
 pub data Judge : Type 0 where
   reveal : ℕ → (ℕ → Judge) → Judge
-  rule : List ℕ → List Change → List ℕ → Judge
+  rule : Values → List Change → List ℕ → Judge
 
 -- "Each answers its number with the offending place": test, number, place, and what follows where the test does not hold
 pub data Verdict : Type 0 where
@@ -41,7 +42,7 @@ along test next s (x ∷ xs) k v = test s x k (along test next (next s x) xs (k 
 -- an answer in document 01's numbers: a refusal's number and place, or the values of what is accepted
 pub data Ruling : Type 0 where
   refused : ℕ → ℕ → Ruling
-  accepted : List ℕ → Ruling
+  accepted : Values → Ruling
 
 -- what a call answers, and what it leaves of the position and of the buffer that was lent
 pub record Outcome : Type 0 where

@@ -1,2 +1,3 @@
 pub mod Grading
 pub mod Supplies
+pub mod Bounds

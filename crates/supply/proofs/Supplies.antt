@@ -12,6 +12,7 @@ use Rattle.position.specs.declared.View.{View}
 use Rattle.position.specs.Ground.{next}
 use Rattle.position.proofs.Tallies.{either}
 use Rattle.position.specs.Change.{makes}
+use Rattle.ruling.specs.Values.{accepting}
 use Rattle.ruling.specs.Verdict.{judged, outcome, Met}
 use Rattle.ruling.specs.Verdict.Judge.{rule}
 use Rattle.ruling.specs.Verdict.Verdict.{judge}
@@ -82,6 +83,6 @@ pub own-length : {n k : ℕ} → n ≡ k → not (eqb n k) ≡ false
 own-length {n} {k} e = ap not (eq-eqb n k e)
 
 -- the supply map handed back, and the position as it was
-pub filled : {p l m r : List ℕ} → m ≡ r → Met p l (judge (rule [] [] r)) (accepted []) p m
+pub filled : {p l m r : List ℕ} → m ≡ r → Met p l (judge (rule accepting [] r)) (accepted accepting) p m
 unfolding outcome judged makes
 filled e = record { answers = refl; leaves = refl; lends = e }

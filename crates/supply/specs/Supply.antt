@@ -6,6 +6,7 @@ use mathlib.Core.List.{List, []}
 use lib.Dec.{ltb, eqb}
 use Rattle.position.specs.Board.{Board}
 use Rattle.position.specs.Ground.{next}
+use Rattle.ruling.specs.Values.{accepting}
 use Rattle.ruling.specs.Verdict.{Verdict}
 use Rattle.ruling.specs.Verdict.Judge.{rule}
 use Rattle.ruling.specs.Verdict.Verdict.{refuseIf, judge}
@@ -36,4 +37,4 @@ unfoldable pub supplyRule : Board → ℕ → ℕ → Verdict
 supplyRule b n long =
     refuseIf (not (eqb long (b .map .hexes))) 3 0
     (refuseIf (ltb 4 n) 3 0
-    (judge (rule [] [] (supplyMap (scene b) n))))
+    (judge (rule accepting [] (supplyMap (scene b) n))))

@@ -4,7 +4,7 @@ use mathlib.Core.Path.{sym, ap, _∙_}
 use borrow.Author.Needs.{needs}
 use Rattle.ruling.specs.Answers.{answerAs}
 use Rattle.ruling.specs.declared.Answer.{Answer}
-use Rattle.referee.specs.Packed.{packed, valuesOf}
+use Rattle.ruling.specs.Packed.{packed, valuesOf}
 use Rattle.referee.proofs.pack_answer.Statement.{statement}
 use Rattle.referee.proofs.pack_answer.Tie as tie
 

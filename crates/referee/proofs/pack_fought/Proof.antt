@@ -4,7 +4,7 @@ use mathlib.Core.Path.{sym, ap, _∙_}
 use borrow.Author.Needs.{needs}
 use Rattle.battle.specs.Answers.{foughtAs}
 use Rattle.battle.specs.declared.Fought.{Fought}
-use Rattle.referee.specs.Packed.{packed, valuesOf}
+use Rattle.ruling.specs.Packed.{packed, valuesOf}
 use Rattle.referee.proofs.pack_fought.Statement.{statement}
 use Rattle.referee.proofs.pack_fought.Tie as tie
 

@@ -4,7 +4,7 @@ use mathlib.Core.Path.{sym, ap, _∙_}
 use borrow.Author.Needs.{needs}
 use Rattle.march.specs.Answers.{movedAs}
 use Rattle.march.specs.declared.Moved.{Moved}
-use Rattle.referee.specs.Packed.{packed, valuesOf}
+use Rattle.ruling.specs.Packed.{packed, valuesOf}
 use Rattle.referee.proofs.pack_moved.Statement.{statement}
 use Rattle.referee.proofs.pack_moved.Tie as tie
 

@@ -4,7 +4,7 @@ use mathlib.Core.Path.{sym, ap, _∙_}
 use borrow.Author.Needs.{needs}
 use Rattle.retreat.specs.Answers.{retreatedAs}
 use Rattle.retreat.specs.declared.Retreated.{Retreated}
-use Rattle.referee.specs.Packed.{packed, valuesOf}
+use Rattle.ruling.specs.Packed.{packed, valuesOf}
 use Rattle.referee.proofs.pack_retreated.Statement.{statement}
 use Rattle.referee.proofs.pack_retreated.Tie as tie
 

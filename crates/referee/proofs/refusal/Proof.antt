@@ -2,7 +2,7 @@
 -- Assumes nothing.
 use mathlib.Core.Path.{refl}
 use borrow.Author.Needs.{needs}
-use Rattle.referee.specs.Packed.{refusalOf}
+use Rattle.ruling.specs.Packed.{refusalOf}
 use Rattle.referee.proofs.refusal.Statement.{statement}
 use Rattle.referee.proofs.refusal.Tie as tie
 
