@@ -35,7 +35,7 @@ use Rattle.march.specs.Move.{
   step,
   steps,
 }
-use Rattle.march.specs.EndPhase.{clock, endRule}
+use Rattle.march.specs.EndPhase.{endRule}
 
 path-few : (path : List ℕ) → not (pathLength path) ≡ false → length path ≤ 30
 unfolding pathLength
@@ -82,4 +82,4 @@ module _ {p l : List ℕ} (b : Board) where
       bounded-past (not (eqb long (b .map .hexes))) refl
       (λ _.
       bounded-past (not (eqb (b .desk .battle .stage) 0)) refl
-      (λ _. bounded-past (isLast (clock b) (b .desk .lastTurn)) refl (λ _. bounded-ruled refl)))
+      (λ _. bounded-past (isLast (b .desk .clock) (b .desk .lastTurn)) refl (λ _. bounded-ruled refl)))
