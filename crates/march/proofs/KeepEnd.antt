@@ -10,7 +10,6 @@ use lib.Dec.{eqb}
 use borrow.Author.Tests.{eqb-true, eqb-false, not-true, not-false}
 use Rattle.position.specs.Bits.{with, without, tried, supplied, marksEnd}
 use Rattle.position.specs.Board.{Board, board, nowhere}
-use Rattle.position.specs.Shape.{In}
 use Rattle.acceptance.specs.Accepted.{Lawful, Accepted}
 use Rattle.position.specs.Change.{Change}
 use Rattle.position.specs.Change.Change.{marked, timed}

@@ -1,20 +1,16 @@
 -- Laws of one step: what it costs, the working allowance, and the step's tests by cases.
 -- Assumes nothing.
-use Prim.Native.Nat.{ℕ, zero, suc, _≤_, _<_}
-use mathlib.Core.Path.{_≡_, refl, sym, ap, ap₂, _∙_}
+use Prim.Native.Nat.{ℕ, _≤_, _<_}
+use mathlib.Core.Path.{_≡_, ap₂, _∙_}
 use mathlib.Core.Bool.{Bool, true, false, not}
 use native.Mathlib.Omega.{arith}
-use native.Mathlib.Numerals.{add-one}
-use native.Mathlib.Decide.{ℕ-discrete}
 use borrow.Author.Tests.{lt-ltb, le-ltb, eq-eqb, ne-eqb}
 use Rattle.position.specs.Bits.{has, supplied}
-use Rattle.position.specs.Tally.{any}
 use Rattle.position.specs.Layout.{river, majorRiver}
-use Rattle.position.specs.Board.{Board, Map, forceOf}
+use Rattle.position.specs.Board.{Board, forceOf}
 use Rattle.position.specs.Ground.{riverSide, majorRiverSide, joined, standable}
 use Rattle.position.specs.Laid.{Read}
-use Rattle.position.proofs.Tallies.{not-both, either, any-zero, any-miss, any-false, any-never, any-true}
-use Rattle.position.proofs.Sides.{reaches, joined-is}
+use Rattle.position.proofs.Tallies.{not-both, either}
 use Rattle.field.specs.Scene.{scene}
 use Rattle.field.specs.Zone.{enemyZone}
 use Rattle.field.specs.Working.{working}

@@ -1,7 +1,7 @@
 -- Never stuck: in every accepted position that is not the end of the game a call is accepted, and calls so chosen come to the end.
 -- Proved in proofs/Onward.antt.
 -- Assumes nothing.
-use Prim.Native.Nat.{ℕ, _+_, _*_, _-_, _≤_, _<_}
+use Prim.Native.Nat.{ℕ, _+_, _≤_, _<_}
 use mathlib.Core.Path.{_≡_}
 use mathlib.Core.Bool.{Bool, true, false, cond, _&&_}
 use mathlib.Core.List.{List, [], _∷_}

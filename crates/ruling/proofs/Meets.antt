@@ -1,6 +1,6 @@
 -- How a promise is met: along the refusals, along a list, and through what is turned over; and that it leaves nothing free.
 -- Assumes nothing.
-use Prim.Native.Nat.{ℕ, suc, _+_, _<_}
+use Prim.Native.Nat.{ℕ, _+_, _<_}
 use mathlib.Core.Path.{_≡_, refl, sym, ap, ap₂, _∙_}
 use mathlib.Core.Bool.{Bool, true, false}
 use mathlib.Core.List.{List, [], _∷_, map}
@@ -14,7 +14,7 @@ use Rattle.position.specs.Change.{Change, makes, turned}
 use Rattle.position.proofs.Front.{shaped-kept}
 use Rattle.position.proofs.Changes.{turned-made}
 use Rattle.ruling.specs.Values.{Values}
-use Rattle.ruling.specs.Verdict.{Judge, Verdict, Ruling, Outcome, revealAll, turnedAll, along, judged, outcome, Met}
+use Rattle.ruling.specs.Verdict.{Judge, Verdict, Ruling, revealAll, turnedAll, along, judged, outcome, Met}
 use Rattle.ruling.specs.Verdict.Judge.{reveal, rule}
 use Rattle.ruling.specs.Verdict.Verdict.{refuseIf, judge}
 use Rattle.ruling.specs.Verdict.Ruling.{refused, accepted}

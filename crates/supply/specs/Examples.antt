@@ -3,7 +3,7 @@
 use Prim.Native.Nat.{ℕ}
 use mathlib.Core.Path.{_≡_, refl}
 use mathlib.Core.Bool.{true, false}
-use mathlib.Core.List.{List, [], _∷_}
+use mathlib.Core.List.{[], _∷_}
 use Rattle.position.specs.Kind.{castsZone}
 use Rattle.position.specs.Board.{board, enemy}
 use Rattle.position.specs.Parts.{Parts, but, built, unitHex}

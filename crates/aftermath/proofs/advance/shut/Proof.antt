@@ -2,7 +2,6 @@
 -- Assumes nothing.
 use Prim.Native.Nat.{ℕ}
 use mathlib.Core.Path.{_≡_, sym, ap, _∙_}
-use mathlib.Core.Bool.{Bool, _||_}
 use borrow.Author.Needs.{needs}
 use Rattle.position.specs.Board.{board, forceOf}
 use Rattle.field.specs.Scene.{scene}

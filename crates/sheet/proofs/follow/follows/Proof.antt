@@ -1,7 +1,7 @@
 -- `sheet::follow::follows` meets its contract. The loop's invariant: the answer is what comes of the rest of the route and of the pushes.
 -- Assumes nothing.
 use Prim.Native.Nat.{_-_}
-use mathlib.Core.Path.{sym, _∙_}
+use mathlib.Core.Path.{sym}
 use native.Mathlib.Omega.{arith}
 use borrow.Author.Needs.{needs}
 use lib.ListN.{length}

@@ -1,7 +1,6 @@
 -- `search::begins` meets its contract: no step, the last one, or the recursion.
 -- Assumes nothing.
 use mathlib.Core.Path.{refl, sym, _∙_}
-use native.Mathlib.Omega.{arith}
 use borrow.Author.Needs.{needs}
 use Rattle.sheet.proofs.Searching.{serves-done, serves-last}
 use Rattle.sheet.proofs.search.begins.Statement.{statement}
