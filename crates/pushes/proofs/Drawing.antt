@@ -1,4 +1,4 @@
--- Laws of a drawn sheet: what its bytes are made of, and that they give back what they were made of.
+-- Laws of a drawn plot: what its bytes are made of, and that they give back what they were made of.
 -- Assumes nothing.
 use Prim.Native.Nat.{ℕ, zero, suc, _+_, _*_, _/_, _%_, _≤_, _<_}
 use mathlib.Core.Path.{_≡_, refl, sym, ap, ap₂, _∙_}
@@ -22,8 +22,8 @@ use Rattle.chains.specs.declared.Stand.{Stand}
 use Rattle.chains.specs.declared.Stand.the-variants.{Shut, Free, Loose}
 use Rattle.chains.specs.Stand.{stand}
 use Rattle.chains.specs.Chain.{leadsTo}
-use Rattle.sheet.specs.Sheet.{standOf, sideBit}
-use Rattle.sheet.specs.Places.{hexFor}
+use Rattle.plot.specs.Plot.{standOf, sideBit}
+use Rattle.plot.specs.Places.{hexFor}
 use Rattle.pushes.specs.Drawn.{standNumber, opens, openBits, byteOn, Drawn}
 
 -- a step that leads to a hex, and one that leads to none
@@ -188,7 +188,7 @@ module _ (b : Board) (f start : ℕ) where
 unfoldable pub drawing : Board → ℕ → ℕ → ℕ → ℕ → ℕ → ℕ → ℕ
 drawing b f start w h i old = byteOn b f start (hexFor w h start i)
 
--- a pass over all places draws the sheet
+-- a pass over all places draws the plot
 pub drawn : {p : List ℕ} {v : View} (f start i : ℕ) {l m : List ℕ} → ViewOf p v → length l ≡ 182 → 182 ≤ i
     → Pass (drawing (board p) f start (v .width) (v .height)) i l m → Drawn (board p) f start m
 unfolding drawing

@@ -1,4 +1,4 @@
--- The drawn sheet is a copy of the land round the start, so the search and the test answer on it as they do on the board.
+-- The drawn plot is a copy of the land round the start, so the search and the test answer on it as they do on the board.
 -- Assumes nothing.
 use Prim.Native.Nat.{ℕ, _+_, _≤_, _<_}
 use mathlib.Core.Path.{_≡_, refl, sym, ap, _∙_}
@@ -23,10 +23,10 @@ use Rattle.chains.specs.Serves.{serves, pushesServe}
 use Rattle.chains.specs.Fold.{moved, Folds, Agrees}
 use Rattle.chains.proofs.Serves.{board-bounded}
 use Rattle.chains.proofs.Fold.{same-search, same-test}
-use Rattle.sheet.specs.Sheet.{sideBit, standIn, nextIn, landIn}
-use Rattle.sheet.specs.Places.{placeFor, homeFor}
-use Rattle.sheet.proofs.Places.{place-one}
-use Rattle.sheet.proofs.Around.{
+use Rattle.plot.specs.Plot.{sideBit, standIn, nextIn, landIn}
+use Rattle.plot.specs.Places.{placeFor, homeFor}
+use Rattle.plot.proofs.Places.{place-one}
+use Rattle.plot.proofs.Around.{
   Near,
   near-start,
   near-more,
@@ -41,10 +41,10 @@ use Rattle.sheet.proofs.Around.{
 use Rattle.pushes.specs.Drawn.{standNumber, openBits, opens, Drawn}
 use Rattle.pushes.proofs.Drawing.{opens-at, opens-off, stand-back, has-back, byte-at}
 
--- every step on a sheet leads to one of its places
-sheet-bounded : (home : ℕ) (l : List ℕ) → Bounded (landIn home l)
+-- every step on a plot leads to one of its places
+plot-bounded : (home : ℕ) (l : List ℕ) → Bounded (landIn home l)
 unfolding landIn nextIn
-sheet-bounded home l =
+plot-bounded home l =
     record {
       below = λ h d z e.
           let t = under (has (sideBit d) (byte l h)) (neighbourOf 14 13 h d) e in
@@ -92,7 +92,7 @@ module _ (b : Board) (f start : ℕ) (l : List ℕ) (o : On (b .map .width) (b .
   way x d n q Off e =
       step-shut l (at x) d (drawn-open x d (near-more w h start 5 6 x n (omega arith)) q ∙ opens-off (b .map) x d (sym e) refl)
 
-  -- so the sheet is a copy of the land
+  -- so the plot is a copy of the land
   folds : Folds (landOf b start) (landIn (homeFor w start) l) at (Near w h start)
   unfolding landOf landIn
   folds =
@@ -110,7 +110,7 @@ module _ (b : Board) (f start : ℕ) (l : List ℕ) (o : On (b .map .width) (b .
   serves-there n q =
       ap (serves (landIn (homeFor w start) l) (standIn l) n 0) (sym (start-place w h start o))
       ∙ sym
-      (same-search folds agrees (board-bounded b start) (sheet-bounded (homeFor w start) l) n 0 start (near-start w h start o) (omega arith))
+      (same-search folds agrees (board-bounded b start) (plot-bounded (homeFor w start) l) n 0 start (near-start w h start o) (omega arith))
 
   -- and the test of an order says what it says there
   pub follows-there :

@@ -1,4 +1,4 @@
--- What the sheet's answers say of an order.
+-- What the plot's answers say of an order.
 -- Assumes nothing.
 use Prim.Native.Nat.{ℕ, _≤_, _<_}
 use mathlib.Core.Path.{_≡_, sym, ap, _∙_}
@@ -17,10 +17,10 @@ use Rattle.chains.specs.Stand.{stand}
 use Rattle.chains.specs.Series.{landOf}
 use Rattle.chains.specs.Follows.{follows, legalPushes}
 use Rattle.chains.specs.Serves.{serves, pushesServe}
-use Rattle.sheet.specs.Sheet.{standIn, landIn}
-use Rattle.sheet.specs.Places.{placeFor, homeFor}
-use Rattle.sheet.specs.Search.{servesIn}
-use Rattle.sheet.specs.Follow.{placesFrom, followsIn}
+use Rattle.plot.specs.Plot.{standIn, landIn}
+use Rattle.plot.specs.Places.{placeFor, homeFor}
+use Rattle.plot.specs.Search.{servesIn}
+use Rattle.plot.specs.Follow.{placesFrom, followsIn}
 use Rattle.pushes.specs.declared.Served.the-variants.{None, Wrong, Right}
 use Rattle.pushes.specs.Drawn.{Drawn}
 use Rattle.pushes.specs.Pushes.{served}
@@ -51,7 +51,7 @@ module _ (b : Board) (f start n : ℕ) (route pushes : List ℕ) where
   unfolding legalPushes
   legal-long e = simp (eq-eqb (length route) n e)
 
--- the sheet is drawn for the group, and asked
+-- the plot is drawn for the group, and asked
 module _ {p : List ℕ} {v : View} (o : Laid p v) (f start n : ℕ) (q : start < v .hexes) (t : n ≤ 3) {l : List ℕ}
     (k : Drawn (board p) f start l) where
   on : On (width p) (height p) start

@@ -1,4 +1,4 @@
--- The sheet as it is drawn from the board.
+-- The plot as it is drawn from the board.
 -- Assumes nothing.
 use Prim.Native.Nat.{ℕ, zero, suc, _+_, _<_}
 use mathlib.Core.Path.{_≡_}
@@ -14,8 +14,8 @@ use Rattle.chains.specs.declared.Stand.{Stand}
 use Rattle.chains.specs.declared.Stand.the-variants.{Shut, Free, Loose}
 use Rattle.chains.specs.Stand.{stand}
 use Rattle.chains.specs.Chain.{leadsTo}
-use Rattle.sheet.specs.Sheet.{places, sideBit}
-use Rattle.sheet.specs.Places.{hexFor}
+use Rattle.plot.specs.Plot.{places, sideBit}
+use Rattle.plot.specs.Places.{hexFor}
 
 -- the number of a stand
 abbrev pub standNumber : Stand → ℕ
@@ -37,7 +37,7 @@ unfoldable pub byteOn : Board → ℕ → ℕ → Beside → ℕ
 byteOn b f start (At x) = openBits (b .map) x 6 + standNumber (stand b f start x)
 byteOn b f start Off = 0
 
--- the sheet l is drawn for a group of force f in hex `start`
+-- the plot l is drawn for a group of force f in hex `start`
 pub record Drawn (b : Board) (f start : ℕ) (l : List ℕ) : Type 0 where
   pub long : length l ≡ places
   pub each : (i : ℕ) → i < places → byte l i ≡ byteOn b f start (hexFor (b .map .width) (b .map .height) start i)

@@ -1,18 +1,18 @@
-// Draws the sheet round the start of a retreat.
+// Draws the plot round the start of a retreat.
 ghost use mathlib.Core.Path.{_≡_};
 ghost use Prim.Native.Nat.{_+_, _<_, _≤_};
 ghost use lib.ListN.{length};
 ghost use Rattle.position.specs.Board.{board};
 ghost use Rattle.position.specs.Laid.{Laid};
 ghost use Rattle.chains.specs.declared.Stand.{Stand};
-ghost use Rattle.sheet.specs.Places.{hexFor};
+ghost use Rattle.plot.specs.Places.{hexFor};
 ghost use Rattle.pushes.specs.Drawn.{standNumber, openBits, byteOn, Drawn};
 use crate::stands;
 use chains::Stand;
 use grid::Beside;
+use plot::spot;
 use position::View;
 use position::ground;
-use sheet::spot;
 
 // The number of a stand.
 fn stand_number(s: Stand) -> usize
@@ -33,7 +33,7 @@ fn open_bits(p: &[u8], v: View, x: usize) -> usize
     let mut m = 0;
     for d in 0..6 {
         if let Beside::At(_) = ground::next(p, v, x, d) {
-            m += sheet::side_bit(d);
+            m += plot::side_bit(d);
         }
     }
     m

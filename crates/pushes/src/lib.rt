@@ -8,10 +8,10 @@ ghost use lib.ListN.{length};
 ghost use Rattle.position.specs.Board.{board};
 ghost use Rattle.position.specs.Laid.{Laid};
 ghost use Rattle.pushes.specs.Pushes.{served};
+use plot::follow;
+use plot::search;
+use plot::spot;
 use position::View;
-use sheet::follow;
-use sheet::search;
-use sheet::spot;
 
 // No series of pushes exists; one does, and what was sent is none; or it is one.
 pub enum Served {
@@ -20,7 +20,7 @@ pub enum Served {
     Right,
 }
 
-// Draws the sheet, and asks it.
+// Draws the plot, and asks it.
 fn judge_by(
     p: &[u8],
     v: View,

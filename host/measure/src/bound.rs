@@ -6,12 +6,12 @@ use std::collections::HashMap;
 /// How often a function that calls itself is in one chain at most. Its contract says so, and the prover holds it to that.
 const TURNS: [(&str, usize); 4] = [
     // `2 ≤ k` and `k + i ≤ 3`, with one step fewer at each turn
-    ("sheet::search::serves", 2),
+    ("plot::search::serves", 2),
     // `2 ≤ left` and `TrailOk`, which says `left ≤ 3`, with one stack fewer at each turn
-    ("sheet::chain::can_end", 2),
-    ("sheet::chain::gather", 2),
+    ("plot::chain::can_end", 2),
+    ("plot::chain::gather", 2),
     // `1 ≤ left`, and the same
-    ("sheet::follow::take", 3),
+    ("plot::follow::take", 3),
 ];
 
 /// The C library's functions, and what each is counted with: a return address and 256 bytes of its own. glibc's use none.
@@ -77,8 +77,8 @@ mod tests {
 
     #[test]
     fn a_recursion_has_the_turns_of_its_contract() {
-        let frames = frames(&[("sheet::chain::can_end", 40, &[("sheet::chain::can_end", 30)])]);
-        assert_eq!(bytes(&chain(&frames, "sheet::chain::can_end").unwrap()), 70);
+        let frames = frames(&[("plot::chain::can_end", 40, &[("plot::chain::can_end", 30)])]);
+        assert_eq!(bytes(&chain(&frames, "plot::chain::can_end").unwrap()), 70);
     }
 
     #[test]

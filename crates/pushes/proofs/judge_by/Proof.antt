@@ -1,4 +1,4 @@
--- `pushes::judge_by` meets its contract: the sheet is drawn, searched, and then asked whether the order is legal.
+-- `pushes::judge_by` meets its contract: the plot is drawn, searched, and then asked whether the order is legal.
 -- Assumes nothing.
 use mathlib.Core.Path.{_≡_, sym, ap, subst, _∙_}
 use native.Mathlib.Omega.{arith}

@@ -5,7 +5,7 @@ use mathlib.Core.Path.{sym, ap, ap₂, _∙_}
 use native.Mathlib.Omega.{arith}
 use Rattle.position.specs.Board.{board}
 use Rattle.position.proofs.Sides.{area-view, on-view}
-use Rattle.sheet.proofs.Places.{hex-on}
+use Rattle.plot.proofs.Places.{hex-on}
 use Rattle.pushes.specs.Drawn.{standNumber}
 use Rattle.pushes.proofs.Drawing.{byte-off, byte-at}
 use borrow.Author.Needs.{needs}

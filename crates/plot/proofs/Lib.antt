@@ -1,0 +1,10 @@
+pub mod Plots
+pub mod Places
+pub mod Around
+pub mod Trails
+pub mod Marking
+pub mod Ends
+pub mod Ending
+pub mod Taking
+pub mod Searching
+pub mod Following

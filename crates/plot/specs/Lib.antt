@@ -1,0 +1,6 @@
+pub mod Plot
+pub mod Places
+pub mod Trail
+pub mod Ends
+pub mod Search
+pub mod Follow

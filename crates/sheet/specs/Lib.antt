@@ -1,6 +1,0 @@
-pub mod Sheet
-pub mod Places
-pub mod Trail
-pub mod Ends
-pub mod Search
-pub mod Follow
