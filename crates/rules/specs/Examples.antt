@@ -12,7 +12,7 @@ use Rattle.acceptance.specs.Examples.{computing, roster, rosterParts, lessParts
 use Rattle.field.specs.Listed.{sieve}
 use Rattle.routes.specs.Examples.{searching}
 use Rattle.routes.specs.Part.{reach}
-use Rattle.clock.specs.Clock.{isLast}
+use Rattle.clock.specs.Clock.{isLast, phasesLeft}
 use Rattle.aftermath.specs.Losses.{owes}
 use Rattle.chains.specs.Examples.{pushing}
 use Rattle.shoves.specs.Group.{group, groupForce}
@@ -26,7 +26,6 @@ use Rattle.rules.specs.Onward.{
   left,
   onward,
   over,
-  phasesLeft,
   pushesFor,
   retreatOnward,
   routeFor,
