@@ -63,9 +63,6 @@ plainTerrain = one 1 ∷ one 1 ∷ []
 abbrev pub columnA : Field
 columnA = field results 0
 
-abbrev pub columnD : Field
-columnD = field results 1
-
 abbrev pub columnCode : ℕ → Field
 columnCode die = field results (1 + die)
 
@@ -74,12 +71,6 @@ abbrev pub evenOdds : Row
 evenOdds = one 1 ∷ one 1 ∷ one 1 ∷ one 2 ∷ one 3 ∷ one 4 ∷ one 7 ∷ one 9 ∷ []
 
 -- "Map: width, height"
-abbrev pub mapWidth : Field
-mapWidth = field size 0
-
-abbrev pub mapHeight : Field
-mapHeight = field size 1
-
 abbrev pub plainSize : ℕ → ℕ → Row
 plainSize w h = one w ∷ one h ∷ []
 
