@@ -39,6 +39,49 @@ pub fn text(out: &mut Output, full: usize, bytes: &[u8]) -> usize {
     f
 }
 
+// Where word `n` begins, from 0 on, of words with a bar between them: the length where there are not so many.
+fn begins(words: &[u8], n: usize) -> usize {
+    let mut left = n;
+    for i in 0..words.len() {
+        if left == 0 {
+            return i;
+        }
+        if words[i] == b'|' {
+            left -= 1;
+        }
+    }
+    words.len()
+}
+
+// Whether a word begins at `at`, and not the next bar.
+fn is_word(words: &[u8], at: usize) -> bool {
+    if words.len() <= at {
+        return false;
+    }
+    words[at] != b'|'
+}
+
+// The bytes from `from` up to the next bar.
+fn up_to_bar(out: &mut Output, full: usize, words: &[u8], from: usize) -> usize {
+    let mut f = full;
+    for i in from..words.len() {
+        if words[i] == b'|' {
+            return f;
+        }
+        f = put(out, f, words[i]);
+    }
+    f
+}
+
+// Word `n`, from 0 on, of words with a bar between them. What has no word there is written as `?`.
+pub fn nth(out: &mut Output, full: usize, words: &[u8], n: usize) -> usize {
+    let at = begins(words, n);
+    if is_word(words, at) {
+        return up_to_bar(out, full, words, at);
+    }
+    put(out, full, b'?')
+}
+
 // Blanks, one for each number from `from` up to `to`.
 pub fn blanks(out: &mut Output, full: usize, from: usize, to: usize) -> usize {
     let mut f = full;
