@@ -7,6 +7,7 @@ use native.Mathlib.Omega.{arith}
 use borrow.Author.Tests.{leb-true, eq-eqb, ne-eqb, eqb-true}
 use Rattle.position.specs.Kind.{force, mayBelong}
 use Rattle.position.specs.Board.{Board, nowhere, forceOf}
+use Rattle.position.specs.Role as Role
 use Rattle.position.proofs.Tallies.{not-both, same-or}
 use Rattle.acceptance.specs.Accepted.{UnitOk, TwoForcesOk, PairOk, UnitsOk}
 use Rattle.acceptance.specs.Asked.{AloneOk, StacksOk, OneForce, RolesOk}
@@ -50,11 +51,11 @@ module _ {b : Board} {u : ℕ} (a : AloneOk b u) where
 
 module _ {b : Board} where
   -- roles are 1 and 2, where they are not 0
-  two-roles : RolesOk b → (u w : ℕ) → u < b .units .count → w < b .units .count → b .units .state .role u ≤ 2 → (b .units .state .role u ≡ 0 → ⊥)
+  two-roles : RolesOk b → (u w : ℕ) → u < b .units .count → w < b .units .count → b .units .state .role u ≤ 2 → (b .units .state .role u ≡ Role.none → ⊥)
       → b .units .state .role w ≡ b .units .state .role u → forceOf b w ≡ forceOf b u
   two-roles r u w l m most some e =
-      same-or (b .units .state .role u) 1 (λ q. r .owing u l w m q (e ∙ q))
-      (λ n. let q : b .units .state .role u ≡ 2 = omega arith in r .advancing u l w m q (e ∙ q))
+      same-or (b .units .state .role u) Role.owes (λ q. r .owing u l w m q (e ∙ q))
+      (λ n. let q : b .units .state .role u ≡ Role.advances = omega arith in r .advancing u l w m q (e ∙ q))
 
   pair : ((u : ℕ) → u < b .units .count → AloneOk b u) → StacksOk b → RolesOk b
       → (u : ℕ) → u < b .units .count → (w : ℕ) → w < b .units .count → PairOk b u w

@@ -15,6 +15,7 @@ use Rattle.acceptance.specs.Accepted.{StandOk, UnitOk, PairOk, UnitsOk, 
 use Rattle.position.specs.Change.{Change}
 use Rattle.position.specs.Change.Change.{placed, destroyed, marked, assigned, timed, staged, routed, unrouted}
 use Rattle.position.specs.Effect.{withUnits, withDesk, change, changes}
+use Rattle.position.specs.Stage as Stage
 
 -- the tables, the counters, the last turn and the players
 pub record Fixed (b c : Board) : Type 0 where
@@ -173,7 +174,7 @@ module _ {b c : Board} (f : Fixed b c) where
 
   -- what the stages ask
   module _ (role : c .units .state .role ≡ b .units .state .role) (route : c .desk .route ≡ b .desk .route) where
-    pub stage-by : c .desk .battle ≡ b .desk .battle → (b .desk .battle .stage ≡ 1 → RetreatsOk c) → StageOk b → StageOk c
+    pub stage-by : c .desk .battle ≡ b .desk .battle → (b .desk .battle .stage ≡ Stage.retreats → RetreatsOk c) → StageOk b → StageOk c
     stage-by e retreats o =
         let s : c .desk .battle .stage ≡ b .desk .battle .stage = λ i. e i .stage in
         let n : c .desk .battle .owed ≡ b .desk .battle .owed = λ i. e i .owed in

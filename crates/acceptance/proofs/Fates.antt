@@ -10,6 +10,7 @@ use Rattle.position.specs.Ground.{standable}
 use Rattle.position.specs.Crowd.{crowd}
 use Rattle.position.specs.Change.Change.{destroyed, assigned}
 use Rattle.position.specs.Effect.{change}
+use Rattle.position.specs.Role as Role
 use Rattle.position.proofs.Tallies.{same-or, equals, equals-yes, equals-is, tally-le}
 use Rattle.position.proofs.Crowds.{crowd-is}
 use Rattle.position.proofs.Effects.{upd-there, upd-else, faced-face}
@@ -41,7 +42,7 @@ pub record Fated (s t : Units) (f w : ℕ) : Type 0 where
 pub record Freed (s t : Units) (w : ℕ) : Type 0 where
   pub hex : t .state .hex w ≡ s .state .hex w
   pub marks : t .state .marks w ≡ s .state .marks w
-  pub role : t .state .role w ≡ 0
+  pub role : t .state .role w ≡ Role.none
 
 module _ {s t v : Units} {w : ℕ} where
   pub same-trans : Same s t w → Same t v w → Same s v w
@@ -90,12 +91,12 @@ module _ (b : Board) (u : ℕ) where
       let at : (f : ℕ → ℕ) (x : ℕ) → _ = λ f x. upd-else (b .units .count) f u x w (λ _ e. n e) in
       record { hex = at (b .units .state .hex) nowhere; marks = at (b .units .state .marks) (faced (b .units .state .marks u) 0); role = at (b .units .state .role) 0 }
 
-  pub destroyed-here : u < b .units .count → Fated (b .units) (change b (destroyed u) .units) 0 u
+  pub destroyed-here : u < b .units .count → Fated (b .units) (change b (destroyed u) .units) Role.none u
   unfolding change
   destroyed-here l =
       let m = upd-there (b .units .count) (b .units .state .marks) u (faced (b .units .state .marks u) 0) l in
       record {
-        role = upd-there (b .units .count) (b .units .state .role) u 0 l;
+        role = upd-there (b .units .count) (b .units .state .role) u Role.none l;
         face = ap (has tried) m ∙ faced-face (b .units .state .marks u) 0;
         lost =
             λ _.
@@ -123,9 +124,9 @@ module _ (b : Board) (u : ℕ) where
           keeps = λ _. refl;
         }
 
-  pub assigned-none : u < b .units .count → Freed (b .units) (change b (assigned u 0) .units) u
+  pub assigned-none : u < b .units .count → Freed (b .units) (change b (assigned u Role.none) .units) u
   unfolding change
-  assigned-none l = record { hex = refl; marks = refl; role = upd-there (b .units .count) (b .units .state .role) u 0 l }
+  assigned-none l = record { hex = refl; marks = refl; role = upd-there (b .units .count) (b .units .state .role) u Role.none l }
 
 -- the lines on one unit, on stacks and on roles
 module _ {b c : Board} (f : Fixed b c) where
@@ -244,7 +245,7 @@ module _ {b c : Board} (f : Fixed b c) where
         }
 
   -- who has a role had it before
-  module _ (had : (w : ℕ) → w < b .units .count → (c .units .state .role w ≡ 0 → ⊥) → c .units .state .role w ≡ b .units .state .role w) where
+  module _ (had : (w : ℕ) → w < b .units .count → (c .units .state .role w ≡ Role.none → ⊥) → c .units .state .role w ≡ b .units .state .role w) where
     role-before :
         (r w : ℕ) → w < c .units .count → (r ≡ 0 → ⊥) → c .units .state .role w ≡ r → (w < b .units .count) × (b .units .state .role w ≡ r)
     role-before r w l n e =
@@ -264,21 +265,21 @@ module _ {b c : Board} (f : Fixed b c) where
           advancing = one-force-fewer 2 (λ e. omega arith) (o .advancing);
           apart =
               λ u l w m p q e.
-              let x = role-before 1 u l (λ z. omega arith) p in
-              let y = role-before 2 w m (λ z. omega arith) q in
+              let x = role-before Role.owes u l (λ z. omega arith) p in
+              let y = role-before Role.advances w m (λ z. omega arith) q in
               o .apart u (x .0) w (y .0) (x .1) (y .1) (sym (force-by f w) ∙ e ∙ force-by f u);
         }
 
   -- who may advance owed before, and none owes now
   pub roles-passed :
-      ((w : ℕ) → w < b .units .count → (c .units .state .role w ≡ 0 → ⊥) → (c .units .state .role w ≡ 2) × (b .units .state .role w ≡ 1))
+      ((w : ℕ) → w < b .units .count → (c .units .state .role w ≡ Role.none → ⊥) → (c .units .state .role w ≡ Role.advances) × (b .units .state .role w ≡ Role.owes))
       → RolesOk b → RolesOk c
   roles-passed had o =
       let below : (w : ℕ) → w < c .units .count → w < b .units .count = λ w l. omega (arith, f .count) in
-      let two : (w : ℕ) → w < c .units .count → c .units .state .role w ≡ 1 → ⊥ =
+      let two : (w : ℕ) → w < c .units .count → c .units .state .role w ≡ Role.owes → ⊥ =
       λ w l p. omega (arith, had w (below w l) (λ z. omega arith) .0)
       in
-      let one : (w : ℕ) → w < c .units .count → c .units .state .role w ≡ 2 → b .units .state .role w ≡ 1 =
+      let one : (w : ℕ) → w < c .units .count → c .units .state .role w ≡ Role.advances → b .units .state .role w ≡ Role.owes =
       λ w l p. had w (below w l) (λ z. omega arith) .1
       in
       record {
@@ -293,14 +294,14 @@ module _ {b c : Board} (f : Fixed b c) where
 pub data Lesser (s t : Units) (w : ℕ) : Type 0 where
   same : Same s t w → Lesser s t w
   freed : Freed s t w → Lesser s t w
-  gone : Fated s t 0 w → Lesser s t w
+  gone : Fated s t Role.none w → Lesser s t w
 
 lesser-hex : {s t : Units} {w : ℕ} → Lesser s t w → (t .state .hex w ≡ nowhere → ⊥) → t .state .hex w ≡ s .state .hex w
 lesser-hex (same e) n = e .hex
 lesser-hex (freed e) n = e .hex
 lesser-hex (gone e) n = absurd (n (e .lost refl .hex))
 
-lesser-role : {s t : Units} {w : ℕ} → Lesser s t w → (t .state .role w ≡ 0 → ⊥) → t .state .role w ≡ s .state .role w
+lesser-role : {s t : Units} {w : ℕ} → Lesser s t w → (t .state .role w ≡ Role.none → ⊥) → t .state .role w ≡ s .state .role w
 lesser-role (same e) n = e .role
 lesser-role (freed e) n = absurd (n (e .role))
 lesser-role (gone e) n = absurd (n (e .role))

@@ -15,6 +15,7 @@ use Rattle.position.specs.Shape.{In}
 use Rattle.acceptance.specs.Accepted.{StandOk, UnitOk, PairOk, UnitsOk, ClockOk, RetreatsOk, Lawful}
 use Rattle.position.specs.Change.Change.{placed, marked, timed}
 use Rattle.position.specs.Effect.{withHex, withUnits, change}
+use Rattle.position.specs.Stage as Stage
 use Rattle.position.proofs.Tallies.{same-or, not-both, equals, but, but-self, but-other, tally-same}
 use Rattle.position.proofs.Crowds.{others-is, crowd-with, crowd-without}
 use Rattle.position.proofs.Sides.{standable-off}
@@ -109,7 +110,7 @@ lawful-marked {b} l u m k =
 
 -- "turn 1..60, last turn 1..60 not below turn, force 0..3, phase"
 pub lawful-timed :
-    {b : Board} → Lawful b → b .desk .battle .stage ≡ 0 → (t f ph : ℕ) → In 1 t 60 → t ≤ b .desk .lastTurn → f ≤ 3 → ph ≤ 2
+    {b : Board} → Lawful b → b .desk .battle .stage ≡ Stage.quiet → (t f ph : ℕ) → In 1 t 60 → t ≤ b .desk .lastTurn → f ≤ 3 → ph ≤ 2
     → Lawful (change b (timed t f ph))
 unfolding change
 lawful-timed {b} l z t f ph i n force phase =
@@ -244,7 +245,7 @@ units-placed {b} o u h n r = rw (placed-is b u h (r .stands)) (units-moved o u h
 -- role 1 units may stand in other hexes then, so what the stage of retreats asks is a condition
 pub lawful-placed :
     {b : Board} → Lawful b → (u h : ℕ) → u < b .units .count → Room b u h
-    → (b .desk .battle .stage ≡ 1 → RetreatsOk (change b (placed u h))) → Lawful (change b (placed u h))
+    → (b .desk .battle .stage ≡ Stage.retreats → RetreatsOk (change b (placed u h))) → Lawful (change b (placed u h))
 lawful-placed {b} l u h n r retreats =
     let e = placed-is b u h (r .stands) in
     let f = fixed b u h in

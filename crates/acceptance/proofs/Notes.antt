@@ -12,6 +12,7 @@ use borrow.Author.Tests.{eq-eqb, ne-eqb, eqb-true}
 use Rattle.position.specs.Tally.{tally, any}
 use Rattle.position.specs.Board.{Board}
 use Rattle.position.specs.Crowd.{owesAt, owingHexes}
+use Rattle.position.specs.Role as Role
 use Rattle.position.proofs.Tallies.{
   not-both,
   same-or,
@@ -27,7 +28,7 @@ use Rattle.position.proofs.Tallies.{
   any-same,
 }
 use Rattle.acceptance.specs.Holder.{UpToSeven}
-use Rattle.acceptance.specs.Noted.{among, NoteOf, leads, Noted}
+use Rattle.acceptance.specs.Noted.{among, NoteOf, heads, Noted}
 
 -- a count up to seven is never more than what it counts
 pub seven-most : {k r : ℕ} → UpToSeven k r → r ≤ k
@@ -71,28 +72,28 @@ module _ (s : List ℕ) (h : ℕ) where
     note-full e l = record { long = refl; known = λ p. not-both _ p e; fresh = λ p. omega arith; here = λ m. absurd (omega arith) }
 
 module _ (b : Board) (u : ℕ) where
-  owes-hex : (h : ℕ) → b .units .state .role u ≡ 1 → b .units .state .hex u ≡ h → (x : ℕ) → owesAt b x u ≡ eqb h x
+  owes-hex : (h : ℕ) → b .units .state .role u ≡ Role.owes → b .units .state .hex u ≡ h → (x : ℕ) → owesAt b x u ≡ eqb h x
   unfolding owesAt
-  owes-hex h e i x = simp (eq-eqb (b .units .state .role u) 1 e, i)
+  owes-hex h e i x = simp (eq-eqb (b .units .state .role u) Role.owes e, i)
 
-  owes-no : (b .units .state .role u ≡ 1 → ⊥) → (x : ℕ) → owesAt b x u ≡ false
+  owes-no : (b .units .state .role u ≡ Role.owes → ⊥) → (x : ℕ) → owesAt b x u ≡ false
   unfolding owesAt
-  owes-no e x = simp (ne-eqb (b .units .state .role u) 1 e)
+  owes-no e x = simp (ne-eqb (b .units .state .role u) Role.owes e)
 
-  leads-yes : b .units .state .role u ≡ 1 → any (owesAt b (b .units .state .hex u)) u ≡ false → leads b u ≡ true
-  unfolding leads
-  leads-yes e f = simp (eq-eqb (b .units .state .role u) 1 e, f)
+  heads-yes : b .units .state .role u ≡ Role.owes → any (owesAt b (b .units .state .hex u)) u ≡ false → heads b u ≡ true
+  unfolding heads
+  heads-yes e f = simp (eq-eqb (b .units .state .role u) Role.owes e, f)
 
-  leads-late : any (owesAt b (b .units .state .hex u)) u ≡ true → leads b u ≡ false
-  unfolding leads
-  leads-late e = simp (e, and-false)
+  heads-late : any (owesAt b (b .units .state .hex u)) u ≡ true → heads b u ≡ false
+  unfolding heads
+  heads-late e = simp (e, and-false)
 
-  leads-no : (b .units .state .role u ≡ 1 → ⊥) → leads b u ≡ false
-  unfolding leads
-  leads-no e = simp (ne-eqb (b .units .state .role u) 1 e)
+  heads-no : (b .units .state .role u ≡ Role.owes → ⊥) → heads b u ≡ false
+  unfolding heads
+  heads-no e = simp (ne-eqb (b .units .state .role u) Role.owes e)
 
-pub owing-hexes-is : (b : Board) → owingHexes b ≡ tally (leads b) (b .units .count)
-unfolding owingHexes leads
+pub owing-hexes-is : (b : Board) → owingHexes b ≡ tally (heads b) (b .units .count)
+unfolding owingHexes heads
 owing-hexes-is b = refl
 
 module _ {b : Board} where
@@ -101,22 +102,22 @@ module _ {b : Board} where
 
   module _ {u k : ℕ} {s : List ℕ} (o : Noted b u k s) where
     -- past a unit that does not owe
-    pub noted-past : (b .units .state .role u ≡ 1 → ⊥) → Noted b (u + 1) k s
+    pub noted-past : (b .units .state .role u ≡ Role.owes → ⊥) → Noted b (u + 1) k s
     noted-past n =
         record {
           long = o .long;
-          many = o .many ∙ sym (tally-miss _ u (leads-no b u n));
+          many = o .many ∙ sym (tally-miss _ u (heads-no b u n));
           here = λ h. o .here h ∙ sym (any-miss _ u (owes-no b u n h));
         }
 
-    module _ {t : List ℕ} {h r : ℕ} (e : b .units .state .role u ≡ 1) (i : b .units .state .hex u ≡ h) (n : NoteOf s t k h r) where
+    module _ {t : List ℕ} {h r : ℕ} (e : b .units .state .role u ≡ Role.owes) (i : b .units .state .hex u ≡ h) (n : NoteOf s t k h r) where
       -- past one that does, whose hex is noted
-      many-more : r ≡ tally (leads b) (u + 1)
+      many-more : r ≡ tally (heads b) (u + 1)
       many-more =
           let q = ap (λ (y : ℕ). any (owesAt b y) u) i ∙ sym (o .here h) in
           either (among s k h)
-          (λ p. n .known p ∙ o .many ∙ sym (tally-miss _ u (leads-late b u (q ∙ p))))
-          (λ p. omega (arith, n .fresh p, tally-hit (leads b) u (leads-yes b u e (q ∙ p))))
+          (λ p. n .known p ∙ o .many ∙ sym (tally-miss _ u (heads-late b u (q ∙ p))))
+          (λ p. omega (arith, n .fresh p, tally-hit (heads b) u (heads-yes b u e (q ∙ p))))
 
       pub noted-more : r < 7 → Noted b (u + 1) r t
       noted-more l =
@@ -129,7 +130,7 @@ module _ {b : Board} where
       -- a seventh hex
       pub noted-over : 6 < r → u < b .units .count → UpToSeven (owingHexes b) 7
       noted-over q l =
-          let g = tally-grows (leads b) (u + 1) (b .units .count) (omega arith) in
+          let g = tally-grows (heads b) (u + 1) (b .units .count) (omega arith) in
           record {
             small = omega arith;
             exact = λ m. absurd (omega arith);
@@ -140,6 +141,6 @@ module _ {b : Board} where
     noted-all e l =
         record {
           small = omega arith;
-          exact = λ m. o .many ∙ ap (tally (leads b)) e ∙ sym (owing-hexes-is b);
+          exact = λ m. o .many ∙ ap (tally (heads b)) e ∙ sym (owing-hexes-is b);
           over = λ m. absurd (omega arith);
         }

@@ -11,6 +11,8 @@ use Rattle.position.specs.Crowd.{filled}
 use Rattle.position.specs.Change.{Change}
 use Rattle.position.specs.Change.Change.{placed, destroyed, assigned, staged, routed, unrouted}
 use Rattle.position.specs.Effect.{withStage, withRoutes, reroute, unfilled, withDesk, change}
+use Rattle.position.specs.Stage as Stage
+use Rattle.position.specs.Role as Role
 use Rattle.position.proofs.Tallies.{same-or, either}
 use Rattle.acceptance.specs.Accepted.{UnitsOk, StageOk, PlaceOk, RoutesOk, Lawful}
 use Rattle.acceptance.proofs.Carries.{Fixed, fixed-desk, fixed-change, routes-ok-by, lawful-by}
@@ -19,6 +21,7 @@ use Rattle.acceptance.proofs.Fates.{destroyed-else, destroyed-here, ass
 use Rattle.acceptance.proofs.Fates.Lesser.{same, freed, gone}
 use Rattle.acceptance.proofs.Stills.{fixed-refl, fixed-trans}
 use Rattle.acceptance.proofs.Routings.{routes-written, routes-cleared}
+use Rattle.clock.specs.Phase as Phase
 
 -- board c, since board b
 pub record Since (b c : Board) : Type 0 where
@@ -32,7 +35,7 @@ since-lawful {b} l = record { fixed = fixed-refl b; clock = refl; units = l .uni
 
 -- the board at the end
 pub lawful-since :
-    {b c : Board} → Lawful b → Since b c → c .desk .battle .stage ≤ 3 → ((c .desk .battle .stage ≡ 0 → ⊥) → b .desk .clock .phase ≡ 1) → StageOk c
+    {b c : Board} → Lawful b → Since b c → c .desk .battle .stage ≤ 3 → ((c .desk .battle .stage ≡ Stage.quiet → ⊥) → b .desk .clock .phase ≡ Phase.combat) → StageOk c
     → Lawful c
 lawful-since l s most combat stage =
     let k = l .clock in
@@ -94,11 +97,11 @@ module _ {b c : Board} (most : b .map .hexes ≤ nowhere) (s : Since b c) where
       (λ n. same (destroyed-else c u w (λ e. n (sym e)))))
       (s .units))
 
-  pub since-freed : (u : ℕ) → Since b (change c (assigned u 0))
+  pub since-freed : (u : ℕ) → Since b (change c (assigned u Role.none))
   unfolding change
   since-freed u =
-      since-units (assigned u 0) refl
-      (units-fewer (fixed-change c (assigned u 0)) small
+      since-units (assigned u Role.none) refl
+      (units-fewer (fixed-change c (assigned u Role.none)) small
       (λ w l.
       same-or u w
       (λ e. rw (sym e) (freed (assigned-none c u (omega arith))))

@@ -3,10 +3,11 @@
 use mathlib.Core.Path.{_≡_}
 use native.Mathlib.Omega.{arith}
 use Rattle.position.specs.Board.{Board}
+use Rattle.position.specs.Stage as Stage
 use Rattle.acceptance.specs.Accepted.{QuietOk, RetreatsOk, LossesOk, AdvancesOk, StageOk}
 
 module _ {b : Board} where
-  pub stage-quiet : b .desk .battle .stage ≡ 0 → b .desk .battle .owed ≡ 0 → b .desk .battle .need ≡ 0 → QuietOk b → StageOk b
+  pub stage-quiet : b .desk .battle .stage ≡ Stage.quiet → b .desk .battle .owed ≡ 0 → b .desk .battle .need ≡ 0 → QuietOk b → StageOk b
   stage-quiet e n x o =
       record {
         during =
@@ -20,7 +21,7 @@ module _ {b : Board} where
         need = λ _. x;
       }
 
-  pub stage-retreats : b .desk .battle .stage ≡ 1 → b .desk .battle .need ≡ 0 → RetreatsOk b → StageOk b
+  pub stage-retreats : b .desk .battle .stage ≡ Stage.retreats → b .desk .battle .need ≡ 0 → RetreatsOk b → StageOk b
   stage-retreats e x o =
       record {
         during =
@@ -34,7 +35,7 @@ module _ {b : Board} where
         need = λ _. x;
       }
 
-  pub stage-losses : b .desk .battle .stage ≡ 2 → b .desk .battle .owed ≡ 0 → LossesOk b → StageOk b
+  pub stage-losses : b .desk .battle .stage ≡ Stage.losses → b .desk .battle .owed ≡ 0 → LossesOk b → StageOk b
   stage-losses e n o =
       record {
         during =
@@ -48,7 +49,7 @@ module _ {b : Board} where
         need = λ z. absurd (z e);
       }
 
-  pub stage-advances : b .desk .battle .stage ≡ 3 → b .desk .battle .owed ≡ 0 → b .desk .battle .need ≡ 0 → AdvancesOk b → StageOk b
+  pub stage-advances : b .desk .battle .stage ≡ Stage.advances → b .desk .battle .owed ≡ 0 → b .desk .battle .need ≡ 0 → AdvancesOk b → StageOk b
   stage-advances e n x o =
       record {
         during =

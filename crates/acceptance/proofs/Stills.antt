@@ -11,7 +11,7 @@ use Rattle.position.specs.Change.{Change}
 use Rattle.position.specs.Change.Change.{destroyed, marked}
 use Rattle.position.specs.Effect.{withShown, change, changes, turnedUp}
 use Rattle.position.proofs.BitLaws.{with-within}
-use Rattle.position.proofs.BitLaws.Mark.{is-tried}
+use Rattle.position.proofs.BitLaws.UnitMark.{is-tried}
 use Rattle.position.proofs.Effects.{upd-there, upd-case, faced-face, turned-face}
 use Rattle.acceptance.specs.Accepted.{Lawful}
 use Rattle.acceptance.proofs.Carries.{Fixed, fixed-units, fixed-desk, fixed-change}

@@ -10,7 +10,7 @@ use Rattle.grid.specs.Rulings.{gridOpen}
 use Rattle.position.specs.Tally.{tally, any}
 use Rattle.position.specs.Bits.{has}
 use Rattle.position.specs.Kind.{alwaysTried, force, mayBelong, mayAllow}
-use Rattle.position.specs.Layout.{word, offset, extent, columns, mapAt, width, height, hexes, unitsAt, count, deskAt, cell, columnByte, code, hexByte, unitAt, unitByte, hex, deskByte, need, route, named, player}
+use Rattle.position.specs.Layout.{word, offset, extent, columns, mapAt, width, height, hexes, unitsAt, count, deskAt, cell, columnByte, code, hexByte, unitAt, unitByte, hex, deskByte, need, route, playersNamed, player}
 use Rattle.position.specs.Board.{forceOf}
 use Rattle.position.specs.Ground.{stored, storedAt, side, next, isAt, joined, standable}
 use Rattle.position.specs.Parts.{
@@ -85,7 +85,7 @@ use Rattle.acceptance.specs.Broken.{
 
 -- 'unfolding computing' opens what acceptance computes by
 unfoldable pub computing : ℕ
-unfolding building decLe decLt ℕ-discrete gridOpen tally any has alwaysTried force mayBelong mayAllow word offset extent columns mapAt width height hexes unitsAt count deskAt cell columnByte code hexByte unitAt unitByte hex deskByte need route named player forceOf stored storedAt side next isAt joined standable crowd holders owesAt owingHexes filled routes iff both given never last below holds? off? answersNo in? entry? shaped? terrain? column? rising? results? edge? hex? map? mapped? destroyed? role? counter? duty? stand? unit? twoForces? oneForce? pair? units? clock? player? quiet? retreats? losses? advances? during? stage? link? place? route? lawful? accepted? broken
+unfolding building decLe decLt ℕ-discrete gridOpen tally any has alwaysTried force mayBelong mayAllow word offset extent columns mapAt width height hexes unitsAt count deskAt cell columnByte code hexByte unitAt unitByte hex deskByte need route playersNamed player forceOf stored storedAt side next isAt joined standable crowd holders owesAt owingHexes filled routes iff both given never last below holds? off? answersNo in? entry? shaped? terrain? column? rising? results? edge? hex? map? mapped? destroyed? role? counter? duty? stand? unit? twoForces? oneForce? pair? units? clock? player? quiet? retreats? losses? advances? during? stage? link? place? route? lawful? accepted? broken
 computing = 0
 
 -- document 01's roster: "Map 3 x 1, plain, terrain cost 1; hex 0 US supply; US infantry 0 on 2, E.S.C. infantry 1 on 1"

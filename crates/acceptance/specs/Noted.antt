@@ -23,11 +23,11 @@ pub record NoteOf (s t : List ℕ) (k h r : ℕ) : Type 0 where
   pub here : r < 7 → (x : ℕ) → among t r x ≡ (eqb h x || among s k x)
 
 -- unit u owes, the lowest-numbered in its hex that does
-unfoldable pub leads : Board → ℕ → Bool
-leads b u = eqb (b .units .state .role u) 1 && not (any (owesAt b (b .units .state .hex u)) u)
+unfoldable pub heads : Board → ℕ → Bool
+heads b u = eqb (b .units .state .role u) 1 && not (any (owesAt b (b .units .state .hex u)) u)
 
 -- the first k of list s are the hexes of the units below u that owe, each once
 pub record Noted (b : Board) (u k : ℕ) (s : List ℕ) : Type 0 where
   pub long : length s ≡ 6
-  pub many : k ≡ tally (leads b) u
+  pub many : k ≡ tally (heads b) u
   pub here : (h : ℕ) → among s k h ≡ any (owesAt b h) u

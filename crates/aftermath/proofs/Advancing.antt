@@ -10,17 +10,18 @@ use Rattle.position.specs.Change.{make, makes}
 use Rattle.position.specs.Change.Change.{assigned, placed}
 use Rattle.position.specs.Ground.{joined}
 use Rattle.position.specs.Tally.{any}
-use Rattle.aftermath.specs.Advance.{advanceChanges, clearTo, closeChanges, heldAt, mayAdvance, noRoute, serves}
+use Rattle.position.specs.Role as Role
+use Rattle.aftermath.specs.Advance.{advanceChanges, clearTo, closeChanges, heldAt, mayAdvance, noRoute, canFollow}
 use Rattle.aftermath.specs.Stage.{reassigned}
 
 module _ (b : Board) (u : ℕ) where
-  pub advance-not : (b .units .state .role u ≡ 2 → ⊥) → mayAdvance b u ≡ false
+  pub advance-not : (b .units .state .role u ≡ Role.advances → ⊥) → mayAdvance b u ≡ false
   unfolding mayAdvance
-  advance-not n = ne-eqb (b .units .state .role u) 2 n
+  advance-not n = ne-eqb (b .units .state .role u) Role.advances n
 
-  pub advance-may : b .units .state .role u ≡ 2 → mayAdvance b u ≡ true
+  pub advance-may : b .units .state .role u ≡ Role.advances → mayAdvance b u ≡ true
   unfolding mayAdvance
-  advance-may e = eq-eqb (b .units .state .role u) 2 e
+  advance-may e = eq-eqb (b .units .state .role u) Role.advances e
 
   module _ (hex r : ℕ) where
     pub clear-other : (j : ℕ) → (b .desk .route r j ≡ hex → ⊥) → clearTo b u hex r j ≡ false
@@ -31,30 +32,30 @@ module _ (b : Board) (u : ℕ) where
     unfolding clearTo
     clear-there j e = simp (eq-eqb (b .desk .route r j) hex e)
 
-    pub serves-apart : joined (b .map) (b .units .state .hex u) (b .desk .route r 0) ≡ false → serves b u hex r ≡ false
-    unfolding serves
-    serves-apart e = simp e
+    pub follow-apart : joined (b .map) (b .units .state .hex u) (b .desk .route r 0) ≡ false → canFollow b u hex r ≡ false
+    unfolding canFollow
+    follow-apart e = simp e
 
-    pub serves-beside :
-        joined (b .map) (b .units .state .hex u) (b .desk .route r 0) ≡ true → serves b u hex r ≡ any (clearTo b u hex r) 4
-    unfolding serves
-    serves-beside e = simp e
+    pub follow-beside :
+        joined (b .map) (b .units .state .hex u) (b .desk .route r 0) ≡ true → canFollow b u hex r ≡ any (clearTo b u hex r) 4
+    unfolding canFollow
+    follow-beside e = simp e
 
-  pub some-route : (hex : ℕ) → any (serves b u hex) 6 ≡ true → noRoute b u hex ≡ false
+  pub some-route : (hex : ℕ) → any (canFollow b u hex) 6 ≡ true → noRoute b u hex ≡ false
   unfolding noRoute
   some-route hex e = ap not e
 
-  pub route-none : (hex : ℕ) → any (serves b u hex) 6 ≡ false → noRoute b u hex ≡ true
+  pub route-none : (hex : ℕ) → any (canFollow b u hex) 6 ≡ false → noRoute b u hex ≡ true
   unfolding noRoute
   route-none hex e = ap not e
 
 -- both writes are the advance's two changes
 pub both-made :
-    (p : List ℕ) {q r : List ℕ} (u hex : ℕ) → q ≡ make p (placed u hex) → r ≡ make q (assigned u 0) → r ≡ makes p (advanceChanges (board p) u hex)
+    (p : List ℕ) {q r : List ℕ} (u hex : ℕ) → q ≡ make p (placed u hex) → r ≡ make q (assigned u Role.none) → r ≡ makes p (advanceChanges (board p) u hex)
 unfolding advanceChanges makes
-both-made p u hex e f = f ∙ ap (λ (l : List ℕ). make l (assigned u 0)) e
+both-made p u hex e f = f ∙ ap (λ (l : List ℕ). make l (assigned u Role.none)) e
 
 -- who may advance has role 2
-pub closed-is : (b : Board) → reassigned b 2 0 ≡ closeChanges b
+pub closed-is : (b : Board) → reassigned b Role.advances Role.none ≡ closeChanges b
 unfolding reassigned closeChanges mayAdvance
 closed-is b = refl

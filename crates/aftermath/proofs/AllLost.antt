@@ -9,6 +9,8 @@ use lib.ListN.{length}
 use borrow.Author.Tests.{eq-eqb, ne-eqb}
 use Rattle.position.specs.Board.{Board}
 use Rattle.position.specs.Crowd.{holders}
+use Rattle.position.specs.Role as Role
+use Rattle.position.specs.Stage as Stage
 use Rattle.position.proofs.Tallies.{any-never, either, not-both}
 use Rattle.ruling.specs.Judged.{Passes}
 use Rattle.ruling.specs.Verdict.{along}
@@ -59,18 +61,18 @@ module _ (b : Board) where
       simp
       (any-never (sparedSpecial b all) (b .units .count) (λ u l. special-not b all u (spares-none u l)), and-false)
 
-  all-long : length all ≡ holders b 1
+  all-long : length all ≡ holders b Role.owes
   unfolding holders owes
   all-long = sieve-long (owes b) (b .units .count)
 
   pub all-pass :
-      (p : List ℕ) → b .desk .battle .stage ≡ 2 → 1 ≤ holders b 1 → holders b 1 ≤ 18
+      (p : List ℕ) → b .desk .battle .stage ≡ Stage.losses → 1 ≤ holders b Role.owes → holders b Role.owes ≤ 18
       → Passes p (lossChecks b (sieve (owes b) (b .units .count)))
   unfolding lossChecks losses
   all-pass p e low high l v a q m g =
       let n = b .units .count in
       pass (ap not (list-fits all (omega (arith, all-long)) (omega (arith, all-long))))
       (there-passes p b all (λ w f. sieve-passes (owes b) n w f .0) l _ a q m
-      (pass (ap not (eq-eqb (b .desk .battle .stage) 2 e))
+      (pass (ap not (eq-eqb (b .desk .battle .stage) Stage.losses e))
       (owing-passes p b [] all 1 (λ w f. sieve-passes (owes b) n w f .1) (λ w f. named-nil w) (sieve-once (owes b) n) l _ a q m
       (pass (short-special b all all-enough ∙ all-special) g))))

@@ -9,6 +9,7 @@ use lib.Dec.{leb, eqb}
 use Rattle.position.specs.Kind.{movesByLand}
 use Rattle.position.specs.Board.{Board}
 use Rattle.position.specs.Crowd.{others}
+use Rattle.position.specs.Stage as Stage
 use Rattle.ruling.specs.Packed.Replies.{plainly}
 use Rattle.ruling.proofs.Bounded.{Bounded, bounded-at, bounded-each, bounded-past, bounded-ruled}
 use Rattle.field.specs.Listed.{andThen, listLength, named}
@@ -25,7 +26,7 @@ module _ {p l : List ℕ} (b : Board) where
       (λ e.
       let few = list-in units e .high in
       there-bounded b units _ (omega (arith, few))
-      (bounded-past (not (eqb (b .desk .battle .stage) 2)) refl
+      (bounded-past (not (eqb (b .desk .battle .stage) Stage.losses)) refl
       (λ _.
       bounded-each (λ _. Unit {0}) andThen
       (λ s x k v i f. bounded-at (not (owes b x)) refl i (λ _. bounded-at (named s x) refl i (λ _. f tt)))
@@ -43,7 +44,7 @@ module _ {p l : List ℕ} (b : Board) where
       (λ _.
       bounded-past (leb (b .map .hexes) hex) refl
       (λ _.
-      bounded-past (not (eqb (b .desk .battle .stage) 3)) refl
+      bounded-past (not (eqb (b .desk .battle .stage) Stage.advances)) refl
       (λ _.
       bounded-past (not (mayAdvance b u)) refl
       (λ _.
@@ -53,4 +54,4 @@ module _ {p l : List ℕ} (b : Board) where
 
   pub close-bounded : Bounded plainly p l (closeRule b)
   unfolding closeRule
-  close-bounded = bounded-past (not (eqb (b .desk .battle .stage) 3)) refl (λ _. bounded-ruled refl)
+  close-bounded = bounded-past (not (eqb (b .desk .battle .stage) Stage.advances)) refl (λ _. bounded-ruled refl)

@@ -10,6 +10,7 @@ use Rattle.position.specs.Board.{Board, nowhere}
 use Rattle.position.specs.Crowd.{holders}
 use Rattle.position.specs.Change.Change.{assigned}
 use Rattle.position.specs.Effect.{change, changes}
+use Rattle.position.specs.Role as Role
 use Rattle.position.proofs.Tallies.{either, same-or}
 use Rattle.acceptance.specs.Accepted.{Lawful}
 use Rattle.acceptance.proofs.Carries.{fixed-change}
@@ -24,33 +25,33 @@ use Rattle.aftermath.proofs.KeepAdvance.{closed}
 -- the units of a list have no role any more, all others have theirs
 freed-role :
     (us : List ℕ) (c : Board) (w : ℕ) → w < c .units .count
-    → changes c (map (λ u. assigned u 0) us) .units .state .role w ≡ cond (named us w) 0 (c .units .state .role w)
+    → changes c (map (λ u. assigned u Role.none) us) .units .state .role w ≡ cond (named us w) Role.none (c .units .state .role w)
 unfolding changes named
 freed-role [] c w l = refl
 freed-role (u ∷ us) c w l =
-    let d = change c (assigned u 0) in
-    let none : _≡_ {A = ℕ} (cond (named us w) 0 0) 0 = either (named us w) (λ e. simp e) (λ e. simp e) in
-    freed-role us d w (omega (arith, fixed-change c (assigned u 0) .count))
+    let d = change c (assigned u Role.none) in
+    let none : _≡_ {A = ℕ} (cond (named us w) Role.none 0) 0 = either (named us w) (λ e. simp e) (λ e. simp e) in
+    freed-role us d w (omega (arith, fixed-change c (assigned u Role.none) .count))
     ∙ same-or w u
     (λ e.
-    ap (λ (x : ℕ). cond (named us w) 0 x) (ap (d .units .state .role) e ∙ assigned-none c u (omega arith) .role)
+    ap (λ (x : ℕ). cond (named us w) Role.none x) (ap (d .units .state .role) e ∙ assigned-none c u (omega arith) .role)
     ∙ none
     ∙ sym (simp (eq-eqb u w (sym e))))
     (λ n.
-    ap (λ (x : ℕ). cond (named us w) 0 x) (assigned-else c u 0 w n .role) ∙ sym (simp (ne-eqb u w (λ e. n (sym e)))))
+    ap (λ (x : ℕ). cond (named us w) Role.none x) (assigned-else c u Role.none w n .role) ∙ sym (simp (ne-eqb u w (λ e. n (sym e)))))
 
 module _ (b : Board) where
-  freed-all : (w : ℕ) → w < b .units .count → b .units .state .role w ≡ 2 → changes b (closeChanges b) .units .state .role w ≡ 0
+  freed-all : (w : ℕ) → w < b .units .count → b .units .state .role w ≡ Role.advances → changes b (closeChanges b) .units .state .role w ≡ Role.none
   unfolding closeChanges
   freed-all w l e =
       freed-role (sieve (mayAdvance b) (b .units .count)) b w l
       ∙ simp (sieve-names (mayAdvance b) (b .units .count) w l (advance-may b w e))
 
-  pub closed-none : Lawful b → b .map .hexes ≤ nowhere → holders (changes b (closeChanges b)) 2 ≡ 0
+  pub closed-none : Lawful b → b .map .hexes ≤ nowhere → holders (changes b (closeChanges b)) Role.advances ≡ 0
   closed-none l most =
       let o = closed l most in
-      holders-nought (changes b (closeChanges b)) 2
+      holders-nought (changes b (closeChanges b)) Role.advances
       (λ w m e.
       let k : w < b .units .count = omega (arith, o .since .fixed .count) in
-      let had : b .units .state .role w ≡ 2 = sym (o .had w (λ z. omega arith)) ∙ e in
+      let had : b .units .state .role w ≡ Role.advances = sym (o .had w (λ z. omega arith)) ∙ e in
       omega (arith, freed-all w k had))

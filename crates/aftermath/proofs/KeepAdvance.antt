@@ -14,6 +14,8 @@ use Rattle.position.specs.Kind.{movesByLand}
 use Rattle.position.specs.Tally.{any}
 use Rattle.position.specs.Change.Change.{assigned, placed}
 use Rattle.position.specs.Effect.{change, changes}
+use Rattle.position.specs.Stage as Stage
+use Rattle.position.specs.Role as Role
 use Rattle.position.proofs.Shapes.{hexes-most}
 use Rattle.position.proofs.Tallies.{any-false, any-some, both-yes, either, neither}
 use Rattle.acceptance.specs.Accepted.{Accepted, Lawful}
@@ -35,7 +37,7 @@ use Rattle.aftermath.specs.Advance.{
   heldAt,
   mayAdvance,
   noRoute,
-  serves,
+  canFollow,
   shut,
   unitChecks,
 }
@@ -51,9 +53,9 @@ record Reached (b : Board) (u hex : ℕ) : Type 0 where
   free : shut b u hex ≡ false
 
 module _ (b : Board) (u hex : ℕ) where
-  serves-leads : (r : ℕ) → serves b u hex r ≡ true → any (clearTo b u hex r) 4 ≡ true
-  unfolding serves
-  serves-leads r e = both-yes (joined (b .map) (b .units .state .hex u) (b .desk .route r 0)) (any (clearTo b u hex r) 4) e .1
+  follow-leads : (r : ℕ) → canFollow b u hex r ≡ true → any (clearTo b u hex r) 4 ≡ true
+  unfolding canFollow
+  follow-leads r e = both-yes (joined (b .map) (b .units .state .hex u) (b .desk .route r 0)) (any (clearTo b u hex r) 4) e .1
 
   clear-parts : (r j : ℕ) → clearTo b u hex r j ≡ true → (b .desk .route r j ≡ hex) × (any (heldAt b u r) (j + 1) ≡ false)
   unfolding clearTo
@@ -75,8 +77,8 @@ module _ (b : Board) (u hex : ℕ) where
   reached : noRoute b u hex ≡ false → Reached b u hex
   unfolding noRoute
   reached e =
-      let r = any-some (serves b u hex) 6 (not-false (any (serves b u hex) 6) e) in
-      let j = any-some (clearTo b u hex (r .at)) 4 (serves-leads (r .at) (r .passes)) in
+      let r = any-some (canFollow b u hex) 6 (not-false (any (canFollow b u hex) 6) e) in
+      let j = any-some (clearTo b u hex (r .at)) 4 (follow-leads (r .at) (r .passes)) in
       let x = clear-parts (r .at) (j .at) (j .passes) in
       record {
         route = r .at;
@@ -93,8 +95,8 @@ unfolding change
 placed-role b u h w = either (ltb h (b .map .hexes)) (λ e. simp e) (λ e. simp e)
 
 -- the questions asked of the stage
-stage-three : (b : Board) → not (eqb (b .desk .battle .stage) 3) ≡ false → b .desk .battle .stage ≡ 3
-stage-three b e = eqb-true (b .desk .battle .stage) 3 (not-false (eqb (b .desk .battle .stage) 3) e)
+stage-three : (b : Board) → not (eqb (b .desk .battle .stage) Stage.advances) ≡ false → b .desk .battle .stage ≡ Stage.advances
+stage-three b e = eqb-true (b .desk .battle .stage) Stage.advances (not-false (eqb (b .desk .battle .stage) Stage.advances) e)
 
 -- the hexes of a map are numbers below that for none
 small : (p : List ℕ) → Accepted p → board p .map .hexes ≤ nowhere
@@ -124,7 +126,7 @@ module _ {p : List ℕ} (a : Accepted p) where
         }
 
     lawful-advance :
-        u < board p .units .count → board p .desk .battle .stage ≡ 3 → Room (board p) u hex
+        u < board p .units .count → board p .desk .battle .stage ≡ Stage.advances → Room (board p) u hex
         → Lawful (changes (board p) (thenOn (board p) (advanceChanges (board p) u hex)))
     unfolding advanceChanges changes
     lawful-advance l e r =
@@ -134,7 +136,7 @@ module _ {p : List ℕ} (a : Accepted p) where
         record { since = since-placed most (since-lawful (a .lawful)) u hex l r; had = λ w n. placed-role b u hex w }
         in
         let q = lessened-freed most o u in
-        lawful-then-on (a .lawful) most (λ z. omega arith) (placed u hex ∷ assigned u 0 ∷ []) (q .since)
+        lawful-then-on (a .lawful) most (λ z. omega arith) (placed u hex ∷ assigned u Role.none ∷ []) (q .since)
         (λ n. absurd (n (lessened-owing q (a .lawful .stage .during .advances e .owing))))
 
     pub advance-keeps : {l : List ℕ} → Kept p l (advanceRule (board p) u hex)
@@ -145,7 +147,7 @@ module _ {p : List ℕ} (a : Accepted p) where
         (λ n.
         kept-past a (leb (b .map .hexes) hex)
         (λ h.
-        kept-past a (not (eqb (b .desk .battle .stage) 3))
+        kept-past a (not (eqb (b .desk .battle .stage) Stage.advances))
         (λ e.
         kept-past a (not (mayAdvance b u))
         (λ _.
@@ -158,7 +160,7 @@ module _ {p : List ℕ} (a : Accepted p) where
         kept-ruled a (thenOn b (advanceChanges b u hex))
         (lawful-advance (leb-false (b .units .count) u n) (stage-three b e) (room (leb-false (b .map .hexes) hex h) f g)))))))))
 
-  lawful-close : board p .desk .battle .stage ≡ 3 → Lawful (changes (board p) (thenOn (board p) (closeChanges (board p))))
+  lawful-close : board p .desk .battle .stage ≡ Stage.advances → Lawful (changes (board p) (thenOn (board p) (closeChanges (board p))))
   lawful-close e =
       let b = board p in
       let most = small p a in
@@ -170,5 +172,5 @@ module _ {p : List ℕ} (a : Accepted p) where
   unfolding closeRule
   close-keeps =
       let b = board p in
-      kept-past a (not (eqb (b .desk .battle .stage) 3))
+      kept-past a (not (eqb (b .desk .battle .stage) Stage.advances))
       (λ e. kept-ruled a (thenOn b (closeChanges b)) (lawful-close (stage-three b e)))

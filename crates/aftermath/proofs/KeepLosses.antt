@@ -13,6 +13,8 @@ use Rattle.position.specs.Crowd.{holders}
 use Rattle.position.specs.Change.{Change}
 use Rattle.position.specs.Change.Change.{assigned, destroyed}
 use Rattle.position.specs.Effect.{change, changes}
+use Rattle.position.specs.Role as Role
+use Rattle.position.specs.Stage as Stage
 use Rattle.position.proofs.Shapes.{hexes-most}
 use Rattle.position.proofs.Tallies.{either, not-both, same-or}
 use Rattle.acceptance.specs.Accepted.{Accepted, Lawful, UnitsOk}
@@ -35,15 +37,15 @@ use Rattle.aftermath.proofs.Losing.{survivors}
 record Promoted (c d : Board) (t : ℕ → Bool) (n : ℕ) : Type 0 where
   fixed : Fixed c d
   desk : d .desk ≡ c .desk
-  hit : (w : ℕ) → w < n → w < c .units .count → t w ≡ true → Fated (c .units) (d .units) 2 w
+  hit : (w : ℕ) → w < n → w < c .units .count → t w ≡ true → Fated (c .units) (d .units) Role.advances w
   miss : (w : ℕ) → (w < n → t w ≡ true → ⊥) → Same (c .units) (d .units) w
 
 module _ {c d : Board} {t : ℕ → Bool} {n : ℕ} (o : Promoted c d t n) where
-  promoted-hit : t n ≡ true → Promoted c (change d (assigned n 2)) t (suc n)
+  promoted-hit : t n ≡ true → Promoted c (change d (assigned n Role.advances)) t (suc n)
   unfolding change
   promoted-hit e =
       record {
-        fixed = fixed-trans (o .fixed) (fixed-change d (assigned n 2));
+        fixed = fixed-trans (o .fixed) (fixed-change d (assigned n Role.advances));
         desk = o .desk;
         hit =
             λ w l m f.
@@ -73,12 +75,12 @@ module _ {c d : Board} {t : ℕ → Bool} {n : ℕ} (o : Promoted c d t n) where
 
 module _ (c : Board) (t : ℕ → Bool) where
   abbrev given : ℕ → Board
-  given n = changes c (map (λ u. assigned u 2) (sieve t n))
+  given n = changes c (map (λ u. assigned u Role.advances) (sieve t n))
 
-  given-hit : (n : ℕ) → t n ≡ true → given (suc n) ≡ change (given n) (assigned n 2)
+  given-hit : (n : ℕ) → t n ≡ true → given (suc n) ≡ change (given n) (assigned n Role.advances)
   unfolding changes
   given-hit n e =
-      let g : ℕ → Change = λ u. assigned u 2 in
+      let g : ℕ → Change = λ u. assigned u Role.advances in
       ap (λ (k : ℕ). changes c (map g (sieve t k))) (sym (add-one n))
       ∙ ap (λ (l : List ℕ). changes c (map g l)) (sieve-hit t n e)
       ∙ ap (changes c) (map-last g (sieve t n) n)
@@ -86,7 +88,7 @@ module _ (c : Board) (t : ℕ → Bool) where
 
   given-miss : (n : ℕ) → t n ≡ false → given (suc n) ≡ given n
   given-miss n e =
-      let g : ℕ → Change = λ u. assigned u 2 in
+      let g : ℕ → Change = λ u. assigned u Role.advances in
       ap (λ (k : ℕ). changes c (map g (sieve t k))) (sym (add-one n))
       ∙ ap (λ (l : List ℕ). changes c (map g l)) (sieve-miss t n e)
 
@@ -107,18 +109,18 @@ module _ (c : Board) (t : ℕ → Bool) where
 -- all that owed have role 2
 module _
     {c d : Board}
-    (o : Promoted c d (λ u. eqb (c .units .state .role u) 1) (c .units .count))
+    (o : Promoted c d (λ u. eqb (c .units .state .role u) Role.owes) (c .units .count))
     (u : UnitsOk c)
     (most : c .map .hexes ≤ nowhere)
-    (none : (w : ℕ) → w < c .units .count → c .units .state .role w ≡ 2 → ⊥) where
+    (none : (w : ℕ) → w < c .units .count → c .units .state .role w ≡ Role.advances → ⊥) where
   -- a unit owed, or is as it was
   lot :
-      {X : Type 0} (w : ℕ) → w < c .units .count → (c .units .state .role w ≡ 1 → Fated (c .units) (d .units) 2 w → X)
-      → ((c .units .state .role w ≡ 1 → ⊥) → Same (c .units) (d .units) w → X) → X
+      {X : Type 0} (w : ℕ) → w < c .units .count → (c .units .state .role w ≡ Role.owes → Fated (c .units) (d .units) Role.advances w → X)
+      → ((c .units .state .role w ≡ Role.owes → ⊥) → Same (c .units) (d .units) w → X) → X
   lot w l x y =
-      same-or (c .units .state .role w) 1
-      (λ e. x e (o .hit w l l (eq-eqb (c .units .state .role w) 1 e)))
-      (λ n. y n (o .miss w (λ _ e. n (eqb-true (c .units .state .role w) 1 e))))
+      same-or (c .units .state .role w) Role.owes
+      (λ e. x e (o .hit w l l (eq-eqb (c .units .state .role w) Role.owes e)))
+      (λ n. y n (o .miss w (λ _ e. n (eqb-true (c .units .state .role w) Role.owes e))))
 
   alone : (w : ℕ) → w < d .units .count → AloneOk d w
   alone w m =
@@ -133,7 +135,7 @@ module _
   stays : (w : ℕ) → w < c .units .count → d .units .state .hex w ≡ c .units .state .hex w
   stays w l = lot w l (λ _ f. f .stays (λ z. omega arith)) (λ _ f. f .hex)
 
-  had : (w : ℕ) → w < c .units .count → (d .units .state .role w ≡ 0 → ⊥) → (d .units .state .role w ≡ 2) × (c .units .state .role w ≡ 1)
+  had : (w : ℕ) → w < c .units .count → (d .units .state .role w ≡ Role.none → ⊥) → (d .units .state .role w ≡ Role.advances) × (c .units .state .role w ≡ Role.owes)
   had w l n =
       lot w l (λ e f. (f .role, e))
       (λ e f.
@@ -145,9 +147,9 @@ module _
   units-promoted =
       units-asked alone (stacks-fewer (o .fixed) most (λ w l _. stays w l) (stacks-of u most)) (roles-passed (o .fixed) had (roles-of u))
 
-  owing-none : holders d 1 ≡ 0
+  owing-none : holders d Role.owes ≡ 0
   owing-none =
-      holders-nought d 1
+      holders-nought d Role.owes
       (λ w l z. absurd (omega (arith, had w (omega (arith, o .fixed .count)) (λ n. omega arith) .0)))
 
   since-promoted : {b : Board} → Since b c → Since b d
@@ -159,29 +161,29 @@ module _
         routes = routes-ok-by (o .fixed) (ap (λ (k : Desk). k .route) (o .desk)) (s .routes);
       }
 
-module _ {b : Board} (l : Lawful b) (most : b .map .hexes ≤ nowhere) (e : b .desk .battle .stage ≡ 2) (units : List ℕ) where
+module _ {b : Board} (l : Lawful b) (most : b .map .hexes ≤ nowhere) (e : b .desk .battle .stage ≡ Stage.losses) (units : List ℕ) where
   abbrev struck : Board
   struck = changes b (map destroyed units)
 
   less : Lessened b struck
   less = all-destroyed most units (lessened-none l)
 
-  after : changes b (lossChanges b units) ≡ changes struck (reassigned struck 1 2)
+  after : changes b (lossChanges b units) ≡ changes struck (reassigned struck Role.owes Role.advances)
   unfolding lossChanges
   after =
-      changes-then (map destroyed units) (map (λ u. assigned u 2) (sieve (spared b units) (b .units .count))) b
+      changes-then (map destroyed units) (map (λ u. assigned u Role.advances) (sieve (spared b units) (b .units .count))) b
       ∙ ap (changes struck) (sym (survivors b units))
 
   -- nobody may advance while losses are owed
-  none-advances : (w : ℕ) → w < struck .units .count → struck .units .state .role w ≡ 2 → ⊥
+  none-advances : (w : ℕ) → w < struck .units .count → struck .units .state .role w ≡ Role.advances → ⊥
   none-advances w m z =
-      holders-none b 2 w (l .stage .during .losses e .advancing) (omega (arith, less .since .fixed .count))
+      holders-none b Role.advances w (l .stage .during .losses e .advancing) (omega (arith, less .since .fixed .count))
       (sym (less .had w (λ n. omega arith)) ∙ z)
 
   all-promoted :
-      Promoted struck (changes struck (reassigned struck 1 2)) (λ u. eqb (struck .units .state .role u) 1) (struck .units .count)
+      Promoted struck (changes struck (reassigned struck Role.owes Role.advances)) (λ u. eqb (struck .units .state .role u) Role.owes) (struck .units .count)
   unfolding reassigned
-  all-promoted = promoted struck (λ u. eqb (struck .units .state .role u) 1) (struck .units .count)
+  all-promoted = promoted struck (λ u. eqb (struck .units .state .role u) Role.owes) (struck .units .count)
 
   few : struck .map .hexes ≤ nowhere
   few = rw (less .since .fixed .map) most
@@ -191,8 +193,8 @@ module _ {b : Board} (l : Lawful b) (most : b .map .hexes ≤ nowhere) (e : b .d
   since-losses =
       subst (λ (c : Board). Since b c) (sym after) (since-promoted all-promoted (less .since .units) few none-advances (less .since))
 
-  pub losses-owing : holders (changes b (lossChanges b units)) 1 ≡ 0
-  losses-owing = ap (λ (c : Board). holders c 1) after ∙ owing-none all-promoted (less .since .units) few none-advances
+  pub losses-owing : holders (changes b (lossChanges b units)) Role.owes ≡ 0
+  losses-owing = ap (λ (c : Board). holders c Role.owes) after ∙ owing-none all-promoted (less .since .units) few none-advances
 
   lawful-losses : Lawful (changes b (thenOn b (lossChanges b units)))
   lawful-losses =
@@ -207,7 +209,7 @@ module _ {p : List ℕ} (a : Accepted p) (units : List ℕ) where
       (λ _.
       kept-along a (λ _. Unit {0}) (λ s x k v _ f. kept-past a (leb (b .units .count) x) (λ _. f tt)) 0 tt units 1 _
       (λ _ _.
-      kept-past a (not (eqb (b .desk .battle .stage) 2))
+      kept-past a (not (eqb (b .desk .battle .stage) Stage.losses))
       (λ e.
       kept-along a (λ _. Unit {0})
       (λ s x k v _ f. kept-past a (not (owes b x)) (λ _. kept-past a (named s x) (λ _. f tt)))
@@ -221,5 +223,5 @@ module _ {p : List ℕ} (a : Accepted p) (units : List ℕ) where
       (λ _.
       kept-ruled a (thenOn b (lossChanges b units))
       (lawful-losses (a .lawful) (omega (arith, hexes-most (a .shaped)))
-      (eqb-true (b .desk .battle .stage) 2 (not-false (eqb (b .desk .battle .stage) 2) e))
+      (eqb-true (b .desk .battle .stage) Stage.losses (not-false (eqb (b .desk .battle .stage) Stage.losses) e))
       units))))))

@@ -10,6 +10,8 @@ use Rattle.position.specs.Crowd.{holders}
 use Rattle.position.specs.Change.{Change}
 use Rattle.position.specs.Change.Change.{assigned, destroyed, staged, unrouted}
 use Rattle.position.specs.Effect.{change, changes}
+use Rattle.position.specs.Role as Role
+use Rattle.position.specs.Stage as Stage
 use Rattle.position.proofs.Effects.{upd-case}
 use Rattle.position.proofs.Tallies.{same-or}
 use Rattle.acceptance.specs.Accepted.{Lawful}
@@ -23,7 +25,7 @@ use Rattle.aftermath.specs.Stage.{passesOn, thenOn}
 -- board c since board b, where a unit that has a role had it
 pub record Lessened (b c : Board) : Type 0 where
   pub since : Since b c
-  pub had : (w : ℕ) → (c .units .state .role w ≡ 0 → ⊥) → c .units .state .role w ≡ b .units .state .role w
+  pub had : (w : ℕ) → (c .units .state .role w ≡ Role.none → ⊥) → c .units .state .role w ≡ b .units .state .role w
 
 pub lessened-none : {b : Board} → Lawful b → Lessened b b
 lessened-none l = record { since = since-lawful l; had = λ w n. refl }
@@ -40,7 +42,7 @@ module _ {b : Board} (most : b .map .hexes ≤ nowhere) where
             upd-case (λ k. (k ≡ 0 → ⊥) → k ≡ b .units .state .role w) (c .units .count) (c .units .state .role) u 0 w (λ _ _ n. absurd (n refl)) (o .had w);
       }
 
-  pub lessened-freed : {c : Board} → Lessened b c → (u : ℕ) → Lessened b (change c (assigned u 0))
+  pub lessened-freed : {c : Board} → Lessened b c → (u : ℕ) → Lessened b (change c (assigned u Role.none))
   unfolding change
   lessened-freed {c} o u =
       record {
@@ -56,52 +58,52 @@ module _ {b : Board} (most : b .map .hexes ≤ nowhere) where
   all-destroyed [] o = o
   all-destroyed (u ∷ us) o = all-destroyed us (lessened-destroyed o u)
 
-  pub all-freed : (us : List ℕ) {c : Board} → Lessened b c → Lessened b (changes c (map (λ u. assigned u 0) us))
+  pub all-freed : (us : List ℕ) {c : Board} → Lessened b c → Lessened b (changes c (map (λ u. assigned u Role.none) us))
   unfolding changes
   all-freed [] o = o
   all-freed (u ∷ us) o = all-freed us (lessened-freed o u)
 
 -- where nobody owed, nobody owes
-pub lessened-owing : {b c : Board} → Lessened b c → holders b 1 ≡ 0 → holders c 1 ≡ 0
+pub lessened-owing : {b c : Board} → Lessened b c → holders b Role.owes ≡ 0 → holders c Role.owes ≡ 0
 lessened-owing {b} {c} o e =
-    holders-nought c 1
+    holders-nought c Role.owes
     (λ w l z.
-    holders-none b 1 w e (omega (arith, o .since .fixed .count)) (sym (o .had w (λ n. omega arith)) ∙ z))
+    holders-none b Role.owes w e (omega (arith, o .since .fixed .count)) (sym (o .had w (λ n. omega arith)) ∙ z))
 
 -- the stage that follows: quiet, or advances, where nobody owes any more, and else as it is
 pub passed-by :
-    (P : Board → Type 0) (c : Board) → (holders c 1 ≡ 0 → holders c 2 ≡ 0 → P (change (change c (staged 0 0 0)) unrouted))
-    → (holders c 1 ≡ 0 → (holders c 2 ≡ 0 → ⊥) → P (change c (staged 3 0 0))) → ((holders c 1 ≡ 0 → ⊥) → P c)
+    (P : Board → Type 0) (c : Board) → (holders c Role.owes ≡ 0 → holders c Role.advances ≡ 0 → P (change (change c (staged Stage.quiet 0 0)) unrouted))
+    → (holders c Role.owes ≡ 0 → (holders c Role.advances ≡ 0 → ⊥) → P (change c (staged Stage.advances 0 0))) → ((holders c Role.owes ≡ 0 → ⊥) → P c)
     → P (changes c (passesOn c))
 unfolding passesOn changes
 passed-by P c quiet advances later =
-    same-or (holders c 1) 0
+    same-or (holders c Role.owes) 0
     (λ none.
-    same-or (holders c 2) 0
-    (λ e. simp (eq-eqb (holders c 1) 0 none, eq-eqb (holders c 2) 0 e) (quiet none e))
-    (λ n. simp (eq-eqb (holders c 1) 0 none, ne-eqb (holders c 2) 0 n) (advances none n)))
-    (λ some. simp (ne-eqb (holders c 1) 0 some) (later some))
+    same-or (holders c Role.advances) 0
+    (λ e. simp (eq-eqb (holders c Role.owes) 0 none, eq-eqb (holders c Role.advances) 0 e) (quiet none e))
+    (λ n. simp (eq-eqb (holders c Role.owes) 0 none, ne-eqb (holders c Role.advances) 0 n) (advances none n)))
+    (λ some. simp (ne-eqb (holders c Role.owes) 0 some) (later some))
 
-module _ {b c : Board} (l : Lawful b) (most : b .map .hexes ≤ nowhere) (combat : b .desk .battle .stage ≡ 0 → ⊥) (s : Since b c) where
-  passed-quiet : holders c 1 ≡ 0 → holders c 2 ≡ 0 → Lawful (change (change c (staged 0 0 0)) unrouted)
+module _ {b c : Board} (l : Lawful b) (most : b .map .hexes ≤ nowhere) (combat : b .desk .battle .stage ≡ Stage.quiet → ⊥) (s : Since b c) where
+  passed-quiet : holders c Role.owes ≡ 0 → holders c Role.advances ≡ 0 → Lawful (change (change c (staged Stage.quiet 0 0)) unrouted)
   unfolding change holders
   passed-quiet none e =
       lawful-since l (since-unrouted most (since-staged most s 0 0 0)) (omega arith) (λ n. absurd (n refl))
-      (stage-quiet refl refl refl (record { owing = none; advancing = e; routes = routes-none (change c (staged 0 0 0)) }))
+      (stage-quiet refl refl refl (record { owing = none; advancing = e; routes = routes-none (change c (staged Stage.quiet 0 0)) }))
 
-  passed-advances : holders c 1 ≡ 0 → (holders c 2 ≡ 0 → ⊥) → Lawful (change c (staged 3 0 0))
+  passed-advances : holders c Role.owes ≡ 0 → (holders c Role.advances ≡ 0 → ⊥) → Lawful (change c (staged Stage.advances 0 0))
   unfolding change holders
   passed-advances none n =
       lawful-since l (since-staged most s 3 0 0) (omega arith) (λ _. l .clock .combat combat)
       (stage-advances refl refl refl (record { advancing = omega arith; owing = none }))
 
-  pub lawful-passed : ((holders c 1 ≡ 0 → ⊥) → Lawful c) → Lawful (changes c (passesOn c))
+  pub lawful-passed : ((holders c Role.owes ≡ 0 → ⊥) → Lawful c) → Lawful (changes c (passesOn c))
   lawful-passed later = passed-by Lawful c passed-quiet passed-advances later
 
 -- a call's own changes, and then the stage that follows
 pub lawful-then-on :
-    {b : Board} → Lawful b → b .map .hexes ≤ nowhere → (b .desk .battle .stage ≡ 0 → ⊥) → (xs : List Change) → Since b (changes b xs)
-    → ((holders (changes b xs) 1 ≡ 0 → ⊥) → Lawful (changes b xs)) → Lawful (changes b (thenOn b xs))
+    {b : Board} → Lawful b → b .map .hexes ≤ nowhere → (b .desk .battle .stage ≡ Stage.quiet → ⊥) → (xs : List Change) → Since b (changes b xs)
+    → ((holders (changes b xs) Role.owes ≡ 0 → ⊥) → Lawful (changes b xs)) → Lawful (changes b (thenOn b xs))
 unfolding thenOn
 lawful-then-on {b} l most combat xs s later =
     rw (changes-then xs (passesOn (changes b xs)) b) (lawful-passed l most combat s later)

@@ -17,6 +17,7 @@ use Rattle.position.specs.Change.Change.{assigned, destroyed}
 use Rattle.position.specs.Effect.{change, changes}
 use Rattle.position.specs.Shape.{Shaped}
 use Rattle.position.specs.Tally.{any}
+use Rattle.position.specs.Role as Role
 use Rattle.acceptance.proofs.Carries.{fixed-change}
 use Rattle.acceptance.proofs.Fates.{destroyed-else, destroyed-here}
 use Rattle.ruling.proofs.Going.{Gone, gone-more}
@@ -46,7 +47,7 @@ use Rattle.aftermath.specs.Losses.{
 use Rattle.aftermath.specs.Stage.{reassigned}
 
 -- a role, as it is asked
-pub owes-is : (b : Board) (u : ℕ) → owes b u ≡ eqb (b .units .state .role u) 1
+pub owes-is : (b : Board) (u : ℕ) → owes b u ≡ eqb (b .units .state .role u) Role.owes
 unfolding owes
 owes-is b u = refl
 
@@ -168,7 +169,7 @@ named-whole units u n e l = e ∙ ap (λ (k : List ℕ). named k u) (take-all n 
 -- of the units that owed, those that the list spares owe still
 pub owes-after :
     (units : List ℕ) (b : Board) (w : ℕ) → w < b .units .count
-    → eqb (changes b (map destroyed units) .units .state .role w) 1 ≡ (eqb (b .units .state .role w) 1 && not (named units w))
+    → eqb (changes b (map destroyed units) .units .state .role w) Role.owes ≡ (eqb (b .units .state .role w) Role.owes && not (named units w))
 unfolding changes named
 owes-after [] b w l = simp and-true
 owes-after (u ∷ us) b w l =
@@ -179,9 +180,9 @@ owes-after (u ∷ us) b w l =
     (λ e.
     let m : u < b .units .count = omega arith in
     let r = ap (c .units .state .role) e ∙ destroyed-here b u m .role in
-    ap (λ (x : ℕ). eqb x 1 && not (named us w)) r ∙ sym (simp (eq-eqb u w (sym e), and-false)))
+    ap (λ (x : ℕ). eqb x Role.owes && not (named us w)) r ∙ sym (simp (eq-eqb u w (sym e), and-false)))
     (λ n.
-    ap (λ (x : ℕ). eqb x 1 && not (named us w)) (destroyed-else b u w n .role) ∙ sym (simp (ne-eqb u w (λ e. n (sym e)))))
+    ap (λ (x : ℕ). eqb x Role.owes && not (named us w)) (destroyed-else b u w n .role) ∙ sym (simp (ne-eqb u w (λ e. n (sym e)))))
 
 changes-count : (xs : List Change) (b : Board) → changes b xs .units .count ≡ b .units .count
 unfolding changes
@@ -190,24 +191,24 @@ changes-count (x ∷ xs) b = changes-count xs (change b x) ∙ fixed-change b x 
 
 module _ (b : Board) (units : List ℕ) where
   -- they are given the role of survivors
-  pub survivors : reassigned (changes b (map destroyed units)) 1 2 ≡ map (λ u. assigned u 2) (sieve (spared b units) (b .units .count))
+  pub survivors : reassigned (changes b (map destroyed units)) Role.owes Role.advances ≡ map (λ u. assigned u Role.advances) (sieve (spared b units) (b .units .count))
   unfolding reassigned spared owes
   survivors =
       let c = changes b (map destroyed units) in
-      let t : ℕ → Bool = λ u. eqb (c .units .state .role u) 1 in
-      ap (map (λ u. assigned u 2))
+      let t : ℕ → Bool = λ u. eqb (c .units .state .role u) Role.owes in
+      ap (map (λ u. assigned u Role.advances))
       (ap (sieve t) (changes-count (map destroyed units) b)
       ∙ sieve-same t (spared b units) (b .units .count) (λ k l. owes-after units b k l))
 
 -- the units of the list are destroyed, and then the survivors get role 2
 pub lost-then :
-    {p q r : List ℕ} → Shaped p → (units : List ℕ) → q ≡ makes p (map destroyed units) → r ≡ makes q (reassigned (board q) 1 2)
+    {p q r : List ℕ} → Shaped p → (units : List ℕ) → q ≡ makes p (map destroyed units) → r ≡ makes q (reassigned (board q) Role.owes Role.advances)
     → r ≡ makes p (lossChanges (board p) units)
 unfolding lossChanges
 lost-then {p} s units e f =
     let xs = map destroyed units in
-    let ys = map (λ u. assigned u 2) (sieve (spared (board p) units) (board p .units .count)) in
+    let ys = map (λ u. assigned u Role.advances) (sieve (spared (board p) units) (board p .units .count)) in
     f
-    ∙ ap (λ (l : List ℕ). makes l (reassigned (board l) 1 2)) e
-    ∙ ap (makes (makes p xs)) (ap (λ (b : Board). reassigned b 1 2) (board-makes s xs) ∙ survivors (board p) units)
+    ∙ ap (λ (l : List ℕ). makes l (reassigned (board l) Role.owes Role.advances)) e
+    ∙ ap (makes (makes p xs)) (ap (λ (b : Board). reassigned b Role.owes Role.advances) (board-makes s xs) ∙ survivors (board p) units)
     ∙ sym (makes-then xs ys p)

@@ -17,6 +17,8 @@ use Rattle.position.specs.Effect.{changes}
 use Rattle.position.specs.Laid.{Laid}
 use Rattle.position.specs.Shape.{Shaped}
 use Rattle.position.specs.declared.View.{View}
+use Rattle.position.specs.Role as Role
+use Rattle.position.specs.Stage as Stage
 use Rattle.acceptance.proofs.Fates.{assigned-else}
 use Rattle.field.proofs.Lists.{map-last, sieve-hit, sieve-miss}
 use Rattle.field.specs.Listed.{sieve}
@@ -101,22 +103,22 @@ module _ {p : List ℕ} {v : View} {from to : ℕ} where
 
 -- the stage that follows: none, advances, or quiet
 module _ (p : List ℕ) where
-  pub on-later : (holders (board p) 1 ≡ 0 → ⊥) → p ≡ makes p (passesOn (board p))
+  pub on-later : (holders (board p) Role.owes ≡ 0 → ⊥) → p ≡ makes p (passesOn (board p))
   unfolding passesOn makes
-  on-later n = simp (ne-eqb (holders (board p) 1) 0 n)
+  on-later n = simp (ne-eqb (holders (board p) Role.owes) 0 n)
 
   pub on-advances :
-      {q : List ℕ} → holders (board p) 1 ≡ 0 → (holders (board p) 2 ≡ 0 → ⊥) → q ≡ make p (staged 3 0 0)
+      {q : List ℕ} → holders (board p) Role.owes ≡ 0 → (holders (board p) Role.advances ≡ 0 → ⊥) → q ≡ make p (staged Stage.advances 0 0)
       → q ≡ makes p (passesOn (board p))
   unfolding passesOn makes
-  on-advances e n f = simp (eq-eqb (holders (board p) 1) 0 e, ne-eqb (holders (board p) 2) 0 n) f
+  on-advances e n f = simp (eq-eqb (holders (board p) Role.owes) 0 e, ne-eqb (holders (board p) Role.advances) 0 n) f
 
   pub on-quiet :
-      {q r : List ℕ} → holders (board p) 1 ≡ 0 → holders (board p) 2 ≡ 0 → q ≡ make p (staged 0 0 0) → r ≡ make q unrouted
+      {q r : List ℕ} → holders (board p) Role.owes ≡ 0 → holders (board p) Role.advances ≡ 0 → q ≡ make p (staged Stage.quiet 0 0) → r ≡ make q unrouted
       → r ≡ makes p (passesOn (board p))
   unfolding passesOn makes
   on-quiet e g f h =
-      simp (eq-eqb (holders (board p) 1) 0 e, eq-eqb (holders (board p) 2) 0 g)
+      simp (eq-eqb (holders (board p) Role.owes) 0 e, eq-eqb (holders (board p) Role.advances) 0 g)
       (h ∙ ap (λ (l : List ℕ). make l unrouted) f)
 
 -- a call's own changes, and then the stage that follows

@@ -39,12 +39,12 @@ unfoldable pub clearTo : Board → ℕ → ℕ → ℕ → ℕ → Bool
 clearTo b u hex r j = eqb (b .desk .route r j) hex && not (any (heldAt b u r) (j + 1))
 
 -- "Some route must start beside the unit over an unblocked side and contain the hex": route r serves
-unfoldable pub serves : Board → ℕ → ℕ → ℕ → Bool
-serves b u hex r = joined (b .map) (b .units .state .hex u) (b .desk .route r 0) && any (clearTo b u hex r) 4
+unfoldable pub canFollow : Board → ℕ → ℕ → ℕ → Bool
+canFollow b u hex r = joined (b .map) (b .units .state .hex u) (b .desk .route r 0) && any (clearTo b u hex r) 4
 
 -- "no route for an advance"
 unfoldable pub noRoute : Board → ℕ → ℕ → Bool
-noRoute b u hex = not (any (serves b u hex) 6)
+noRoute b u hex = not (any (canFollow b u hex) 6)
 
 -- "The unit then stands there, role 0."
 unfoldable pub advanceChanges : Board → ℕ → ℕ → List Change

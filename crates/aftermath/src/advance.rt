@@ -14,7 +14,7 @@ ghost use Rattle.aftermath.specs.Advance.{
   shut,
   heldAt,
   clearTo,
-  serves,
+  canFollow,
   noRoute,
   unitChecks,
   advanceChecks,
@@ -97,9 +97,9 @@ fn leads_to(p: &[u8], v: View, u: usize, hex: usize, r: usize) -> bool
 }
 
 // Whether route `r` starts beside unit `u` and leads it to the hex.
-fn serves(p: &[u8], v: View, u: usize, hex: usize, r: usize) -> bool
+fn can_follow(p: &[u8], v: View, u: usize, hex: usize, r: usize) -> bool
     requires { ⌜ Laid (now p) v ⌝ }
-    ensures { λ b. ⌜ b ≡ serves (board (now (p .entry))) u hex r ⌝ }
+    ensures { λ b. ⌜ b ≡ canFollow (board (now (p .entry))) u hex r ⌝ }
 {
     if !ground::joined(p, v, read::hex(p, v, u), read::route(p, v, r, 0)) {
         return false;
@@ -114,7 +114,7 @@ fn no_route(p: &[u8], v: View, u: usize, hex: usize) -> bool
 {
     let mut r = 0;
     while r < 6 {
-        if serves(p, v, u, hex, r) {
+        if can_follow(p, v, u, hex, r) {
             return false;
         }
         r += 1;

@@ -13,6 +13,8 @@ use Rattle.position.specs.Board.{Board, board}
 use Rattle.position.specs.Ground.{joined}
 use Rattle.position.specs.Kind.{mayAttack}
 use Rattle.position.specs.Tally.{any}
+use Rattle.position.specs.Stage as Stage
+use Rattle.position.specs.Layout.{dieFaces}
 use Rattle.ruling.proofs.Going.{Gone, gone-more}
 use Rattle.ruling.proofs.Meets.{pass, stop}
 use Rattle.ruling.specs.Judged.{Passes, Stops}
@@ -23,8 +25,9 @@ use Rattle.field.specs.Phasing.{notPhasing}
 use Rattle.field.specs.Scene.{scene}
 use Rattle.field.specs.Zone.{holdsEnemy}
 use Rattle.odds.specs.Adjacent.{AllAdjacent}
-use Rattle.battle.specs.Asked.{Able, Engaged}
+use Rattle.battle.specs.Asked.{Faces, Engaged}
 use Rattle.battle.specs.Attack.{attacker, cannotAttack, dieFits, foughtOn, mayAttackNow, noTarget, notBeside}
+use Rattle.clock.specs.Phase as Phase
 
 module _ (die : ℕ) where
   pub die-low : die < 1 → dieFits die ≡ false
@@ -33,21 +36,21 @@ module _ (die : ℕ) where
 
   pub die-high : 6 < die → dieFits die ≡ false
   unfolding dieFits
-  die-high l = simp (lt-leb die 6 l, and-false)
+  die-high l = simp (lt-leb die dieFaces l, and-false)
 
-  pub die-fits : 1 ≤ die → die ≤ 6 → dieFits die ≡ true
+  pub die-fits : 1 ≤ die → die ≤ dieFaces → dieFits die ≡ true
   unfolding dieFits
-  die-fits l m = simp (le-leb 1 die l, le-leb die 6 m)
+  die-fits l m = simp (le-leb 1 die l, le-leb die dieFaces m)
 
 module _ (b : Board) where
   -- another stage, and stage 0
-  pub attack-late : (b .desk .battle .stage ≡ 0 → ⊥) → mayAttackNow b ≡ false
+  pub attack-late : (b .desk .battle .stage ≡ Stage.quiet → ⊥) → mayAttackNow b ≡ false
   unfolding mayAttackNow
-  attack-late e = simp (ne-eqb (b .desk .battle .stage) 0 e)
+  attack-late e = simp (ne-eqb (b .desk .battle .stage) Stage.quiet e)
 
-  pub attack-phase : b .desk .battle .stage ≡ 0 → mayAttackNow b ≡ eqb (b .desk .clock .phase) 1
+  pub attack-phase : b .desk .battle .stage ≡ Stage.quiet → mayAttackNow b ≡ eqb (b .desk .clock .phase) Phase.combat
   unfolding mayAttackNow
-  attack-phase e = simp (eq-eqb (b .desk .battle .stage) 0 e)
+  attack-phase e = simp (eq-eqb (b .desk .battle .stage) Stage.quiet e)
 
   -- no Enemy there, and one
   pub target-empty : (h : ℕ) → holdsEnemy (scene b) (b .desk .clock .force) h ≡ false → noTarget b h ≡ true
@@ -97,7 +100,7 @@ module _ (p : List ℕ) (b : Board) (target : ℕ) (before : List ℕ) (u k : �
         unfolding attacker
         stops-apart h l v = pass e (pass f (pass g (stop h)))
 
-        pub passes-attacker : notBeside b target u ≡ false → Passes p (attacker b target before u k) × Able b target u
+        pub passes-attacker : notBeside b target u ≡ false → Passes p (attacker b target before u k) × Faces b target u
         unfolding attacker
         passes-attacker h =
             (λ l v a q m w. pass e (pass f (pass g (pass h w))), record { phasing = e; beside = h })
@@ -105,17 +108,17 @@ module _ (p : List ℕ) (b : Board) (target : ℕ) (before : List ℕ) (u k : �
 -- the attackers' tests, passed up to place i
 pub record Asked (p : List ℕ) (target : ℕ) (units : List ℕ) (i : ℕ) : Type 0 where
   pub gone : Gone p (attacker (board p) target) andThen [] units i (take i units)
-  pub able : (j : ℕ) → j < i → Able (board p) target (getD units j 0)
+  pub able : (j : ℕ) → j < i → Faces (board p) target (getD units j 0)
 
 pub asked-more :
     {p : List ℕ} {target : ℕ} {units : List ℕ} {i : ℕ} → Asked p target units i → i < length units
-    → Passes p (attacker (board p) target (take i units) (getD units i 0) (i + 1)) × Able (board p) target (getD units i 0)
+    → Passes p (attacker (board p) target (take i units) (getD units i 0) (i + 1)) × Faces (board p) target (getD units i 0)
     → Asked p target units (i + 1)
 unfolding andThen
 asked-more {p} {target} {units} {i} o l t =
     record {
       gone = rw (take-more units i l) (gone-more (o .gone) l (t .0));
-      able = below-more (λ j. Able (board p) target (getD units j 0)) i (o .able) (t .1);
+      able = below-more (λ j. Faces (board p) target (getD units j 0)) i (o .able) (t .1);
     }
 
 -- past every question the attackers are adjacent to the target

@@ -14,6 +14,7 @@ use Rattle.position.specs.Ground.{joined}
 use Rattle.position.specs.Crowd.{crowd}
 use Rattle.position.specs.Change.Change.{staged}
 use Rattle.position.specs.Effect.{change, changes}
+use Rattle.position.specs.Stage as Stage
 use Rattle.position.proofs.Tallies.{either}
 use Rattle.acceptance.specs.Accepted.{RoutesOk, Lawful}
 use Rattle.acceptance.proofs.Carries.{Fixed, fixed-change, changes-then, routes-ok-by}
@@ -22,8 +23,8 @@ use Rattle.acceptance.proofs.Fates.{Same, Fated, same-trans, same-fated, fated-
 use Rattle.ruling.specs.Secret.{Each}
 use Rattle.field.specs.Scene.{scene}
 use Rattle.field.specs.Zone.{standsOn}
-use Rattle.field.specs.Bearing.{bearing}
-use Rattle.field.proofs.Bearings.{bearing-below}
+use Rattle.position.specs.Ground.{bearing}
+use Rattle.position.proofs.Bearings.{bearing-below}
 use Rattle.field.proofs.Zones.{stands-here}
 use Rattle.field.specs.Listed.{named, sieve}
 use Rattle.results.specs.declared.Upshot.{Upshot}
@@ -241,7 +242,7 @@ module _ {b : Board} {target : ℕ} {units : List ℕ} (g : Ready b target units
         (λ i l. absurd (omega arith))
         (shown .lawful .routes))
 
-    unrouted : o .stage ≡ 1 → routed .desk .route ≡ b .desk .route
+    unrouted : o .stage ≡ Stage.retreats → routed .desk .route ≡ b .desk .route
     unfolding routedFrom changes
     unrouted e =
         let h = z .retreats e in

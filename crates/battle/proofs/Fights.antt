@@ -22,6 +22,7 @@ use Rattle.position.specs.Crowd.{crowd}
 use Rattle.position.specs.Kind.{force, mayBelong}
 use Rattle.position.specs.Layout.{strength}
 use Rattle.position.specs.Tally.{tally}
+use Rattle.position.specs.Stage as Stage
 use Rattle.ruling.proofs.Meets.{seen-all}
 use Rattle.ruling.specs.Values.{foughtWith}
 use Rattle.ruling.specs.Verdict.{Met, Outcome, judged, outcome, turnedAll}
@@ -35,7 +36,7 @@ use Rattle.field.specs.Phasing.{notPhasing}
 use Rattle.field.specs.Scene.{scene}
 use Rattle.field.specs.Zone.{standsOn}
 use Rattle.results.proofs.Upshots.{need-attackers, need-defenders, need-none}
-use Rattle.battle.specs.Asked.{Able, Engaged}
+use Rattle.battle.specs.Asked.{Faces, Engaged}
 use Rattle.battle.specs.Battle.{battle, codeOf, columnOf, needFor, ruled}
 use Rattle.results.specs.Participants.{defenders, participants}
 use Rattle.battle.specs.Line.{attackLine, defenceLine, fighter, line, strengthOf}
@@ -115,7 +116,7 @@ module _ {b : Board} (l : Lawful b) (m : b .map .hexes ≤ 4096) where
   pub stand-nation : (u : ℕ) → u < b .units .count → b .units .counter .nationality u < 5
   stand-nation u n = belongs-five (b .units .counter .kind u) (b .units .counter .nationality u) (l .units .each u n .counter .belongs)
 
-  pub attacker-stands : (target u : ℕ) → u < b .units .count → Able b target u → Standing b u
+  pub attacker-stands : (target u : ℕ) → u < b .units .count → Faces b target u → Standing b u
   attacker-stands target u n a =
       record {
         nation = stand-nation u n;
@@ -291,7 +292,7 @@ defence-fits {m} {n} l k = let b : n ≤ 255 = omega arith in let e : m * n ≤ 
 
 pub need-fits : (o : Upshot) (a d : ℕ) → a ≤ most → d ≤ most → needOf o a d < 65536
 need-fits o a d l k =
-    same-or (o .stage) 2
+    same-or (o .stage) Stage.losses
     (λ e.
     same-or (o .attackers) lost
     (λ f. omega (arith, need-attackers o a d e f))
@@ -323,7 +324,3 @@ sides {p} {target} {units} {who} {printed} {fighting} {n} {fs} w q a d =
 -- the participants, as they are lent from the array
 pub lent-all : {b : Board} {target : ℕ} {units who : List ℕ} {n : ℕ} → Musters b target units who n → take (n - 0) (drop 0 who) ≡ participants b target units
 lent-all {n = n} w = let e : n - 0 ≡ n = omega arith in rw e (w .held)
-
--- as many 0s as the scratch has bytes
-pub all-clear : {m : List ℕ} (l : List ℕ) (k : ℕ) → m ≡ replicate (length l) 0 → length l ≡ k → m ≡ replicate k 0
-all-clear l k e f = e ∙ ap (λ (n : ℕ). replicate n 0) f

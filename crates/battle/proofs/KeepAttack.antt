@@ -8,10 +8,11 @@ use native.Mathlib.Omega.{arith}
 use lib.Dec.{leb, eqb}
 use borrow.Author.Tests.{leb-true, leb-false, eqb-true, eqb-false, not-false}
 use Rattle.position.specs.Tally.{any}
-use Rattle.position.specs.Layout.{strength}
+use Rattle.position.specs.Layout.{strength, dieFaces}
 use Rattle.position.specs.Board.{Board, board, nowhere, forceOf, enemy}
 use Rattle.position.specs.Ground.{joined}
 use Rattle.position.specs.Shape.{In}
+use Rattle.position.specs.Stage as Stage
 use Rattle.position.proofs.Shapes.{hexes-most}
 use Rattle.position.proofs.Tallies.{both-yes, neither, any-some}
 use Rattle.acceptance.specs.Accepted.{Accepted, Lawful}
@@ -39,17 +40,18 @@ use Rattle.results.proofs.Upshots.{sensible, NeedOk, need-ok}
 use Rattle.battle.proofs.Totals.{attack-total, defence-total}
 use Rattle.battle.proofs.LawfulAfter.{Held, Ready, crowd-there, crowd-some}
 use Rattle.battle.proofs.Battles.{defenders-each, defenders-long, stands-is, attackers-below, lawful-battle}
+use Rattle.clock.specs.Phase as Phase
 
 -- what each question leaves known
-pub die-in : (die : ℕ) → not (dieFits die) ≡ false → In 1 die 6
+pub die-in : (die : ℕ) → not (dieFits die) ≡ false → In 1 die dieFaces
 unfolding dieFits
 die-in die e =
-    let h = both-yes (leb 1 die) (leb die 6) (not-false (leb 1 die && leb die 6) e) in
-    record { low = leb-true 1 die (h .0); high = leb-true die 6 (h .1) }
+    let h = both-yes (leb 1 die) (leb die dieFaces) (not-false (leb 1 die && leb die dieFaces) e) in
+    record { low = leb-true 1 die (h .0); high = leb-true die dieFaces (h .1) }
 
 -- the column is one of the table, and so its code is a result
 pub code-fits :
-    {b : Board} → Lawful b → 1 ≤ b .results .columns → (attack defence die : ℕ) → 1 ≤ die → die ≤ 6
+    {b : Board} → Lawful b → 1 ≤ b .results .columns → (attack defence die : ℕ) → 1 ≤ die → die ≤ dieFaces
     → In 1 (b .results .code (column (b .results) attack defence) die) 10
 unfolding column
 code-fits {b} o l attack defence die h k =
@@ -62,13 +64,13 @@ code-fits {b} o l attack defence die h k =
     (omega arith))
 
 module _ (b : Board) where
-  now : not (mayAttackNow b) ≡ false → (b .desk .battle .stage ≡ 0) × (b .desk .clock .phase ≡ 1)
+  now : not (mayAttackNow b) ≡ false → (b .desk .battle .stage ≡ Stage.quiet) × (b .desk .clock .phase ≡ Phase.combat)
   unfolding mayAttackNow
   now e =
-      let x = eqb (b .desk .battle .stage) 0 in
-      let y = eqb (b .desk .clock .phase) 1 in
+      let x = eqb (b .desk .battle .stage) Stage.quiet in
+      let y = eqb (b .desk .clock .phase) Phase.combat in
       let h = both-yes x y (not-false (x && y) e) in
-      (eqb-true (b .desk .battle .stage) 0 (h .0), eqb-true (b .desk .clock .phase) 1 (h .1))
+      (eqb-true (b .desk .battle .stage) Stage.quiet (h .0), eqb-true (b .desk .clock .phase) Phase.combat (h .1))
 
   enemy-parts : (f h u : ℕ) → enemyOn (scene b) f h u ≡ true → (b .units .state .hex u ≡ h) × (forceOf b u ≡ f → ⊥)
   unfolding enemyOn
@@ -105,7 +107,7 @@ both-each : {P Q R : ℕ → Type 0} → ((u : ℕ) → P u → Q u → R u) →
 both-each f [] h g = tt
 both-each f (u ∷ us) h g = (f u (h .0) (g .0), both-each f us (h .1) (g .1))
 
-module _ {p : List ℕ} (a : Accepted p) {target : ℕ} {units : List ℕ} (g : Ready (board p) target units) (die : ℕ) (i : In 1 die 6) where
+module _ {p : List ℕ} (a : Accepted p) {target : ℕ} {units : List ℕ} (g : Ready (board p) target units) (die : ℕ) (i : In 1 die dieFaces) where
   -- the strengths that are turned over, and what they bring about
   abbrev told : List ℕ
   told = map (strength p) (participants (board p) target units)

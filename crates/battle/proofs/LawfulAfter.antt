@@ -12,6 +12,8 @@ use Rattle.position.specs.Ground.{joined}
 use Rattle.position.specs.Tally.{tally}
 use Rattle.position.specs.Crowd.{crowd, holders, owingHexes}
 use Rattle.position.specs.Shape.{In}
+use Rattle.position.specs.Role as Role
+use Rattle.position.specs.Stage as Stage
 use Rattle.position.proofs.Tallies.{same-or, either, tally-pos, tally-le, equals, equals-yes, equals-is}
 use Rattle.position.proofs.Crowds.{crowd-is, holders-is}
 use Rattle.acceptance.specs.Accepted.{UnitsOk, DuringOk, StageOk, RoutesOk, Lawful}
@@ -23,14 +25,15 @@ use Rattle.acceptance.proofs.Owings.{owing-most, owing-some, holders-nought, ho
 use Rattle.acceptance.proofs.Stills.{fixed-trans, Still}
 use Rattle.acceptance.proofs.Fates.{Same, Fated, alone-same, alone-fated, stacks-fewer}
 use Rattle.ruling.specs.Secret.{Each}
-use Rattle.field.specs.Bearing.{bearing}
-use Rattle.field.proofs.Bearings.{bearing-below}
+use Rattle.position.specs.Ground.{bearing}
+use Rattle.position.proofs.Bearings.{bearing-below}
 use Rattle.field.specs.Listed.{named}
 use Rattle.results.specs.declared.Upshot.{Upshot}
 use Rattle.field.proofs.Lists.{named-at}
 use Rattle.field.proofs.Named.{named-each, tally-named}
 use Rattle.battle.proofs.Ring.{joined-other, joined-one}
 use Rattle.results.proofs.Upshots.{Sensible}
+use Rattle.clock.specs.Phase as Phase
 
 -- an attacker as the questions leave it
 pub record Attacker (b : Board) (target u : ℕ) : Type 0 where
@@ -53,8 +56,8 @@ pub record Ready (b : Board) (target : ℕ) (units : List ℕ) : Type 0 where
   pub some : 1 ≤ length units
   pub many : length units ≤ 18
   pub aimed : target ≡ nowhere → ⊥
-  pub quiet : b .desk .battle .stage ≡ 0
-  pub phase : b .desk .clock .phase ≡ 1
+  pub quiet : b .desk .battle .stage ≡ Stage.quiet
+  pub phase : b .desk .clock .phase ≡ Phase.combat
   pub attackers : Each (Attacker b target) units
   pub held : Held b target
 
@@ -93,12 +96,12 @@ module _ {b : Board} {target : ℕ} {units : List ℕ} (g : Ready b target units
       (equals-yes (b .units .state .hex) target (h .unit) (h .here)))
 
   -- "Stage 0: no roles"
-  pub no-role : (w : ℕ) → w < b .units .count → b .units .state .role w ≡ 0
+  pub no-role : (w : ℕ) → w < b .units .count → b .units .state .role w ≡ Role.none
   no-role w l =
       let q = g .lawful .stage .during .quiet (g .quiet) in
       let m = g .lawful .units .each w l .duty .role in
-      let x = holders-none b 1 w (q .owing) l in
-      let y = holders-none b 2 w (q .advancing) l in
+      let x = holders-none b Role.owes w (q .owing) l in
+      let y = holders-none b Role.advances w (q .advancing) l in
       omega arith
 
 -- the participants are turned over and marked
@@ -120,9 +123,9 @@ pub record Desked (b c : Board) (o : Upshot) : Type 0 where
   pub clock : c .desk .clock ≡ b .desk .clock
   pub stage : c .desk .battle .stage ≡ o .stage
   pub owed : c .desk .battle .owed ≡ o .owed
-  pub need : o .stage ≡ 2 → In 1 (c .desk .battle .need) 1080
-  pub free : (o .stage ≡ 2 → ⊥) → c .desk .battle .need ≡ 0
-  pub unrouted : o .stage ≡ 1 → c .desk .route ≡ b .desk .route
+  pub need : o .stage ≡ Stage.losses → In 1 (c .desk .battle .need) 1080
+  pub free : (o .stage ≡ Stage.losses → ⊥) → c .desk .battle .need ≡ 0
+  pub unrouted : o .stage ≡ Stage.retreats → c .desk .route ≡ b .desk .route
   pub routes : RoutesOk c
 
 module _
@@ -275,7 +278,7 @@ module _
       let y : o .defenders ≡ 0 → ⊥ = λ i. absurd (omega arith) in
       same-or (o .attackers) 1
       (λ i.
-      let joins : (w : ℕ) → w < c .units .count → c .units .state .role w ≡ 1 → joined (b .map) (c .units .state .hex w) target ≡ true =
+      let joins : (w : ℕ) → w < c .units .count → c .units .state .role w ≡ Role.owes → joined (b .map) (c .units .state .hex w) target ≡ true =
       λ w l r.
       ap (λ (h : ℕ). joined (b .map) h target) (hex-after w (below l) x y)
       ∙ side 1 w (below l) (λ k. omega arith) r (λ _ j. attacker-of g w j .beside) (λ j _. absurd (omega arith))
@@ -284,7 +287,7 @@ module _
       (λ w l r. bearing-below (b .map) (c .units .state .hex w) target (joins w l r))
       (λ u w l k r s j. joined-one (b .map) target (c .units .state .hex u) (c .units .state .hex w) (joins u l r) (joins w k s) j))
       (λ n.
-      let there : (w : ℕ) → w < c .units .count → c .units .state .role w ≡ 1 → c .units .state .hex w ≡ target =
+      let there : (w : ℕ) → w < c .units .count → c .units .state .role w ≡ Role.owes → c .units .state .hex w ≡ target =
       λ w l r.
       hex-after w (below l) x y ∙ side 1 w (below l) (λ k. omega arith) r (λ j _. absurd (n j)) (λ _ j. j)
       in
@@ -309,13 +312,13 @@ module _
           quiet = λ e. absurd (omega arith);
           retreats =
               λ e.
-              let i : o .stage ≡ 1 = sym s ∙ e in
+              let i : o .stage ≡ Stage.retreats = sym s ∙ e in
               let h = z .retreats i in
               let none = routes-by all-fixed (d .unrouted i) ∙ g .lawful .stage .during .quiet (g .quiet) .routes in
               record { owed = rw (d .owed) (z .owed i); some = owing-one h; room = omega (arith, owing-six h) };
           losses =
               λ e.
-              let i : o .stage ≡ 2 = sym s ∙ e in
+              let i : o .stage ≡ Stage.losses = sym s ∙ e in
               let h = z .losses i in
               record {
                 need = d .need i;
@@ -328,7 +331,7 @@ module _
               };
           advances =
               λ e.
-              let i : o .stage ≡ 3 = sym s ∙ e in
+              let i : o .stage ≡ Stage.advances = sym s ∙ e in
               let h = z .advances i in
               record {
                 advancing = holders-some 2 (λ n. omega arith);

@@ -12,14 +12,9 @@ use Rattle.grid.proofs.Laws.{opposite, other}
 use Rattle.position.specs.Board.{Map}
 use Rattle.position.specs.Ground.{beside, side, blockedSide, next, isAt, joined}
 use Rattle.position.proofs.Tallies.{not-both, either}
-use Rattle.position.proofs.Sides.{reaches}
-use Rattle.field.specs.Bearing.{bearing}
-use Rattle.field.proofs.Bearings.{bearing-reaches}
-
-is-at : (s : Beside) (x : ℕ) → isAt s x ≡ true → s ≡ At x
-unfolding isAt
-is-at (At n) x e = ap At (eqb-true n x e)
-is-at Off x e = not-both false e refl
+use Rattle.position.proofs.Sides.{reaches, is-at}
+use Rattle.position.specs.Ground.{bearing}
+use Rattle.position.proofs.Bearings.{bearing-reaches}
 
 module _ (m : Map) where
   reaches-beside : (h x d : ℕ) → reaches m h x d ≡ true → beside m h d ≡ At x

@@ -15,7 +15,7 @@ use Rattle.position.specs.Crowd.{filled}
 use Rattle.position.specs.Change.Change.{routed, destroyed}
 use Rattle.position.specs.Effect.{change, changes}
 use Rattle.position.proofs.BitLaws.{with-within}
-use Rattle.position.proofs.BitLaws.Mark.{is-fought}
+use Rattle.position.proofs.BitLaws.UnitMark.{is-fought}
 use Rattle.position.proofs.Tallies.{not-both, same-or, either}
 use Rattle.acceptance.specs.Accepted.{RoutesOk, Lawful}
 use Rattle.acceptance.proofs.Carries.{Fixed, fixed-change, standable-by}

@@ -11,12 +11,12 @@ use Rattle.field.specs.Listed.{Counted}
 use Rattle.battle.specs.Attack.{notBeside}
 
 -- unit u is of the phasing force, on the map and beside the target
-pub record Able (b : Board) (target u : ℕ) : Type 0 where
+pub record Faces (b : Board) (target u : ℕ) : Type 0 where
   pub phasing : notPhasing b u ≡ false
   pub beside : notBeside b target u ≡ false
 
-abbrev pub AllAble : Board → ℕ → List ℕ → Type 0
-AllAble b target units = (i : ℕ) → i < length units → Able b target (getD units i 0)
+abbrev pub AllFace : Board → ℕ → List ℕ → Type 0
+AllFace b target units = (i : ℕ) → i < length units → Faces b target (getD units i 0)
 
 -- past refusal 3
 pub record InRange (b : Board) (target : ℕ) (units : List ℕ) (long : ℕ) : Type 0 where
@@ -29,4 +29,4 @@ pub record InRange (b : Board) (target : ℕ) (units : List ℕ) (long : ℕ) : 
 -- past every refusal
 pub record Engaged (b : Board) (target : ℕ) (units : List ℕ) (long : ℕ) : Type 0 where
   pub range : InRange b target units long
-  pub able : AllAble b target units
+  pub able : AllFace b target units

@@ -11,6 +11,7 @@ use Rattle.position.specs.Bits.{has, fought}
 use Rattle.position.specs.Kind.{mayAttack}
 use Rattle.position.specs.Board.{Board}
 use Rattle.position.specs.Ground.{joined}
+use Rattle.position.specs.Layout.{dieFaces}
 use Rattle.ruling.specs.Verdict.{Verdict, along}
 use Rattle.ruling.specs.Verdict.Verdict.{refuseIf}
 use Rattle.field.specs.Scene.{scene}
@@ -20,7 +21,7 @@ use Rattle.field.specs.Listed.{listLength, allThere, named, andThen}
 
 -- "die 1..6"
 unfoldable pub dieFits : ℕ → Bool
-dieFits die = leb 1 die && leb die 6
+dieFits die = leb 1 die && leb die dieFaces
 
 -- "wrong stage (.. attack .. 0 ..) or phase (.. attack 1)"
 unfoldable pub mayAttackNow : Board → Bool

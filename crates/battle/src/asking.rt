@@ -17,7 +17,7 @@ ghost use Rattle.battle.specs.Attack.{
   inRange,
   attackChecks,
 };
-ghost use Rattle.battle.specs.Asked.{Able, AllAble, InRange, Engaged};
+ghost use Rattle.battle.specs.Asked.{Faces, AllFace, InRange, Engaged};
 use clock::phase;
 use field::listed;
 use field::unit;
@@ -26,6 +26,7 @@ use position::View;
 use position::bits;
 use position::ground;
 use position::kind::Kind;
+use position::layout;
 use position::read;
 use position::stage;
 use ruling::Tested;
@@ -51,7 +52,7 @@ fn in_range(p: &[u8], v: View, target: usize, units: &[u16], die: usize, long: u
     if die < 1 {
         return Tested::Stopped(3, 0);
     }
-    if 6 < die {
+    if layout::DIE_FACES < die {
         return Tested::Stopped(3, 0);
     }
     listed::all_there(p, v, units)
@@ -128,7 +129,7 @@ fn not_beside(p: &[u8], v: View, target: usize, u: usize) -> bool
 // The questions of unit `u` behind the first `n` of the list: 4, 5, 6, 13.
 fn attacker(p: &[u8], v: View, target: usize, units: &[u16], n: usize, u: usize) -> Tested
     requires { ⌜ Laid (now p) v × (n ≤ length (now units)) × (n < 18) ⌝ }
-    ensures { λ r. ⌜ TestedOf (now (p .entry)) (attacker (board (now (p .entry))) target (take n (now (units .entry))) u (n + 1)) (Able (board (now (p .entry))) target u) r ⌝ }
+    ensures { λ r. ⌜ TestedOf (now (p .entry)) (attacker (board (now (p .entry))) target (take n (now (units .entry))) u (n + 1)) (Faces (board (now (p .entry))) target u) r ⌝ }
 {
     let k = n + 1;
     if unit::not_phasing(p, v, u) {
@@ -149,7 +150,7 @@ fn attacker(p: &[u8], v: View, target: usize, units: &[u16], n: usize, u: usize)
 // The questions of every unit, along the list.
 fn attackers(p: &[u8], v: View, target: usize, units: &[u16]) -> Tested
     requires { ⌜ Laid (now p) v × (length (now units) ≤ 18) ⌝ }
-    ensures { λ r. ⌜ TestedOf (now (p .entry)) (attackers (board (now (p .entry))) target (now (units .entry))) (AllAble (board (now (p .entry))) target (now (units .entry))) r ⌝ }
+    ensures { λ r. ⌜ TestedOf (now (p .entry)) (attackers (board (now (p .entry))) target (now (units .entry))) (AllFace (board (now (p .entry))) target (now (units .entry))) r ⌝ }
 {
     for i in 0..units.len() {
         if let Tested::Stopped(n, k) = attacker(p, v, target, units, i, units[i] as usize) {

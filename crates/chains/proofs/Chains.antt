@@ -10,7 +10,7 @@ use Rattle.grid.specs.declared.Beside.the-variants.{At, Off}
 use Rattle.position.specs.Tally.{any}
 use Rattle.position.specs.Ground.{isAt}
 use Rattle.position.proofs.Tallies.{not-both, either, any-some, any-true}
-use Rattle.routes.proofs.Steps.{is-at, at-is}
+use Rattle.position.proofs.Sides.{is-at, at-is}
 use Rattle.chains.specs.Chain.{Ways, Stands, rests, yields, leadsTo, leads, hasRest, Chain, rest, push}
 use Rattle.chains.specs.Follows.{Taken, upTo, wrong, takes}
 

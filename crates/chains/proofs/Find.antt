@@ -86,14 +86,14 @@ module _ (next : Ways) (s : Stands) where
           push d l w n (b .0) (more z (b .1))
 
       -- the next stack of the chain, by whether this one has a vacant hex
-      onward : (n : Bool) → hasRest next s (h ∷ used) h ≡ n
+      linked : (n : Bool) → hasRest next s (h ∷ used) h ≡ n
           → cond n (leads next h y && rests s (h ∷ used) y) (any (λ d. leadsTo yielding (next h d)) 6) ≡ true
           → Chain next s used (suc left) h (cond n (y ∷ []) (pushOn thence (stepFor yielding next h))) y
-      onward true n e =
+      linked true n e =
           let b = both-yes (leads next h y) (rests s (h ∷ used) y) e in
           let k = leads-steps next h y (b .0) in
           rest (k .dir) (k .low) (k .way) (b .1)
-      onward false n e =
+      linked false n e =
           let k = step-right yielding next h e in
           pushed n (k .dir) (k .low) (stepFor yielding next h) (k .way) (k .passes)
 
@@ -103,7 +103,7 @@ module _ (next : Ways) (s : Stands) where
   unfolding endsIn chainTo
   chain-found used zero h y e = not-both false e refl
   chain-found used (suc left) h y e =
-      onward used left h y (λ z. chain-found (h ∷ used) left z y) (hasRest next s (h ∷ used) h) refl e
+      linked used left h y (λ z. chain-found (h ∷ used) left z y) (hasRest next s (h ∷ used) h) refl e
 
 module _ (g : Land) where
   module _ (s : Stands) (k i a : ℕ)

@@ -1,6 +1,6 @@
 pub mod Zones
 pub mod Scenes
-pub mod Bearings
+pub mod Workings
 pub mod Lists
 pub mod Bounds
 pub mod Making

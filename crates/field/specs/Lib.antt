@@ -1,6 +1,5 @@
 pub mod Scene
 pub mod Zone
 pub mod Working
-pub mod Bearing
 pub mod Phasing
 pub mod Listed

@@ -1,5 +1,4 @@
 // The field: who stands where, zones of control, and what one unit or hex comes to for a call.
-pub mod bearing;
 pub mod listed;
 pub mod unit;
 pub mod zone;

@@ -49,7 +49,7 @@ pub fn holds_neutral(p: &[u8], v: View, f: usize, h: usize) -> bool
     requires { ⌜ Laid (now p) v ⌝ }
     ensures { λ r. ⌜ r ≡ holdsNeutral (scene (board (now (p .entry)))) f h ⌝ }
 {
-    if v.named == 0 {
+    if v.players == 0 {
         return false;
     }
     holds_related(p, v, Relation::Neutral, f, h)

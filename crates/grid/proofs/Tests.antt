@@ -10,21 +10,22 @@ use Rattle.grid.specs.declared.Beside.{Beside}
 use Rattle.grid.specs.declared.Beside.the-variants.{At, Off}
 use Rattle.grid.specs.Map.{On, oneTo, onMap, Place, hexAt}
 
-both-true : (a b : Bool) → (a && b) ≡ true → (a ≡ true) × (b ≡ true)
-both-true true b e = (refl, e)
-both-true false b e = let z : _≡_ {A = ℕ} 0 1 = cc in absurd (omega arith)
+-- the parts of a test
+pub both-yes : (a b : Bool) → (a && b) ≡ true → (a ≡ true) × (b ≡ true)
+both-yes true b e = (refl, e)
+both-yes false b e = let z : _≡_ {A = ℕ} 0 1 = cc in absurd (omega arith)
 
 pub one-to : (n most : ℕ) → oneTo n most ≡ true → (1 ≤ n) × (n ≤ most)
 one-to n most e =
-    let p = both-true (leb 1 n) (leb n most) e in
+    let p = both-yes (leb 1 n) (leb n most) e in
     (leb-true 1 n (p .0), leb-true n most (p .1))
 
 -- the test for a hex of a map, and the facts
 pub on-facts : (w h a : ℕ) → onMap w h a ≡ true → On w h a
 unfolding onMap
 on-facts w h a e =
-    let p = both-true (oneTo w 64) (oneTo h 64 && ltb a (w * h)) e in
-    let q = both-true (oneTo h 64) (ltb a (w * h)) (p .1) in
+    let p = both-yes (oneTo w 64) (oneTo h 64 && ltb a (w * h)) e in
+    let q = both-yes (oneTo h 64) (ltb a (w * h)) (p .1) in
     let u = one-to w 64 (p .0) in
     let v = one-to h 64 (q .0) in
     record { wide = u .0; wide64 = u .1; high = v .0; high64 = v .1; below = ltb-true a (w * h) (q .1) }
@@ -50,7 +51,7 @@ pub found : (w h : ℕ) (p : Place) (b : ℕ) → hexAt w h p ≡ At b → Found
 unfolding hexAt
 found w h p b e =
     let t = under (oneTo (p .0) w && oneTo (p .1) h) (At ((p .1 - 1) * w + (p .0 - 1))) e in
-    let s = both-true (oneTo (p .0) w) (oneTo (p .1) h) (t .0) in
+    let s = both-yes (oneTo (p .0) w) (oneTo (p .1) h) (t .0) in
     let u = one-to (p .0) w (s .0) in
     let v = one-to (p .1) h (s .1) in
     let at : At ((p .1 - 1) * w + (p .0 - 1)) ≡ At b = t .1 in

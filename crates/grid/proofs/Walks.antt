@@ -39,17 +39,17 @@ unfolding distanceOf
 symmetric w a b = back _ _ _ _
 
 -- and a walk is as short: each step leaves one less
-reach : (w h n a b : ℕ) → On w h a → On w h b → distanceOf w a b ≡ n → Walk w h a b n
+walk-of : (w h n a b : ℕ) → On w h a → On w h b → distanceOf w a b ≡ n → Walk w h a b n
 unfolding distanceOf
-reach w h zero a b o q e = subst (λ (x : ℕ). Walk w h a x zero) (zero-same w a b e) (here o)
-reach w h (suc n) a b o q e =
+walk-of w h zero a b o q e = subst (λ (x : ℕ). Walk w h a x zero) (zero-same w a b e) (here o)
+walk-of w h (suc n) a b o q e =
     let k = closer w h (a % w) (a / w) (b % w) (b / w) n (column o) (row o) (column q) (row q) e in
     let c = k .r1 * w + k .c1 in
     let ec : c % w ≡ k .c1 = column-of (k .r1) (k .inw) in
     let er : c / w ≡ k .r1 = row-of (k .r1) (k .inw) in
     step (k .dir) (steps w h a (k .dir) (k .c1) (k .r1) o (k .inw) (k .inh) (k .goes))
-    (reach w h n c b (inside o (k .inw) (k .inh)) q (rw (ec, er) (k .left)))
+    (walk-of w h n c b (inside o (k .inw) (k .inh)) q (rw (ec, er) (k .left)))
 
 -- the distance of two hexes of a map is what the closed form says
 pub distance-is : (w h a b : ℕ) → On w h a → On w h b → Distance w h a b (distanceOf w a b)
-distance-is w h a b o q = record { reached = reach w h (distanceOf w a b) a b o q refl; least = λ m k. not-less k }
+distance-is w h a b o q = record { reached = walk-of w h (distanceOf w a b) a b o q refl; least = λ m k. not-less k }

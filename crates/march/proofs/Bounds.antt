@@ -10,6 +10,7 @@ use lib.Dec.{leb, ltb, eqb}
 use borrow.Author.Tests.{leb-true, not-false}
 use Rattle.position.specs.Board.{Board, forceOf}
 use Rattle.position.specs.Crowd.{others}
+use Rattle.position.specs.Stage as Stage
 use Rattle.position.proofs.Tallies.{both-yes}
 use Rattle.ruling.specs.Verdict.{Verdict}
 use Rattle.ruling.specs.Packed.Replies.{plainly}
@@ -81,5 +82,5 @@ module _ {p l : List ℕ} (b : Board) where
   end-bounded long =
       bounded-past (not (eqb long (b .map .hexes))) refl
       (λ _.
-      bounded-past (not (eqb (b .desk .battle .stage) 0)) refl
+      bounded-past (not (eqb (b .desk .battle .stage) Stage.quiet)) refl
       (λ _. bounded-past (isLast (b .desk .clock) (b .desk .lastTurn)) refl (λ _. bounded-ruled refl)))

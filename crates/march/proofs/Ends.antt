@@ -375,7 +375,3 @@ all-ended {p} {q} {r} {s} {k} {c} a e n f g j =
     ∙ ap (λ (i : List ℕ). makes i (supplyChanges b c)) z
     ∙ sym (makes-then xs (x ∷ supplyChanges b c) p)
     ∙ ap (λ (i : Clock). makes p (xs ++ (timed (i .turn) (i .force) (i .phase) ∷ supplyChanges b i))) n
-
--- as many 0s as the scratch has bytes
-pub all-clear : {m : List ℕ} (l : List ℕ) (k : ℕ) → m ≡ replicate (length l) 0 → length l ≡ k → m ≡ replicate k 0
-all-clear l k e f = e ∙ ap (λ (n : ℕ). replicate n 0) f

@@ -14,6 +14,7 @@ use Rattle.acceptance.specs.Accepted.{Lawful, Accepted}
 use Rattle.position.specs.Change.{Change}
 use Rattle.position.specs.Change.Change.{marked, timed}
 use Rattle.position.specs.Effect.{change, changes}
+use Rattle.position.specs.Stage as Stage
 use Rattle.field.specs.Scene.{scene}
 use Rattle.supply.specs.Supply as Supply
 use Rattle.clock.specs.declared.Clock.{Clock}
@@ -34,7 +35,7 @@ use Rattle.march.specs.EndPhase.{
 use Rattle.acceptance.proofs.Carries.{changes-then}
 use Rattle.acceptance.proofs.Lawfuls.{Markable, lawful-marked, lawful-timed}
 use Rattle.position.proofs.BitLaws.{with-within, without-within}
-use Rattle.position.proofs.BitLaws.Mark.{is-supplied, is-moved, is-fought}
+use Rattle.position.proofs.BitLaws.UnitMark.{is-supplied, is-moved, is-fought}
 use Rattle.position.proofs.Tallies.{both-yes}
 use Rattle.ruling.proofs.Kept.{Kept, kept-past, kept-ruled}
 
@@ -124,7 +125,7 @@ module _ {b : Board} (l : Lawful b) where
       none
 
 module _ {b : Board} (l : Lawful b) where
-  lawful-end : b .desk .battle .stage ≡ 0 → isLast (b .desk .clock) (b .desk .lastTurn) ≡ false → Lawful (changes b (endChanges b))
+  lawful-end : b .desk .battle .stage ≡ Stage.quiet → isLast (b .desk .clock) (b .desk .lastTurn) ≡ false → Lawful (changes b (endChanges b))
   unfolding endChanges changes change
   lawful-end z e =
       let r = all-marked (rest-marks l (b .units .count) (omega arith)) l refl in
@@ -145,9 +146,9 @@ end-keeps {p} l a =
     let b = board p in
     kept-past a (not (eqb (length l) (b .map .hexes)))
     (λ _.
-    kept-past a (not (eqb (b .desk .battle .stage) 0))
+    kept-past a (not (eqb (b .desk .battle .stage) Stage.quiet))
     (λ z.
     kept-past a (isLast (b .desk .clock) (b .desk .lastTurn))
     (λ e.
     kept-ruled a (endChanges b)
-    (lawful-end (a .lawful) (eqb-true (b .desk .battle .stage) 0 (not-false (eqb (b .desk .battle .stage) 0) z)) e))))
+    (lawful-end (a .lawful) (eqb-true (b .desk .battle .stage) Stage.quiet (not-false (eqb (b .desk .battle .stage) Stage.quiet) z)) e))))

@@ -14,8 +14,9 @@ use Rattle.position.specs.Ground.{joined, standable}
 use Rattle.position.specs.Crowd.{others}
 use Rattle.acceptance.specs.Accepted.{Lawful, Accepted}
 use Rattle.position.specs.Effect.{changes}
+use Rattle.position.specs.Stage as Stage
 use Rattle.position.proofs.BitLaws.{with-within}
-use Rattle.position.proofs.BitLaws.Mark.{is-moved}
+use Rattle.position.proofs.BitLaws.UnitMark.{is-moved}
 use Rattle.position.proofs.Shapes.{hexes-most}
 use Rattle.position.proofs.Tallies.{same-or, both-yes, neither}
 use Rattle.ruling.specs.Verdict.{Verdict}
@@ -43,6 +44,7 @@ use Rattle.march.specs.Move.{
 }
 use Rattle.acceptance.proofs.Lawfuls.{Room, standable-on, lawful-placed, placed-hex, lawful-marked}
 use Rattle.ruling.proofs.Kept.{Kept, kept-past, kept-along, kept-ruled}
+use Rattle.clock.specs.Phase as Phase
 
 -- where a move has come to: a hex to stand on, with none but units of unit u's force
 record Fair (b : Board) (u h : ℕ) : Type 0 where
@@ -56,12 +58,12 @@ module _ (b : Board) where
   step-stands h x e = both-yes (joined (b .map) h x) (standable b x) (not-false (joined (b .map) h x && standable b x) e) .1
 
   -- a board and a unit that the questions before let through
-  quiet : not (mayMoveNow b) ≡ false → b .desk .battle .stage ≡ 0
+  quiet : not (mayMoveNow b) ≡ false → b .desk .battle .stage ≡ Stage.quiet
   unfolding mayMoveNow
   quiet e =
-      let t = eqb (b .desk .clock .phase) 0 || eqb (b .desk .clock .phase) 2 in
-      let m = not-false (eqb (b .desk .battle .stage) 0 && t) e in
-      eqb-true (b .desk .battle .stage) 0 (both-yes (eqb (b .desk .battle .stage) 0) t m .0)
+      let t = eqb (b .desk .clock .phase) Phase.land || eqb (b .desk .clock .phase) Phase.mechanised in
+      let m = not-false (eqb (b .desk .battle .stage) Stage.quiet && t) e in
+      eqb-true (b .desk .battle .stage) Stage.quiet (both-yes (eqb (b .desk .battle .stage) Stage.quiet) t m .0)
 
   mapped : (u : ℕ) → notPhasing b u ≡ false → b .units .state .hex u ≡ nowhere → ⊥
   unfolding notPhasing
@@ -81,7 +83,7 @@ module _ {b : Board} (l : Lawful b) (u : ℕ) (n : u < b .units .count) where
             (λ z. absurd (l .units .pairs u n w k .two (λ f. z (sym f)) .apart m e));
       }
 
-  lawful-move : (h : ℕ) → Room b u h → b .desk .battle .stage ≡ 0 → Lawful (changes b (moveChanges b u h))
+  lawful-move : (h : ℕ) → Room b u h → b .desk .battle .stage ≡ Stage.quiet → Lawful (changes b (moveChanges b u h))
   unfolding changes moveChanges
   lawful-move h r z =
       lawful-marked (lawful-placed l u h n r (λ e. absurd (omega arith))) u (with moved (b .units .state .marks u))
@@ -91,7 +93,7 @@ module _ {b : Board} (l : Lawful b) (u : ℕ) (n : u < b .units .count) where
       })
 
 module _ {p l : List ℕ} (a : Accepted p) (u : ℕ) where
-  kept-arrival : (last h : ℕ) → u < board p .units .count → board p .desk .battle .stage ≡ 0 → Fair (board p) u h → Kept p l (arrival (board p) u last h)
+  kept-arrival : (last h : ℕ) → u < board p .units .count → board p .desk .battle .stage ≡ Stage.quiet → Fair (board p) u h → Kept p l (arrival (board p) u last h)
   unfolding arrival
   kept-arrival last h n z f =
       kept-past a (leb 3 (others (board p) u h))

@@ -14,7 +14,9 @@ use Rattle.position.specs.Layout.{marks}
 use Rattle.position.specs.Board.{Board, board}
 use Rattle.position.specs.Change.{make, makes}
 use Rattle.position.specs.Change.Change.{placed, marked}
+use Rattle.position.specs.Stage as Stage
 use Rattle.march.specs.Move.{pathLength, mayMoveNow, movesIn, forbidden, moveChanges}
+use Rattle.clock.specs.Phase as Phase
 
 module _ (path : List ℕ) where
   pub path-short : length path < 1 → pathLength path ≡ false
@@ -31,17 +33,17 @@ module _ (path : List ℕ) where
 
 module _ (b : Board) where
   -- another stage, phase 0, and a later phase
-  pub may-not : (b .desk .battle .stage ≡ 0 → ⊥) → mayMoveNow b ≡ false
+  pub may-not : (b .desk .battle .stage ≡ Stage.quiet → ⊥) → mayMoveNow b ≡ false
   unfolding mayMoveNow
-  may-not e = simp (ne-eqb (b .desk .battle .stage) 0 e)
+  may-not e = simp (ne-eqb (b .desk .battle .stage) Stage.quiet e)
 
-  pub may-first : b .desk .battle .stage ≡ 0 → b .desk .clock .phase ≡ 0 → mayMoveNow b ≡ true
+  pub may-first : b .desk .battle .stage ≡ Stage.quiet → b .desk .clock .phase ≡ Phase.land → mayMoveNow b ≡ true
   unfolding mayMoveNow
-  may-first e f = simp (eq-eqb (b .desk .battle .stage) 0 e, eq-eqb (b .desk .clock .phase) 0 f)
+  may-first e f = simp (eq-eqb (b .desk .battle .stage) Stage.quiet e, eq-eqb (b .desk .clock .phase) Phase.land f)
 
-  pub may-later : b .desk .battle .stage ≡ 0 → (b .desk .clock .phase ≡ 0 → ⊥) → mayMoveNow b ≡ eqb (b .desk .clock .phase) 2
+  pub may-later : b .desk .battle .stage ≡ Stage.quiet → (b .desk .clock .phase ≡ Phase.land → ⊥) → mayMoveNow b ≡ eqb (b .desk .clock .phase) Phase.mechanised
   unfolding mayMoveNow
-  may-later e f = simp (eq-eqb (b .desk .battle .stage) 0 e, ne-eqb (b .desk .clock .phase) 0 f)
+  may-later e f = simp (eq-eqb (b .desk .battle .stage) Stage.quiet e, ne-eqb (b .desk .clock .phase) Phase.land f)
 
 module _ (b : Board) (u : ℕ) where
   -- the type forbids it, or the mark is asked
@@ -58,13 +60,13 @@ module _ (phase kind : ℕ) where
   unfolding movesIn
   moves-not e = simp e
 
-  pub moves-second : movesByLand kind ≡ true → phase ≡ 2 → movesIn phase kind ≡ movesInPhase2 kind
+  pub moves-second : movesByLand kind ≡ true → phase ≡ Phase.mechanised → movesIn phase kind ≡ movesInPhase2 kind
   unfolding movesIn
-  moves-second e f = simp (e, eq-eqb phase 2 f)
+  moves-second e f = simp (e, eq-eqb phase Phase.mechanised f)
 
-  pub moves-other : movesByLand kind ≡ true → (phase ≡ 2 → ⊥) → movesIn phase kind ≡ true
+  pub moves-other : movesByLand kind ≡ true → (phase ≡ Phase.mechanised → ⊥) → movesIn phase kind ≡ true
   unfolding movesIn
-  moves-other e f = simp (e, ne-eqb phase 2 f)
+  moves-other e f = simp (e, ne-eqb phase Phase.mechanised f)
 
 -- the moved mark fits a byte
 pub moved-small : (m : ℕ) → m < 256 → with moved m < 256

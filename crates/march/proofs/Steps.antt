@@ -14,7 +14,7 @@ use Rattle.position.proofs.Tallies.{not-both, either}
 use Rattle.field.specs.Scene.{scene}
 use Rattle.field.specs.Zone.{enemyZone}
 use Rattle.field.specs.Working.{working}
-use Rattle.field.proofs.Bearings.{working-most}
+use Rattle.field.proofs.Workings.{working-most}
 use Rattle.march.specs.Step.{sideCost}
 use Rattle.march.specs.Move.{Leg, allowed, leavesZone, noStep}
 

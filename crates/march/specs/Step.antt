@@ -6,7 +6,7 @@ use lib.Dec.{eqb}
 use Rattle.position.specs.Layout.{river, majorRiver}
 use Rattle.position.specs.Board.{Board}
 use Rattle.position.specs.Ground.{side, riverSide, majorRiverSide}
-use Rattle.field.specs.Bearing.{bearing}
+use Rattle.position.specs.Ground.{bearing}
 
 -- "then the same pair for river and major river, where cost is extra and 0 means none"
 unfoldable pub sideCost : Board → ℕ → ℕ

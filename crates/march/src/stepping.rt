@@ -9,7 +9,6 @@ ghost use Rattle.march.specs.Step.{sideCost, stepCost};
 ghost use Rattle.march.specs.Move.{allowed, leavesZone, noStep, step, afterStep, leg};
 ghost use Rattle.march.specs.Judged.{WayOf};
 use crate::Way;
-use field::bearing;
 use field::unit;
 use field::zone;
 use position::View;
@@ -46,7 +45,7 @@ fn step_cost(p: &[u8], v: View, h: usize, x: usize) -> usize
     requires { ⌜ Laid (now p) v × (joined (ground (now p)) h x ≡ true) ⌝ }
     ensures { λ r. ⌜ Read (stepCost (board (now (p .entry))) h x) 512 r ⌝ }
 {
-    let d = bearing::bearing(p, v, h, x);
+    let d = ground::bearing(p, v, h, x);
     let terrain = read::terrain(p, v, x);
     read::cost(p, v, terrain) + side_cost(p, v, ground::side(p, v, h, d))
 }

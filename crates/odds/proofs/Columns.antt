@@ -16,7 +16,7 @@ use Rattle.position.proofs.Tallies.{either}
 use Rattle.position.specs.Board.{Board, Chart}
 use Rattle.position.specs.Ground.{majorRiverSide, riverSide, side}
 use Rattle.position.specs.Layout.{majorRiver, river}
-use Rattle.field.specs.Bearing.{bearing}
+use Rattle.position.specs.Ground.{bearing}
 use Rattle.field.proofs.Lists.{map-last, map-long, take-more}
 use Rattle.odds.specs.Odds.{crossed, defenceMultiple, larger, last, multipleAt, sideMultiple, smaller, smallest, smallestFrom}
 

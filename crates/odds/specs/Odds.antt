@@ -7,7 +7,7 @@ use lib.Dec.{leb, eqb}
 use Rattle.position.specs.Layout.{river, majorRiver}
 use Rattle.position.specs.Board.{Board, Chart, Results}
 use Rattle.position.specs.Ground.{side, riverSide, majorRiverSide}
-use Rattle.field.specs.Bearing.{bearing}
+use Rattle.position.specs.Ground.{bearing}
 
 unfoldable pub smaller : ℕ → ℕ → ℕ
 smaller m n = cond (leb m n) m n

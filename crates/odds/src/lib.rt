@@ -7,15 +7,10 @@ ghost use Rattle.position.specs.Board.{board, chart, results, ground};
 ghost use Rattle.position.specs.Laid.{Laid, Read};
 ghost use Rattle.odds.specs.Odds.{smaller, larger, sideMultiple, crossed, smallest, multipleAt, reached, column};
 ghost use Rattle.odds.specs.Adjacent.{Adjacent, AllAdjacent};
-use field::bearing;
 use position::View;
 use position::ground;
+use position::layout;
 use position::read;
-
-// The multiple of a river side, and of a major river side, stand behind those of the terrains.
-const RIVER_MULTIPLE: usize = 16;
-
-const MAJOR_RIVER_MULTIPLE: usize = 17;
 
 // What a side without a river multiplies: nothing, less than any river.
 const NO_RIVER: usize = 0;
@@ -43,10 +38,10 @@ fn side_multiple(p: &[u8], v: View, s: usize) -> usize
     ensures { λ r. ⌜ Read (sideMultiple (chart (now (p .entry))) s) 256 r ⌝ }
 {
     if s == ground::RIVER {
-        return read::multiple(p, v, RIVER_MULTIPLE);
+        return read::multiple(p, v, layout::RIVER);
     }
     if s == ground::MAJOR_RIVER {
-        return read::multiple(p, v, MAJOR_RIVER_MULTIPLE);
+        return read::multiple(p, v, layout::MAJOR_RIVER);
     }
     NO_RIVER
 }
@@ -57,7 +52,7 @@ fn crossed(p: &[u8], v: View, target: usize, u: usize) -> usize
     ensures { λ r. ⌜ Read (crossed (board (now (p .entry))) target u) 256 r ⌝ }
 {
     let h = read::hex(p, v, u);
-    let d = bearing::bearing(p, v, h, target);
+    let d = ground::bearing(p, v, h, target);
     side_multiple(p, v, ground::side(p, v, h, d))
 }
 

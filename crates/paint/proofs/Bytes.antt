@@ -9,6 +9,7 @@ use lib.ListN.{length, set, replicate, length-set, length-replicate, getD-replic
 use lib.Seq.{getD-set-same, getD-set-other, ext-getD}
 use Rattle.position.specs.Layout.{byte}
 use Rattle.position.proofs.Tallies.{same-or}
+use Rattle.position.proofs.Cells.{byte-empty}
 
 -- a number lies below another or not
 within-or : {A : Type 0} (k n : ℕ) → (k < n → A) → (n ≤ k → A) → A
@@ -28,10 +29,6 @@ module _ (l : List ℕ) (i v : ℕ) where
 
   pub byte-other : (h : ℕ) → (h ≡ i → ⊥) → byte (set l i v) h ≡ byte l h
   byte-other h ne = getD-set-other l i h v 0 ne
-
--- a buffer that shows only 0
-pub byte-empty : (n h : ℕ) → byte (replicate n 0) h ≡ 0
-byte-empty n h = within-or h n (λ le. getD-replicate n h 0 0 le) (λ ge. List·getD-eq-default (replicate n 0) 0 (omega (arith, length-replicate {A = ℕ} n 0)))
 
 -- the bytes below i are rewritten by f, the others are as they were
 pub record Pass (f : ℕ → ℕ → ℕ) (i : ℕ) (l m : List ℕ) : Type 0 where

@@ -19,22 +19,12 @@ use Rattle.position.specs.Kind.{castsZone}
 use Rattle.position.specs.Board.{Map}
 use Rattle.position.specs.Ground.{beside, side, isAt}
 use Rattle.position.proofs.Tallies.{both-yes, not-both, same-or, either, any-zero, any-step, any-some, any-true}
-use Rattle.position.proofs.Sides.{side-symmetric}
+use Rattle.position.proofs.Sides.{side-symmetric, is-at, at-is}
 use Rattle.field.specs.Scene.{Scene, forceIn}
 use Rattle.field.specs.Zone.{standsOn, ownOn, casterOn, holdsCaster, enemyZone}
 use Rattle.field.proofs.Zones.{CastFrom, ZoneFrom, zone-from, from-zone}
-use Rattle.paint.specs.Paint.{Mark, bit, zoneMark, castsAgainst, covers, zoneBy, only, reach, reaches}
+use Rattle.paint.specs.Paint.{Mark, bit, zoneMark, castsAgainst, covers, zoneBy, only, castTo, reaches}
 use Rattle.paint.proofs.Adding.{also}
-
--- a hex beside another, by the test
-pub at-hex : (b : Beside) (h : ℕ) → isAt b h ≡ true → b ≡ At h
-unfolding isAt
-at-hex (At n) h e = ap At (eqb-true n h e)
-at-hex Off h e = not-both false e refl
-
-is-hex : {b : Beside} (h : ℕ) → b ≡ At h → isAt b h ≡ true
-unfolding isAt
-is-hex h e = rw e (eq-eqb h h refl)
 
 -- what lies beside a spot, by the answer's cases
 module _ (w h x d : ℕ) (b : Nearby) (o : NearOf w h x d b) where
@@ -75,13 +65,13 @@ module _ (m : Map) (n d : ℕ) where
         (λ k. simp (ne-eqb t h k))
 
   -- so marks are added on it, or nowhere
-  pub reach-none : (k : Mark) (h : ℕ) → covers m n h d ≡ false → reach m n d k h ≡ false
-  unfolding reach
-  reach-none k h e = simp (e, and-false)
+  pub cast-none : (k : Mark) (h : ℕ) → covers m n h d ≡ false → castTo m n d k h ≡ false
+  unfolding castTo
+  cast-none k h e = simp (e, and-false)
 
-  pub reach-only : (k : Mark) (h t : ℕ) → covers m n h d ≡ eqb t h → only zoneMark t k h ≡ reach m n d k h
-  unfolding reach only
-  reach-only k h t e = ap (λ (b : Bool). eqb (bit k) zoneMark && b) (sym e)
+  pub cast-only : (k : Mark) (h t : ℕ) → covers m n h d ≡ eqb t h → only zoneMark t k h ≡ castTo m n d k h
+  unfolding castTo only
+  cast-only k h t e = ap (λ (b : Bool). eqb (bit k) zoneMark && b) (sym e)
 
 -- one direction after the other
 and-or : (a b c : Bool) → ((a && b) || (a && c)) ≡ (a && (b || c))
@@ -93,8 +83,8 @@ module _ (m : Map) (n : ℕ) (k : Mark) (h : ℕ) where
   unfolding reaches
   reaches-none = simp (any-zero (covers m n h), and-false)
 
-  pub reaches-step : (d : ℕ) → also (reaches m n d) (reach m n d) k h ≡ reaches m n (d + 1) k h
-  unfolding also reach reaches
+  pub reaches-step : (d : ℕ) → also (reaches m n d) (castTo m n d) k h ≡ reaches m n (d + 1) k h
+  unfolding also castTo reaches
   reaches-step d =
       and-or (eqb (bit k) zoneMark) (covers m n h d) (any (covers m n h) d)
       ∙ ap (λ (b : Bool). eqb (bit k) zoneMark && b) (sym (any-step (covers m n h) d))
@@ -143,14 +133,14 @@ module _ (m : Map) (n h d : ℕ) where
       let a = both-yes (isAt (beside m n d) h) (ltb (side m n d) 2 && not (eqb (m .surface h) 2)) e in
       let b = both-yes (ltb (side m n d) 2) (not (eqb (m .surface h) 2)) (a .1) in
       record {
-        next = at-hex (beside m n d) h (a .0);
+        next = is-at (beside m n d) h (a .0);
         thin = ltb-true (side m n d) 2 (b .0);
         not-sea = eqb-false (m .surface h) 2 (not-true (eqb (m .surface h) 2) (b .1));
       }
 
   is-cover : Cover m n h d → covers m n h d ≡ true
   unfolding covers
-  is-cover c = simp (is-hex h (c .next), lt-ltb (side m n d) 2 (c .thin), ne-eqb (m .surface h) 2 (c .not-sea))
+  is-cover c = simp (at-is (c .next), lt-ltb (side m n d) 2 (c .thin), ne-eqb (m .surface h) 2 (c .not-sea))
 
 module _ (s : Scene) (f h : ℕ) where
   holds-it : (u : ℕ) → u < s .count → castsZone (s .kind u) ≡ true → holdsCaster s (forceIn s u) (s .hex u) ≡ true

@@ -8,20 +8,8 @@ use lib.Dec.{eqb}
 use borrow.Author.Tests.{eq-eqb, ne-eqb, eqb-false}
 use Rattle.position.specs.Bits.{has}
 use Rattle.position.proofs.Tallies.{same-or, either}
+use Rattle.position.proofs.BitLaws.{bit-off, bit-there, bit-same}
 use Rattle.paint.specs.Paint.{Mark, inZone, byEnemy, byOwn, byDepot, byAny, bit, Stamp, inked}
-
--- a mark is there by its digit
-off : (b m : ℕ) → has b m ≡ false → m / b % 2 ≡ 0
-unfolding has
-off b m e = let n = eqb-false (m / b % 2) 1 e in omega arith
-
-there : (b m : ℕ) → m / b % 2 ≡ 1 → has b m ≡ true
-unfolding has
-there b m e = eq-eqb (m / b % 2) 1 e
-
-as-before : (b m n : ℕ) → m / b % 2 ≡ n / b % 2 → has b m ≡ has b n
-unfolding has
-as-before b m n e = rw e
 
 -- on a byte without mark i
 module _ (m : ℕ) where
@@ -88,8 +76,8 @@ ink-there j i m e =
 ink-new : (j i : Mark) (m : ℕ) → has (bit i) m ≡ false → has (bit j) (m + bit i) ≡ (eqb (bit j) (bit i) || has (bit j) m)
 ink-new j i m e =
     same-or (bit j) (bit i)
-    (λ q. simp (eq-eqb (bit j) (bit i) q) (ap (λ (b : ℕ). has b (m + bit i)) q ∙ there (bit i) (m + bit i) (gets m i (off (bit i) m e))))
-    (λ n. simp (ne-eqb (bit j) (bit i) n) (as-before (bit j) (m + bit i) m (keeps m j i n (off (bit i) m e))))
+    (λ q. simp (eq-eqb (bit j) (bit i) q) (ap (λ (b : ℕ). has b (m + bit i)) q ∙ bit-there (bit i) (m + bit i) (gets m i (bit-off (bit i) m e))))
+    (λ n. simp (ne-eqb (bit j) (bit i) n) (bit-same (bit j) (m + bit i) m (keeps m j i n (bit-off (bit i) m e))))
 
 ink-is : (j i : Mark) (m : ℕ) → has (bit j) (inked (bit i) m) ≡ (eqb (bit j) (bit i) || has (bit j) m)
 ink-is j i m =

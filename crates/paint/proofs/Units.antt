@@ -15,6 +15,8 @@ use Rattle.position.specs.Laid.{Laid, Says}
 use Rattle.position.specs.Board.{Board, board, forceOf, enemy}
 use Rattle.position.specs.Ground.{beside, isAt}
 use Rattle.position.proofs.Tallies.{not-both, either, any-zero, any-step, any-same, any-never}
+use Rattle.position.proofs.Sides.{is-at}
+use Rattle.position.proofs.Cells.{byte-empty}
 use Rattle.field.specs.Scene.{Scene, scene, forceIn}
 use Rattle.field.specs.Zone.{standsOn, vacant, ownOn, holds, supplyUnitOn, enemyOn, holdsEnemy, enemyZone}
 use Rattle.field.proofs.Zones.{force-in, stands-off, own-off, enemy-off}
@@ -29,13 +31,13 @@ use Rattle.paint.specs.Paint.{
   byAny,
   bit,
   zoneMark,
-  shown,
+  markHolds,
   Marked,
   Shows,
   castsAgainst,
   covers,
   zoneBy,
-  shownBy,
+  markBy,
   Stamp,
   Adds,
   only,
@@ -45,10 +47,9 @@ use Rattle.paint.specs.Paint.{
   says,
   saysBelow,
 }
-use Rattle.paint.proofs.Bytes.{byte-empty}
 use Rattle.paint.proofs.Inks.{has-none}
 use Rattle.paint.proofs.Adding.{also}
-use Rattle.paint.proofs.Casting.{at-hex, zone-units}
+use Rattle.paint.proofs.Casting.{zone-units}
 
 -- whether a unit's force is Enemy, as it was asked
 pub enemy-told : (b : Board) (f u : ℕ) {g : ℕ} {r t : Bool} → g ≡ forceOf b u → r ≡ enemy b f g → r ≡ t → scene b .enemy f (forceIn (scene b) u) ≡ t
@@ -82,74 +83,74 @@ held-stamp = record { mark = byAny; is = refl }
 -- what the marks of a hex say
 module _ {s : Scene} {f h m : ℕ} (k : Marked s f h m) where
   pub marked-zone : has 1 m ≡ enemyZone s f h
-  unfolding shown
+  unfolding markHolds
   marked-zone = k .each inZone
 
   pub marked-enemy : has 2 m ≡ holdsEnemy s f h
-  unfolding shown
+  unfolding markHolds
   marked-enemy = k .each byEnemy
 
   pub marked-own : has 4 m ≡ holds s f h
-  unfolding shown
+  unfolding markHolds
   marked-own = k .each byOwn
 
   pub marked-depot : has 8 m ≡ any (supplyUnitOn s f h) (s .count)
-  unfolding shown
+  unfolding markHolds
   marked-depot = k .each byDepot
 
   pub marked-held : has 16 m ≡ not (vacant s h)
-  unfolding shown
+  unfolding markHolds
   marked-held = k .each byAny
 
 module _ (s : Scene) (f u : ℕ) where
   -- each mark by its tests
-  pub shown-any : (h : ℕ) → shownBy s f byAny h u ≡ eqb (s .hex u) h
-  unfolding shownBy standsOn
+  pub shown-any : (h : ℕ) → markBy s f byAny h u ≡ eqb (s .hex u) h
+  unfolding markBy standsOn
   shown-any h = refl
 
-  pub shown-enemy : s .enemy f (forceIn s u) ≡ true → (h : ℕ) → shownBy s f byEnemy h u ≡ eqb (s .hex u) h
-  unfolding shownBy enemyOn standsOn
+  pub shown-enemy : s .enemy f (forceIn s u) ≡ true → (h : ℕ) → markBy s f byEnemy h u ≡ eqb (s .hex u) h
+  unfolding markBy enemyOn standsOn
   shown-enemy e h = simp (e, and-true)
 
-  pub shown-friend : s .enemy f (forceIn s u) ≡ false → (h : ℕ) → shownBy s f byEnemy h u ≡ false
-  unfolding shownBy enemyOn
+  pub shown-friend : s .enemy f (forceIn s u) ≡ false → (h : ℕ) → markBy s f byEnemy h u ≡ false
+  unfolding markBy enemyOn
   shown-friend e h = simp (e, and-false)
 
-  pub shown-own : forceIn s u ≡ f → (h : ℕ) → shownBy s f byOwn h u ≡ eqb (s .hex u) h
-  unfolding shownBy ownOn standsOn
+  pub shown-own : forceIn s u ≡ f → (h : ℕ) → markBy s f byOwn h u ≡ eqb (s .hex u) h
+  unfolding markBy ownOn standsOn
   shown-own e h = simp (eq-eqb (forceIn s u) f e, and-true)
 
-  pub shown-other : (forceIn s u ≡ f → ⊥) → (h : ℕ) → shownBy s f byOwn h u ≡ false
-  unfolding shownBy ownOn
+  pub shown-other : (forceIn s u ≡ f → ⊥) → (h : ℕ) → markBy s f byOwn h u ≡ false
+  unfolding markBy ownOn
   shown-other e h = simp (ne-eqb (forceIn s u) f e, and-false)
 
-  pub shown-depot : forceIn s u ≡ f → s .kind u ≡ 5 → (h : ℕ) → shownBy s f byDepot h u ≡ eqb (s .hex u) h
-  unfolding shownBy supplyUnitOn ownOn standsOn
+  pub shown-depot : forceIn s u ≡ f → s .kind u ≡ 5 → (h : ℕ) → markBy s f byDepot h u ≡ eqb (s .hex u) h
+  unfolding markBy supplyUnitOn ownOn standsOn
   shown-depot e k h = simp (eq-eqb (forceIn s u) f e, eq-eqb (s .kind u) 5 k, and-true)
 
-  pub shown-no-depot : (s .kind u ≡ 5 → ⊥) → (h : ℕ) → shownBy s f byDepot h u ≡ false
-  unfolding shownBy supplyUnitOn
+  pub shown-no-depot : (s .kind u ≡ 5 → ⊥) → (h : ℕ) → markBy s f byDepot h u ≡ false
+  unfolding markBy supplyUnitOn
   shown-no-depot k h = simp (ne-eqb (s .kind u) 5 k, and-false)
 
-  pub shown-other-depot : (forceIn s u ≡ f → ⊥) → (h : ℕ) → shownBy s f byDepot h u ≡ false
-  unfolding shownBy supplyUnitOn ownOn
+  pub shown-other-depot : (forceIn s u ≡ f → ⊥) → (h : ℕ) → markBy s f byDepot h u ≡ false
+  unfolding markBy supplyUnitOn ownOn
   shown-other-depot e h = simp (ne-eqb (forceIn s u) f e, and-false)
 
-  pub shown-casts : castsAgainst s f u ≡ true → (h : ℕ) → shownBy s f inZone h u ≡ any (covers (s .map) (s .hex u) h) 6
-  unfolding shownBy zoneBy
+  pub shown-casts : castsAgainst s f u ≡ true → (h : ℕ) → markBy s f inZone h u ≡ any (covers (s .map) (s .hex u) h) 6
+  unfolding markBy zoneBy
   shown-casts e h = simp e
 
-  pub shown-no-cast : castsAgainst s f u ≡ false → (h : ℕ) → shownBy s f inZone h u ≡ false
-  unfolding shownBy zoneBy
+  pub shown-no-cast : castsAgainst s f u ≡ false → (h : ℕ) → markBy s f inZone h u ≡ false
+  unfolding markBy zoneBy
   shown-no-cast e h = simp e
 
   -- a unit's part by one mark
   module _ (j : Mark) where
-    pub part-none : ((h : ℕ) → shownBy s f j h u ≡ false) → (k : Mark) (h : ℕ) → part s f j u k h ≡ false
+    pub part-none : ((h : ℕ) → markBy s f j h u ≡ false) → (k : Mark) (h : ℕ) → part s f j u k h ≡ false
     unfolding part
     part-none e k h = simp (e h, and-false)
 
-    pub part-only : {n : ℕ} → n ≡ s .hex u → ((h : ℕ) → shownBy s f j h u ≡ eqb (s .hex u) h) → (k : Mark) (h : ℕ) → only (bit j) n k h ≡ part s f j u k h
+    pub part-only : {n : ℕ} → n ≡ s .hex u → ((h : ℕ) → markBy s f j h u ≡ eqb (s .hex u) h) → (k : Mark) (h : ℕ) → only (bit j) n k h ≡ part s f j u k h
     unfolding part only
     part-only e q k h = ap (λ (b : Bool). eqb (bit k) (bit j) && b) (ap (λ (n : ℕ). eqb n h) e ∙ sym (q h))
 
@@ -163,14 +164,14 @@ module _ (s : Scene) (f u : ℕ) where
       (k : Mark) (h : ℕ) → also (also (also (part s f byAny u) (part s f byEnemy u)) (part s f byOwn u)) (part s f byDepot u) k h ≡ stands s f u k h
   unfolding also part stands
   stands-parts inZone h = refl
-  stands-parts byEnemy h = or-false (shownBy s f byEnemy h u)
-  stands-parts byOwn h = or-false (shownBy s f byOwn h u)
-  stands-parts byDepot h = or-false (shownBy s f byDepot h u)
+  stands-parts byEnemy h = or-false (markBy s f byEnemy h u)
+  stands-parts byOwn h = or-false (markBy s f byOwn h u)
+  stands-parts byDepot h = or-false (markBy s f byDepot h u)
   stands-parts byAny h = refl
 
   pub says-parts : (k : Mark) (h : ℕ) → also (stands s f u) (part s f inZone u) k h ≡ says s f u k h
   unfolding also part stands says
-  says-parts inZone h = or-false (shownBy s f inZone h u)
+  says-parts inZone h = or-false (markBy s f inZone h u)
   says-parts byEnemy h = refl
   says-parts byOwn h = refl
   says-parts byDepot h = refl
@@ -182,11 +183,11 @@ module _ (s : Scene) (f u : ℕ) where
     unfolding covers
     uncovered d =
         either (isAt (beside (s .map) (s .hex u) d) h)
-        (λ e. absurd (a .apart h d i (at-hex (beside (s .map) (s .hex u) d) h e)))
+        (λ e. absurd (a .apart h d i (is-at (beside (s .map) (s .hex u) d) h e)))
         (λ e. simp e)
 
     pub away-says : (k : Mark) → says s f u k h ≡ false
-    unfolding says shownBy zoneBy supplyUnitOn
+    unfolding says markBy zoneBy supplyUnitOn
     away-says inZone = simp (any-never (covers (s .map) (s .hex u) h) 6 (λ d l. uncovered d), and-false)
     away-says byEnemy = enemy-off s f h u (a .other h i)
     away-says byOwn = own-off s f h u (a .other h i)
@@ -206,15 +207,15 @@ module _ (s : Scene) (f : ℕ) where
   -- one unit after the other
   pub below-none : (k : Mark) (h : ℕ) → saysBelow s f 0 k h ≡ false
   unfolding saysBelow
-  below-none k h = any-zero (shownBy s f k h)
+  below-none k h = any-zero (markBy s f k h)
 
   pub below-step : (u : ℕ) (k : Mark) (h : ℕ) → also (saysBelow s f u) (says s f u) k h ≡ saysBelow s f (u + 1) k h
   unfolding also says saysBelow
-  below-step u k h = sym (any-step (shownBy s f k h) u)
+  below-step u k h = sym (any-step (markBy s f k h) u)
 
   -- all of them
-  pub all-shown : (k : Mark) (h : ℕ) → saysBelow s f (s .count) k h ≡ shown s f k h
-  unfolding saysBelow shownBy shown holdsEnemy holds vacant
+  pub all-shown : (k : Mark) (h : ℕ) → saysBelow s f (s .count) k h ≡ markHolds s f k h
+  unfolding saysBelow markBy markHolds holdsEnemy holds vacant
   all-shown inZone h = any-same _ (zoneBy s f h) (s .count) (λ u l. refl) ∙ zone-units s f h
   all-shown byEnemy h = any-same _ (enemyOn s f h) (s .count) (λ u l. refl)
   all-shown byOwn h = any-same _ (ownOn s f h) (s .count) (λ u l. refl)
@@ -243,4 +244,4 @@ pub one-marked :
 one-marked {s} {f} {at} {l} {w} {x} {h} {r} t k i p e q =
     let o = k .each x (rw t at i) in
     let z : placeOf (s .map .width) at x ≡ 0 = ap (λ (n : ℕ). placeOf n at x) (sym t) ∙ p in
-    record { each = λ j. ap (has (bit j)) (e ∙ ap (λ (n : ℕ). byte l n) (sym z)) ∙ o .each j ∙ ap (shown s f j) q }
+    record { each = λ j. ap (has (bit j)) (e ∙ ap (λ (n : ℕ). byte l n) (sym z)) ∙ o .each j ∙ ap (markHolds s f j) q }

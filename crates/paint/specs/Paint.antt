@@ -48,16 +48,16 @@ bit byDepot = depotMark
 bit byAny = heldMark
 
 -- what each mark says of hex h for force f
-unfoldable pub shown : Scene → ℕ → Mark → ℕ → Bool
-shown s f inZone h = enemyZone s f h
-shown s f byEnemy h = holdsEnemy s f h
-shown s f byOwn h = holds s f h
-shown s f byDepot h = any (supplyUnitOn s f h) (s .count)
-shown s f byAny h = not (vacant s h)
+unfoldable pub markHolds : Scene → ℕ → Mark → ℕ → Bool
+markHolds s f inZone h = enemyZone s f h
+markHolds s f byEnemy h = holdsEnemy s f h
+markHolds s f byOwn h = holds s f h
+markHolds s f byDepot h = any (supplyUnitOn s f h) (s .count)
+markHolds s f byAny h = not (vacant s h)
 
 -- the byte m has the marks of hex h
 pub record Marked (s : Scene) (f h m : ℕ) : Type 0 where
-  pub each : (k : Mark) → has (bit k) m ≡ shown s f k h
+  pub each : (k : Mark) → has (bit k) m ≡ markHolds s f k h
 
 -- the buffer l shows the frame to force f
 pub record Shows (s : Scene) (f : ℕ) (at : Frame) (l : List ℕ) : Type 0 where
@@ -76,12 +76,12 @@ unfoldable pub zoneBy : Scene → ℕ → ℕ → ℕ → Bool
 zoneBy s f h u = castsAgainst s f u && any (covers (s .map) (s .hex u) h) 6
 
 -- what unit u marks hex h with
-unfoldable pub shownBy : Scene → ℕ → Mark → ℕ → ℕ → Bool
-shownBy s f inZone h u = zoneBy s f h u
-shownBy s f byEnemy h u = enemyOn s f h u
-shownBy s f byOwn h u = ownOn s f h u
-shownBy s f byDepot h u = supplyUnitOn s f h u
-shownBy s f byAny h u = standsOn s h u
+unfoldable pub markBy : Scene → ℕ → Mark → ℕ → ℕ → Bool
+markBy s f inZone h u = zoneBy s f h u
+markBy s f byEnemy h u = enemyOn s f h u
+markBy s f byOwn h u = ownOn s f h u
+markBy s f byDepot h u = supplyUnitOn s f h u
+markBy s f byAny h u = standsOn s h u
 
 -- m with the mark b
 unfoldable pub inked : ℕ → ℕ → ℕ
@@ -102,21 +102,21 @@ unfoldable pub only : ℕ → ℕ → Mark → ℕ → Bool
 only b n k h = eqb (bit k) b && eqb n h
 
 -- a zone that reaches from hex n over direction d, and over those before it;
-unfoldable pub reach : Map → ℕ → ℕ → Mark → ℕ → Bool
-reach m n d k h = eqb (bit k) zoneMark && covers m n h d
+unfoldable pub castTo : Map → ℕ → ℕ → Mark → ℕ → Bool
+castTo m n d k h = eqb (bit k) zoneMark && covers m n h d
 
 unfoldable pub reaches : Map → ℕ → ℕ → Mark → ℕ → Bool
 reaches m n d k h = eqb (bit k) zoneMark && any (covers m n h) d
 
 -- what unit u says by the mark j, by all but its zone, and by all; what the units before it say
 unfoldable pub part : Scene → ℕ → Mark → ℕ → Mark → ℕ → Bool
-part s f j u k h = eqb (bit k) (bit j) && shownBy s f j h u
+part s f j u k h = eqb (bit k) (bit j) && markBy s f j h u
 
 unfoldable pub stands : Scene → ℕ → ℕ → Mark → ℕ → Bool
-stands s f u k h = not (eqb (bit k) zoneMark) && shownBy s f k h u
+stands s f u k h = not (eqb (bit k) zoneMark) && markBy s f k h u
 
 unfoldable pub says : Scene → ℕ → ℕ → Mark → ℕ → Bool
-says s f u k h = shownBy s f k h u
+says s f u k h = markBy s f k h u
 
 unfoldable pub saysBelow : Scene → ℕ → ℕ → Mark → ℕ → Bool
-saysBelow s f u k h = any (shownBy s f k h) u
+saysBelow s f u k h = any (markBy s f k h) u

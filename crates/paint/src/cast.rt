@@ -6,7 +6,7 @@ ghost use Rattle.position.specs.Board.{board, ground};
 ghost use Rattle.position.specs.Laid.{Laid};
 ghost use Rattle.field.specs.Scene.{scene};
 ghost use Rattle.paint.specs.Frame.{Room, StandsAt};
-ghost use Rattle.paint.specs.Paint.{inZone, castsAgainst, Adds, reach, reaches, part};
+ghost use Rattle.paint.specs.Paint.{inZone, castsAgainst, Adds, castTo, reaches, part};
 use crate::frame;
 use crate::frame::Frame;
 use grid::Nearby;
@@ -25,7 +25,7 @@ const ALL_SEA: usize = 2;
 // The zone of a caster on the spot over the hex in direction `d`.
 fn over(p: &[u8], v: View, at: Frame, s: Spot, d: usize, buf: &mut [u8])
     requires { ⌜ Laid (now p) v × Room v at (now buf) × SpotOf (v .width) (v .height) s × (d < 6) ⌝ }
-    ensures { λ _. ⌜ Adds (v .width) at (reach (ground (now (p .entry))) (s .hex) d) (now (buf .entry)) (now (buf .exit)) ⌝ }
+    ensures { λ _. ⌜ Adds (v .width) at (castTo (ground (now (p .entry))) (s .hex) d) (now (buf .entry)) (now (buf .exit)) ⌝ }
 {
     let Nearby::At(t) = near::near(v.width, v.height, s, d) else {
         return;

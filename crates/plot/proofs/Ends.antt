@@ -17,7 +17,7 @@ use Rattle.position.proofs.Tallies.{not-both, both-yes, same-or, either, any-st
 use Rattle.chains.specs.Chain.{Ways, Stands, rests, yields, leadsTo, leads, hasRest}
 use Rattle.chains.specs.Serves.{endsIn}
 use Rattle.plot.specs.Plot.{places, nextIn}
-use Rattle.plot.specs.Ends.{reach, bitOf, markIn, MarkSet, Close, marked, Marks, restsBeside, endMarked, Blank}
+use Rattle.plot.specs.Ends.{span, bitOf, markIn, MarkSet, Close, marked, Marks, restsBeside, endMarked, Blank}
 use Rattle.plot.proofs.Marking.{has-none}
 use Rattle.plot.proofs.Plots.{next-below, next-near}
 
@@ -35,19 +35,19 @@ close-step l i d z e c =
 
 -- whether a place is marked, where it has a bit
 module _ (l : List ℕ) (x y : ℕ) where
-  pub end-before : y + reach < x → endMarked l x y ≡ false
+  pub end-before : y + span < x → endMarked l x y ≡ false
   unfolding endMarked
-  end-before p = simp (lt-leb x (y + reach) p)
+  end-before p = simp (lt-leb x (y + span) p)
 
-  pub end-after : x + reach < y → endMarked l x y ≡ false
+  pub end-after : x + span < y → endMarked l x y ≡ false
   unfolding endMarked
-  end-after p = simp (lt-leb y (x + reach) p, and-false)
+  end-after p = simp (lt-leb y (x + span) p, and-false)
 
-  pub end-in : x ≤ y + reach → y ≤ x + reach → endMarked l x y ≡ marked l x y
+  pub end-in : x ≤ y + span → y ≤ x + span → endMarked l x y ≡ marked l x y
   unfolding endMarked
-  end-in p q = simp (le-leb x (y + reach) p, le-leb y (x + reach) q)
+  end-in p q = simp (le-leb x (y + span) p, le-leb y (x + span) q)
 
-  pub end-read : (r : Bool) → x ≤ y + reach → y ≤ x + reach → r ≡ markIn l (reach + y - x) → r ≡ endMarked l x y
+  pub end-read : (r : Bool) → x ≤ y + span → y ≤ x + span → r ≡ markIn l (span + y - x) → r ≡ endMarked l x y
   unfolding marked
   end-read r p q e = e ∙ sym (end-in p q)
 
@@ -65,14 +65,14 @@ module _ {x : ℕ} where
   marks-left next s used h {k} {n} {l} {m} e a = subst (λ (i : ℕ). Marks x (endsIn next s used i h) l m) e a
 
   -- place z is marked
-  pub marks-one : (z : ℕ) (l m : List ℕ) → Close x z 3 → MarkSet (reach + z - x) l m → Marks x (eqb z) l m
+  pub marks-one : (z : ℕ) (l m : List ℕ) → Close x z 3 → MarkSet (span + z - x) l m → Marks x (eqb z) l m
   unfolding marked
   marks-one z l m k e = record {
     long = e .long;
     each = λ y c.
         same-or z y
         (λ q. simp (eq-eqb z y q) (rw (sym q) (e .there)))
-        (λ n. simp (ne-eqb z y n) (e .others (reach + y - x) (λ p. n (omega (arith, k .after, k .before, c .after, c .before)))));
+        (λ n. simp (ne-eqb z y n) (e .others (span + y - x) (λ p. n (omega (arith, k .after, k .before, c .after, c .before)))));
   }
 
 -- the tests of the first directions together: a test for each, and how many
@@ -169,7 +169,7 @@ rest-all next s used h y =
 -- after a direction more
 module _ {x : ℕ} (next : Ways) (s : Stands) (used : List ℕ) (h d z : ℕ) (e : next h d ≡ At z) {l m n : List ℕ} where
   pub upto-rest :
-      Marks x (upTo (restAt next s used h) d) l m → rests s used z ≡ true → Close x z 3 → MarkSet (reach + z - x) m n
+      Marks x (upTo (restAt next s used h) d) l m → rests s used z ≡ true → Close x z 3 → MarkSet (span + z - x) m n
       → Marks x (upTo (restAt next s used h) (d + 1)) l n
   upto-rest p r c b =
       upto-more (restAt next s used h) p (marks-as (λ y k. rest-yes next s used h d z e r y) (marks-one z m n c b))
@@ -298,7 +298,7 @@ module _ {x : ℕ} {t : ℕ → Bool} {l m : List ℕ} (k : Blank l) (a : Marks 
   blank : (y : ℕ) → marked l x y ≡ false
   unfolding marked markIn
   blank y =
-      let j = reach + y - x in
+      let j = span + y - x in
       ap (has (bitOf (j % 8))) (k .each (j / 8)) ∙ has-none (j % 8)
 
   marked-is : (y : ℕ) → Close x y 3 → endMarked m x y ≡ t y
@@ -309,12 +309,12 @@ module _ {x : ℕ} {t : ℕ → Bool} {l m : List ℕ} (k : Blank l) (a : Marks 
       ∙ or-false (t y)
 
   pub ended-by : ((y : ℕ) → t y ≡ true → Close x y 3) → (y : ℕ) → y < places → endMarked m x y ≡ t y
-  ended-by f y b = go (decLe x (y + reach)) (decLe y (x + reach))
+  ended-by f y b = go (decLe x (y + span)) (decLe y (x + span))
     where
       no-end : (Close x y 3 → ⊥) → false ≡ t y
       no-end n = either (t y) (λ e. absurd (n (f y e))) (λ e. sym e)
 
-      go : Dec (x ≤ y + reach) → Dec (y ≤ x + reach) → endMarked m x y ≡ t y
+      go : Dec (x ≤ y + span) → Dec (y ≤ x + span) → endMarked m x y ≡ t y
       go (no p) q = end-before m x y (omega arith) ∙ no-end (λ c. p (omega (arith, c .after)))
       go (yes p) (no q) = end-after m x y (omega arith) ∙ no-end (λ c. q (omega (arith, c .before)))
       go (yes p) (yes q) = marked-is y (record { below = b; after = omega arith; before = omega arith })

@@ -59,7 +59,7 @@ module _ {w start : ℕ} {l : List ℕ} {i a x k : ℕ} {pushes : List ℕ} wher
   pub stepped-apart : leads (nextIn l) a x ≡ false → Stepped w start l l i a x k pushes T.Wrong
   unfolding landIn
   stepped-apart e =
-      record { long = refl; used = λ y j f. never-took y j f; onward = λ rest. follows-apart _ _ _ _ _ _ _ e }
+      record { long = refl; used = λ y j f. never-took y j f; left-to-ask = λ rest. follows-apart _ _ _ _ _ _ _ e }
 
   pub stepped-far : (distanceOf wide (homeFor w start) x ≡ i + 1 → ⊥) → Stepped w start l l i a x k pushes T.Wrong
   unfolding landIn
@@ -67,7 +67,7 @@ module _ {w start : ℕ} {l : List ℕ} {i a x k : ℕ} {pushes : List ℕ} wher
       record {
         long = refl;
         used = λ y j f. never-took y j f;
-        onward = λ rest. follows-far _ _ _ _ _ _ _ (λ e. n (e ∙ sym (add-one i)));
+        left-to-ask = λ rest. follows-far _ _ _ _ _ _ _ (λ e. n (e ∙ sym (add-one i)));
       }
 
   module _ (e : leads (nextIn l) a x ≡ true) (f : distanceOf wide (homeFor w start) x ≡ i + 1) where
@@ -77,7 +77,7 @@ module _ {w start : ℕ} {l : List ℕ} {i a x k : ℕ} {pushes : List ℕ} wher
         record {
           long = refl;
           used = λ y j g. never-took y j g;
-          onward = λ rest. follows-by _ _ _ _ _ _ _ e (f ∙ add-one i) ∙ rw s;
+          left-to-ask = λ rest. follows-by _ _ _ _ _ _ _ e (f ∙ add-one i) ∙ rw s;
         }
 
     pub stepped-free : standIn l x ≡ Free → k ≤ length pushes → Stepped w start l l i a x k pushes (T.UpTo x k)
@@ -86,7 +86,7 @@ module _ {w start : ℕ} {l : List ℕ} {i a x k : ℕ} {pushes : List ℕ} wher
         record {
           long = refl;
           used = λ y j g. let q = same-took x k y j g in (led-below l a x e, omega (arith, q .1));
-          onward = λ rest. follows-by _ _ _ _ _ _ _ e (f ∙ add-one i) ∙ rw s;
+          left-to-ask = λ rest. follows-by _ _ _ _ _ _ _ e (f ∙ add-one i) ∙ rw s;
         }
 
     pub stepped-loose :
@@ -97,7 +97,7 @@ module _ {w start : ℕ} {l : List ℕ} {i a x k : ℕ} {pushes : List ℕ} wher
         record {
           long = ap length (p .kept refl);
           used = λ y j g. never-took y j g;
-          onward = λ rest. follows-by _ _ _ _ _ _ _ e (f ∙ add-one i) ∙ rw s (rw (sym (p .took)));
+          left-to-ask = λ rest. follows-by _ _ _ _ _ _ _ e (f ∙ add-one i) ∙ rw s (rw (sym (p .took)));
         }
     stepped-loose {m} (T.UpTo y j) s b p =
         let q = p .left y j refl in
@@ -105,7 +105,7 @@ module _ {w start : ℕ} {l : List ℕ} {i a x k : ℕ} {pushes : List ℕ} wher
         record {
           long = ap length (q .0) ∙ shifted-long l x y;
           used = λ y' j' g. let t = same-took y j y' j' g in (n, omega (arith, q .2, t .1));
-          onward = λ rest.
+          left-to-ask = λ rest.
               follows-by (landIn (homeFor w start) l) (standIn l) i a x rest (placesFrom w start k pushes) e (f ∙ add-one i)
               ∙ rw s (rw (sym (p .took)) (rw (q .0) (on-shifted (homeFor w start) l x y b n (q .1) (suc i) x rest
               (placesFrom w start j pushes))));
@@ -118,7 +118,7 @@ pub record Followed (w start : ℕ) (l route pushes m : List ℕ) (a k i : ℕ) 
   pub inside : a < places
   pub few : k ≤ length pushes
   pub most : i ≤ length route
-  pub onward : followsIn w start l 0 (homeFor w start) route 0 pushes ≡ followsIn w start m i a route k pushes
+  pub left-to-ask : followsIn w start l 0 (homeFor w start) route 0 pushes ≡ followsIn w start m i a route k pushes
 
 pub followed-none :
     {w start : ℕ} {l route pushes : List ℕ} {a : ℕ} → length l ≡ places → a ≡ homeFor w start → a < places
@@ -129,7 +129,7 @@ followed-none {w} {start} {l} {route} {pushes} {a} b e p =
       inside = p;
       few = omega arith;
       most = omega arith;
-      onward = ap (λ (x : ℕ). followsIn w start l 0 x route 0 pushes) (sym e);
+      left-to-ask = ap (λ (x : ℕ). followsIn w start l 0 x route 0 pushes) (sym e);
     }
 
 module _ {w start : ℕ} {l route pushes m : List ℕ} {a k i : ℕ} (u : Followed w start l route pushes m a k i) where
@@ -141,10 +141,10 @@ module _ {w start : ℕ} {l route pushes m : List ℕ} {a k i : ℕ} (u : Follow
         ≡ goesOn w start n (suc i) x (placesFrom w start (i + 1) route) pushes r
     unfolding followsIn
     stepped-on =
-        u .onward
+        u .left-to-ask
         ∙ ap (λ (rest : List ℕ). follows (landIn (homeFor w start) m) (standIn m) i a rest (placesFrom w start k pushes))
         (places-next w start i route x b e)
-        ∙ t .onward (placesFrom w start (i + 1) route)
+        ∙ t .left-to-ask (placesFrom w start (i + 1) route)
 
     pub followed-more : {y j : ℕ} → r ≡ T.UpTo y j → Followed w start l route pushes n x j (i + 1)
     unfolding followsIn
@@ -155,7 +155,7 @@ module _ {w start : ℕ} {l route pushes m : List ℕ} {a k i : ℕ} (u : Follow
           inside = q .0;
           few = q .1;
           most = omega arith;
-          onward = stepped-on ∙ ap (goesOn w start n (suc i) x (placesFrom w start (i + 1) route) pushes) f ∙ rw (add-one i);
+          left-to-ask = stepped-on ∙ ap (goesOn w start n (suc i) x (placesFrom w start (i + 1) route) pushes) f ∙ rw (add-one i);
         }
 
     pub followed-wrong : r ≡ T.Wrong → followsIn w start l 0 (homeFor w start) route 0 pushes ≡ false
@@ -165,7 +165,7 @@ module _ {w start : ℕ} {l route pushes m : List ℕ} {a k i : ℕ} (u : Follow
   pub followed-all : length route ≤ i → followsIn w start l 0 (homeFor w start) route 0 pushes ≡ eqb k (length pushes)
   unfolding followsIn follows
   followed-all b =
-      u .onward
+      u .left-to-ask
       ∙ ap (λ (rest : List ℕ). follows (landIn (homeFor w start) m) (standIn m) i a rest (placesFrom w start k pushes))
       (places-none w start i route b)
       ∙ none-left w start k pushes (u .few)

@@ -11,6 +11,7 @@ use borrow.Author.Tests.{eq-eqb, eqb-false}
 use Rattle.position.specs.Bits.{has}
 use Rattle.position.specs.Layout.{byte}
 use Rattle.position.proofs.Tallies.{same-or}
+use Rattle.position.proofs.BitLaws.{bit-off, bit-there, bit-same}
 use Rattle.plot.specs.Plot.{sideBit}
 use Rattle.plot.specs.Ends.{bitOf, markIn, MarkSet}
 
@@ -103,19 +104,6 @@ module _ (m : ℕ) where
   keeps : (i : ℕ) → i < 8 → (j : ℕ) → j < 8 → Stays i j
   keeps = below-8 (λ i. (j : ℕ) → j < 8 → Stays i j) stays-0 stays-1 stays-2 stays-3 stays-4 stays-5 stays-6 stays-7
 
--- a mark is there by its digit
-off : (b m : ℕ) → has b m ≡ false → m / b % 2 ≡ 0
-unfolding has
-off b m e = let n = eqb-false (m / b % 2) 1 e in omega arith
-
-there : (b m : ℕ) → m / b % 2 ≡ 1 → has b m ≡ true
-unfolding has
-there b m e = eq-eqb (m / b % 2) 1 e
-
-as-before : (b m n : ℕ) → m / b % 2 ≡ n / b % 2 → has b m ≡ has b n
-unfolding has
-as-before b m n e = rw e
-
 -- mark k of a buffer
 pub mark-read : (k : ℕ) (l : List ℕ) (b m : ℕ) (r : Bool) → r ≡ has b m → b ≡ bitOf (k % 8) → m ≡ byte l (k / 8) → r ≡ markIn l k
 unfolding markIn
@@ -128,7 +116,7 @@ module _ (k : ℕ) (l : List ℕ) where
   module _ (m b : ℕ) (is : m ≡ byte l (k / 8)) (bit : b ≡ bitOf (k % 8)) (e : markIn l k ≡ false) where
     free : m / bitOf (k % 8) % 2 ≡ 0
     unfolding markIn
-    free = off (bitOf (k % 8)) m (ap (has (bitOf (k % 8))) is ∙ e)
+    free = bit-off (bitOf (k % 8)) m (ap (has (bitOf (k % 8))) is ∙ e)
 
     pub mark-fits : m < 256 → m + b < 256
     mark-fits p = rw bit (fits m (k % 8) (omega arith) free p)
@@ -140,14 +128,14 @@ module _ (k : ℕ) (l : List ℕ) where
           long = length-set l (k / 8) (m + bitOf (k % 8));
           there =
               ap (has (bitOf (k % 8))) (getD-set-same l (k / 8) (m + bitOf (k % 8)) 0 p)
-              ∙ there (bitOf (k % 8)) (m + bitOf (k % 8)) (gets m (k % 8) (omega arith) free);
+              ∙ bit-there (bitOf (k % 8)) (m + bitOf (k % 8)) (gets m (k % 8) (omega arith) free);
           others =
               λ j n.
               same-or (j / 8) (k / 8)
               (λ q.
               ap (λ (i : ℕ). has (bitOf (j % 8)) (byte (set l (k / 8) (m + bitOf (k % 8))) i)) q
               ∙ ap (has (bitOf (j % 8))) (getD-set-same l (k / 8) (m + bitOf (k % 8)) 0 p)
-              ∙ as-before (bitOf (j % 8)) (m + bitOf (k % 8)) m (keeps m (k % 8) (omega arith) (j % 8) (omega arith) (λ z. n (omega arith)) free)
+              ∙ bit-same (bitOf (j % 8)) (m + bitOf (k % 8)) m (keeps m (k % 8) (omega arith) (j % 8) (omega arith) (λ z. n (omega arith)) free)
               ∙ ap (has (bitOf (j % 8))) is
               ∙ ap (λ (i : ℕ). has (bitOf (j % 8)) (byte l i)) (sym q))
               (λ d. ap (has (bitOf (j % 8))) (getD-set-other l (k / 8) (j / 8) (m + bitOf (k % 8)) 0 d));

@@ -14,6 +14,7 @@ use Rattle.grid.specs.Map.{On}
 use Rattle.position.specs.Layout.{byte}
 use Rattle.position.specs.Tally.{any}
 use Rattle.position.proofs.Tallies.{any-miss, any-true, any-same}
+use Rattle.position.proofs.Cells.{byte-empty}
 use Rattle.chains.specs.declared.Stand.the-variants.{Shut, Free, Loose}
 use Rattle.chains.specs.Chain.{leadsTo, most}
 use Rattle.chains.specs.Follows.{byStand}
@@ -180,13 +181,8 @@ pub put-back : {l m n : List ℕ} (x y : ℕ) → m ≡ shifted l x y → n ≡ 
 put-back {l} x y e f = ap (λ (q : List ℕ). set (set q y (byte l y)) x (byte l x)) (f ∙ e) ∙ shifted-back l x y
 
 -- an array of zeros marks no place
-zeros : (n j : ℕ) → byte (replicate n 0) j ≡ 0
-zeros zero j = refl
-zeros (suc n) zero = refl
-zeros (suc n) (suc j) = zeros n j
-
 pub blank : Blank (replicate room 0)
-blank = record { long = length-replicate {A = ℕ} room 0; each = zeros room }
+blank = record { long = length-replicate {A = ℕ} room 0; each = byte-empty room }
 
 -- what `gather` leaves in an array of zeros
 pub gathered :

@@ -162,11 +162,11 @@ pub never-took : {A : Type 0} (y j : ℕ) → T.Wrong ≡ T.UpTo y j → A
 never-took y j e = let z : _≡_ {A = ℕ} 0 1 = cc in absurd (omega arith)
 
 -- the next push is the place z
-along :
+along-chain :
     (w start : ℕ) (l used : List ℕ) (left h k : ℕ) (pushes : List ℕ) (z : ℕ) → k < length pushes → z ≡ placeFor w start (getD pushes k 0)
     → takes (nextIn l) (standIn l) used left h (placesFrom w start k pushes)
     ≡ takes (nextIn l) (standIn l) used left h (z ∷ placesFrom w start (k + 1) pushes)
-along w start l used left h k pushes z b e =
+along-chain w start l used left h k pushes z b e =
     ap (takes (nextIn l) (standIn l) used left h)
     (places-next w start k pushes z b e)
 
@@ -183,14 +183,14 @@ module _ {w start : ℕ} {l used : List ℕ} {left h k : ℕ} {pushes : List ℕ
 
   module _ {z : ℕ} (b : k < length pushes) (e : z ≡ placeFor w start (getD pushes k 0)) where
     pub took-apart : leads (nextIn l) h z ≡ false → TookIn w start l used left h k pushes T.Wrong
-    took-apart f = took-wrong (along w start l used left h k pushes z b e ∙ takes-apart _ _ _ _ _ _ left f)
+    took-apart f = took-wrong (along-chain w start l used left h k pushes z b e ∙ takes-apart _ _ _ _ _ _ left f)
 
     pub took-rest :
         1 ≤ left → leads (nextIn l) h z ≡ true → rests (standIn l) (h ∷ used) z ≡ true
         → TookIn w start l used left h k pushes (T.UpTo z (k + 1))
     took-rest p f r =
         record {
-          took = sym (along w start l used left h k pushes z b e ∙ takes-rest _ _ _ _ _ _ left p f r);
+          took = sym (along-chain w start l used left h k pushes z b e ∙ takes-rest _ _ _ _ _ _ left p f r);
           ends = λ y j q.
               let s = same-took z (k + 1) y j q in
               (omega (arith, led-below l h z f, s .0), omega (arith, s .1));
@@ -199,17 +199,17 @@ module _ {w start : ℕ} {l used : List ℕ} {left h k : ℕ} {pushes : List ℕ
     pub took-last :
         1 ≤ left → left < 2 → leads (nextIn l) h z ≡ true → rests (standIn l) (h ∷ used) z ≡ false
         → TookIn w start l used left h k pushes T.Wrong
-    took-last p q f r = took-wrong (along w start l used left h k pushes z b e ∙ takes-last _ _ _ _ _ _ left p q f r)
+    took-last p q f r = took-wrong (along-chain w start l used left h k pushes z b e ∙ takes-last _ _ _ _ _ _ left p q f r)
 
     pub took-shy :
         leads (nextIn l) h z ≡ true → rests (standIn l) (h ∷ used) z ≡ false → hasRest (nextIn l) (standIn l) (h ∷ used) h ≡ true
         → TookIn w start l used left h k pushes T.Wrong
-    took-shy f r g = took-wrong (along w start l used left h k pushes z b e ∙ takes-shy _ _ _ _ _ _ left f r g)
+    took-shy f r g = took-wrong (along-chain w start l used left h k pushes z b e ∙ takes-shy _ _ _ _ _ _ left f r g)
 
     pub took-firm :
         leads (nextIn l) h z ≡ true → rests (standIn l) (h ∷ used) z ≡ false → hasRest (nextIn l) (standIn l) (h ∷ used) h ≡ false
         → yields (standIn l) (h ∷ used) z ≡ false → TookIn w start l used left h k pushes T.Wrong
-    took-firm f r g y = took-wrong (along w start l used left h k pushes z b e ∙ takes-firm _ _ _ _ _ _ left f r g y)
+    took-firm f r g y = took-wrong (along-chain w start l used left h k pushes z b e ∙ takes-firm _ _ _ _ _ _ left f r g y)
 
     -- it goes on from the stack there
     pub took-on :
@@ -221,7 +221,7 @@ module _ {w start : ℕ} {l used : List ℕ} {left h k : ℕ} {pushes : List ℕ
           took =
               t .took
               ∙ ap (λ (u : List ℕ). takes (nextIn l) (standIn l) u (left - 1) z (placesFrom w start (k + 1) pushes)) q
-              ∙ sym (along w start l used left h k pushes z b e ∙ takes-on _ _ _ _ _ _ left p f r g y);
+              ∙ sym (along-chain w start l used left h k pushes z b e ∙ takes-on _ _ _ _ _ _ left p f r g y);
           ends = t .ends;
         }
 

@@ -12,8 +12,8 @@ use Rattle.position.specs.Layout.{byte}
 use Rattle.chains.specs.Chain.{Ways, Stands, rests, leads}
 use Rattle.plot.specs.Plot.{places}
 
-abbrev pub reach : ℕ
-reach = 45
+abbrev pub span : ℕ
+span = 45
 
 -- how many bytes have these bits
 abbrev pub room : ℕ
@@ -49,7 +49,7 @@ pub record Close (x y steps : ℕ) : Type 0 where
 
 -- a chain from place x ends in place y, by its mark
 unfoldable pub marked : List ℕ → ℕ → ℕ → Bool
-marked l x y = markIn l (reach + y - x)
+marked l x y = markIn l (span + y - x)
 
 -- places are marked where t says so, and no mark goes
 pub record Marks (x : ℕ) (t : ℕ → Bool) (l m : List ℕ) : Type 0 where
@@ -62,7 +62,7 @@ restsBeside next s used h y = leads next h y && rests s used y
 
 -- place y is marked, where it has a bit
 unfoldable pub endMarked : List ℕ → ℕ → ℕ → Bool
-endMarked l x y = leb x (y + reach) && (leb y (x + reach) && marked l x y)
+endMarked l x y = leb x (y + span) && (leb y (x + span) && marked l x y)
 
 -- no place is marked
 pub record Blank (l : List ℕ) : Type 0 where

@@ -36,7 +36,7 @@ goesOn w start l i x rest pushes (T.UpTo y k) =
 pub record Stepped (w start : ℕ) (l m : List ℕ) (i a x k : ℕ) (pushes : List ℕ) (r : Took) : Type 0 where
   pub long : length m ≡ length l
   pub used : (y j : ℕ) → r ≡ T.UpTo y j → (x < places) × (j ≤ length pushes)
-  pub onward :
+  pub left-to-ask :
       (rest : List ℕ)
       → follows (landIn (homeFor w start) l) (standIn l) i a (x ∷ rest) (placesFrom w start k pushes)
       ≡ goesOn w start m (suc i) x rest pushes r

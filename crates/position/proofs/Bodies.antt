@@ -1,7 +1,7 @@
 -- A position whose bodies before the units' records are another's: chart, results, map and counts are the same. What the contents say of
 -- the desk's length may differ, and so may everything from the units' records on.
 -- Assumes nothing.
-use Prim.Native.Nat.{ℕ, _+_, _*_, _≤_, _<_}
+use Prim.Native.Nat.{ℕ, suc, _+_, _*_, _≤_, _<_}
 use mathlib.Core.Path.{_≡_, refl, sym, ap, ap₂, fun-ext, _∙_}
 use mathlib.Core.List.{List}
 use mathlib.Core.Bool.{Bool, true, false, cond}
@@ -47,6 +47,7 @@ use Rattle.position.specs.Layout.{
   columnByte,
   code,
   hexByte,
+  dieFaces,
 }
 use Rattle.position.specs.Board.{chart, results, ground}
 use Rattle.position.proofs.Cells.{inside, cell-in, cell-out}
@@ -122,10 +123,10 @@ module _ {p q : List ℕ} (f : Bodies p q) where
 
   code-same : (c die : ℕ) → code q c die ≡ code p c die
   unfolding code
-  code-same c die = ap (λ x. cond (ltb 0 die) x 0) (at (ltb die 7) refl)
+  code-same c die = ap (λ x. cond (ltb 0 die) x 0) (at (ltb die (suc dieFaces)) refl)
     where
-      at : (t : Bool) → ltb die 7 ≡ t → cond t (columnByte q c (codesField + die)) 0 ≡ cond t (columnByte p c (codesField + die)) 0
-      at true e = let l = ltb-true die 7 e in columnByte-same (codesField + die) (omega arith) c
+      at : (t : Bool) → ltb die (suc dieFaces) ≡ t → cond t (columnByte q c (codesField + die)) 0 ≡ cond t (columnByte p c (codesField + die)) 0
+      at true e = let l = ltb-true die (suc dieFaces) e in columnByte-same (codesField + die) (omega arith) c
       at false e = refl
 
   pub results-same : results q ≡ results p

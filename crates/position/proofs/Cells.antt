@@ -1,10 +1,11 @@
--- Laws of a table's cells.
+-- Laws of a table's cells, and of bytes that are all 0.
 -- Assumes nothing.
-use Prim.Native.Nat.{ℕ, suc, _+_, _*_, _≤_, _<_}
-use mathlib.Core.Path.{_≡_, ap₂, _∙_}
-use mathlib.Core.List.{List}
+use Prim.Native.Nat.{ℕ, zero, suc, _+_, _*_, _≤_, _<_}
+use mathlib.Core.Path.{_≡_, refl, ap, ap₂, _∙_}
+use mathlib.Core.List.{List, replicate}
 use native.Mathlib.Omega.{arith}
 use native.Mathlib.Nat.{mul-le-mul-left, mul-suc}
+use lib.ListN.{length}
 use borrow.Author.Tests.{lt-ltb, le-ltb}
 use Rattle.position.specs.Layout.{byte, cell}
 use Rattle.position.specs.Laid.{Read}
@@ -30,3 +31,12 @@ pub read-at :
     → Read (cell p s′ size n′ k f) 256 r
 read-at p size k f c e g =
     record { is = c .is ∙ ap₂ (λ (a b : ℕ). cell p a size b k f) e g; small = c .small }
+
+-- bytes that are all 0, by another name of how many there are
+pub byte-empty : (n j : ℕ) → byte (replicate n 0) j ≡ 0
+byte-empty zero j = refl
+byte-empty (suc n) zero = refl
+byte-empty (suc n) (suc j) = byte-empty n j
+
+pub all-clear : {m : List ℕ} (l : List ℕ) (k : ℕ) → m ≡ replicate (length l) 0 → length l ≡ k → m ≡ replicate k 0
+all-clear l k e f = e ∙ ap (λ (n : ℕ). replicate n 0) f

@@ -9,7 +9,7 @@ use lib.ListN.{length, set, length-set}
 use lib.Dec.{eqb}
 use lib.Seq.{getD-set-other}
 use Rattle.position.specs.declared.View.{View}
-use Rattle.position.specs.Layout.{byte, deskBody, extentAt, playersField, forces, chartAt, unitsHead, extent, columns, mapAt, width, height, hexes, unitsAt, count, deskAt, named, unitAt}
+use Rattle.position.specs.Layout.{byte, deskBody, extentAt, playersField, forces, chartAt, unitsHead, extent, columns, mapAt, width, height, hexes, unitsAt, count, deskAt, playersNamed, unitAt}
 use Rattle.position.specs.Shape.{Shaped}
 use Rattle.position.specs.Laid.{Laid}
 use Rattle.position.proofs.Counts.{Counts, counts-refl, counts-trans, word-of, hexes-same, unitsAt-same, deskAt-same, unitAt-same, shaped-same}
@@ -52,8 +52,8 @@ module _ {p q : List ℕ} (f : Front p q) where
   extent-kept =
       word-of p q (extentAt deskBody) (f .contents (extentAt deskBody) (omega arith)) (f .contents (extentAt deskBody + 1) (omega arith))
 
-  pub named-kept : named q ≡ named p
-  unfolding named
+  pub named-kept : playersNamed q ≡ playersNamed p
+  unfolding playersNamed
   named-kept = ap (λ (n : ℕ). cond (eqb n (playersField + forces)) forces 0) extent-kept
 
   pub shaped-kept : Shaped p → Shaped q
@@ -76,7 +76,7 @@ module _ {p q : List ℕ} (f : Front p q) where
               count = w .count ∙ sym count-kept;
               units = w .units ∙ sym unitsAt-kept;
               desk = w .desk ∙ sym deskAt-kept;
-              named = w .named ∙ sym named-kept;
+              players = w .players ∙ sym named-kept;
             };
         fits = rw (f .long) (l .fits);
       }

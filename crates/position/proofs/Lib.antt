@@ -7,6 +7,7 @@ pub mod BitLaws
 pub mod Tallies
 pub mod Crowds
 pub mod Sides
+pub mod Bearings
 pub mod Counts
 pub mod Bodies
 pub mod Front

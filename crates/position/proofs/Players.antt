@@ -11,7 +11,7 @@ use lib.Seq.{getD-set-same, getD-set-other, getD-append-add, set-append-left, se
 use lib.Dec.{eqb}
 use borrow.Author.Tests.{eq-eqb, ne-eqb}
 use Rattle.position.specs.Bits.{with, tried}
-use Rattle.position.specs.Layout.{byte, word, deskBody, extentAt, unitsHead, unitSize, marksField, forces, chartAt, extent, mapAt, hexes, unitsAt, count, playersField, named, deskAt, unitAt, unitByte, strengthField, strength, marks, deskByte, player, withPlayers, setUnit, setDesk, setMarks}
+use Rattle.position.specs.Layout.{byte, word, deskBody, extentAt, unitsHead, unitSize, marksField, forces, chartAt, extent, mapAt, hexes, unitsAt, count, playersField, playersNamed, deskAt, unitAt, unitByte, strengthField, strength, marks, deskByte, player, withPlayers, setUnit, setDesk, setMarks}
 use Rattle.position.specs.Board.{board, units, desk, enemy, neutral}
 use Rattle.position.specs.Shape.{Shaped}
 use Rattle.position.specs.Change.{turned}
@@ -55,7 +55,7 @@ spelled (suc (suc (suc zero))) l = refl
 spelled (suc (suc (suc (suc f)))) l = absurd (omega arith)
 
 -- A desk that names no players has four: every other force is Enemy, and none is neutral.
-module _ (p : List ℕ) (none : named p ≡ 0) where
+module _ (p : List ℕ) (none : playersNamed p ≡ 0) where
   own-player : (f : ℕ) → player p f ≡ f
   own-player f = player-out p f (omega (arith, none))
 
@@ -69,8 +69,8 @@ module _ (p : List ℕ) (none : named p ≡ 0) where
 
 -- what the desk's length says
 module _ (p : List ℕ) (short : extent p deskBody ≡ playersField) where
-  none-named : named p ≡ 0
-  unfolding named
+  none-named : playersNamed p ≡ 0
+  unfolding playersNamed
   none-named = simp (ne-eqb (extent p deskBody) (playersField + forces) (λ e. omega arith))
 
   long-said : chartAt ≤ length p → extent (withPlayers p) deskBody ≡ playersField + forces
@@ -81,8 +81,8 @@ module _ (p : List ℕ) (short : extent p deskBody ≡ playersField) where
       let s = short in
       omega (arith, e, h, s)
 
-  all-named : chartAt ≤ length p → named (withPlayers p) ≡ forces
-  unfolding named
+  all-named : chartAt ≤ length p → playersNamed (withPlayers p) ≡ forces
+  unfolding playersNamed
   all-named l = simp (eq-eqb (extent (withPlayers p) deskBody) (playersField + forces) (long-said l))
 
 -- the same bodies before the units' records, both ways
@@ -148,7 +148,7 @@ module _ {p : List ℕ} (o : Old p) where
   unfolding deskByte
   player-with f = at (decLt f forces)
     where
-      n : named (withPlayers p) ≡ forces
+      n : playersNamed (withPlayers p) ≡ forces
       n = all-named p (o .short) long
 
       at : Dec (f < forces) → player (withPlayers p) f ≡ f

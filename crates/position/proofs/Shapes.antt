@@ -26,7 +26,7 @@ use Rattle.position.specs.Layout.{
   hexes,
   unitsAt,
   count,
-  named,
+  playersNamed,
 }
 use Rattle.position.specs.Shape.{In, Entry, Shaped}
 use Rattle.position.specs.Laid.{Laid}
@@ -90,8 +90,8 @@ module _ (p : List ℕ) where
   unfolding count
   count-is e = ap (word p) e
 
-  pub named-most : {n : ℕ} → n ≡ named p → n ≤ forces
-  unfolding named
+  pub named-most : {n : ℕ} → n ≡ playersNamed p → n ≤ forces
+  unfolding playersNamed
   named-most e = omega (arith, e, cond-most (eqb (extent p deskBody) (playersField + forces)))
     where
       cond-most : (t : Bool) → cond t forces 0 ≤ forces

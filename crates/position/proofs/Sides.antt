@@ -3,11 +3,11 @@
 use Prim.Native.Nat.{ℕ, zero, suc, _+_, _-_, _*_, _/_, _%_, _≤_, _<_}
 use mathlib.Core.Path.{_≡_, refl, sym, ap, ap₂, _∙_}
 use mathlib.Core.List.{List}
-use mathlib.Core.Bool.{Bool, false, not, and-false}
+use mathlib.Core.Bool.{Bool, true, false, not, and-false}
 use native.Mathlib.Omega.{arith}
 use native.Mathlib.Decide.{decLt}
 use lib.Dec.{eqb}
-use borrow.Author.Tests.{lt-ltb, le-ltb, le-leb, lt-leb, eq-eqb, ne-eqb}
+use borrow.Author.Tests.{lt-ltb, le-ltb, le-leb, lt-leb, eqb-true, eq-eqb, ne-eqb}
 use Rattle.grid.specs.declared.Beside.{Beside}
 use Rattle.grid.specs.declared.Beside.the-variants.{At, Off}
 use Rattle.grid.specs.Map.{On, neighbourOf}
@@ -17,8 +17,9 @@ use Rattle.position.specs.Layout.{ViewOf, hexes}
 use Rattle.position.specs.Laid.{Laid}
 use Rattle.position.specs.Tally.{any}
 use Rattle.position.specs.Board.{Board, Map, ground}
-use Rattle.position.proofs.Shapes.{sizes}
 use Rattle.position.specs.Ground.{beside, stored, storedAt, side, blockedSide, next, isAt, joined, standable}
+use Rattle.position.proofs.Shapes.{sizes}
+use Rattle.position.proofs.Tallies.{not-both, same-or}
 
 -- the neighbour, by the view's width and height
 pub beside-view : {p : List ℕ} {v : View} → ViewOf p v → (h d : ℕ) → neighbourOf (v .width) (v .height) h d ≡ beside (ground p) h d
@@ -100,6 +101,28 @@ module _ (b : Board) (h : ℕ) where
   pub standable-land : h < b .map .hexes → b .map .surface h ≤ 1 → standable b h ≡ not (eqb (b .chart .cost (b .map .terrain h)) 0)
   unfolding standable
   standable-land l k = simp (lt-ltb h (b .map .hexes) l, le-leb (b .map .surface h) 1 k)
+
+-- where a step leads, by the neighbour and the side
+module _ {p : List ℕ} {v : View} (o : ViewOf p v) (a d : ℕ) where
+  pub next-off : neighbourOf (v .width) (v .height) a d ≡ Off → Off ≡ next (ground p) a d
+  next-off e =
+      same-or (side (ground p) a d) blockedSide
+      (λ z. sym (next-blocked (ground p) a d z))
+      (λ z. sym (next-beside (ground p) a d z ∙ sym (beside-view o a d) ∙ e))
+
+  pub next-at :
+      {x : ℕ} → neighbourOf (v .width) (v .height) a d ≡ At x → (side (ground p) a d ≡ blockedSide → ⊥) → At x ≡ next (ground p) a d
+  next-at e z = sym (next-beside (ground p) a d z ∙ sym (beside-view o a d) ∙ e)
+
+-- what a test of a step tells of it
+pub is-at : (r : Beside) (x : ℕ) → isAt r x ≡ true → r ≡ At x
+unfolding isAt
+is-at (At y) x e = ap At (eqb-true y x e)
+is-at Off x e = not-both false e refl
+
+pub at-is : {r : Beside} {x : ℕ} → r ≡ At x → isAt r x ≡ true
+unfolding isAt
+at-is {x = x} e = rw e (eq-eqb x x refl)
 
 -- there is no hex where there is one
 pub off-at : {A : Type 0} {r : Beside} {x : ℕ} → r ≡ Off → r ≡ At x → A

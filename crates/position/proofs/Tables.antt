@@ -1,16 +1,16 @@
 -- The numbers of a position that have an end to their table: what stands and is written within, and what past the end.
 -- Assumes nothing.
-use Prim.Native.Nat.{ℕ, _+_, _*_, _≤_, _<_}
+use Prim.Native.Nat.{ℕ, suc, _+_, _*_, _≤_, _<_}
 use mathlib.Core.Path.{_≡_}
 use mathlib.Core.List.{List}
 use lib.ListN.{set}
 use borrow.Author.Tests.{lt-ltb, le-ltb}
-use Rattle.position.specs.Layout.{nowhere, codesField, hexField, routeCount, routeHexes, count, columnByte, code, unitAt, unitByte, hex, deskByte, routeField, route, playersField, named, player, setUnit}
+use Rattle.position.specs.Layout.{nowhere, codesField, hexField, routeCount, routeHexes, count, columnByte, code, unitAt, unitByte, hex, deskByte, routeField, route, playersField, playersNamed, player, setUnit, dieFaces}
 
 module _ (p : List ℕ) (c die : ℕ) where
   pub code-in : 0 < die → die < 7 → code p c die ≡ columnByte p c (codesField + die)
   unfolding code
-  code-in l m = simp (lt-ltb 0 die l, lt-ltb die 7 m)
+  code-in l m = simp (lt-ltb 0 die l, lt-ltb die (suc dieFaces) m)
 
   -- below the first die, and past the sixth
   pub code-none : die ≤ 0 → code p c die ≡ 0
@@ -19,7 +19,7 @@ module _ (p : List ℕ) (c die : ℕ) where
 
   pub code-past : 0 < die → 7 ≤ die → code p c die ≡ 0
   unfolding code
-  code-past l m = simp (lt-ltb 0 die l, le-ltb die 7 m)
+  code-past l m = simp (lt-ltb 0 die l, le-ltb die (suc dieFaces) m)
 
 module _ (p : List ℕ) (u : ℕ) where
   pub hex-in : u < count p → hex p u ≡ unitByte p u hexField + 256 * unitByte p u (hexField + 1)
@@ -46,13 +46,13 @@ module _ (p : List ℕ) (r j : ℕ) where
 
 -- where the desk names a force's player, and where it does not
 module _ (p : List ℕ) (f : ℕ) where
-  pub player-in : f < named p → player p f ≡ deskByte p (playersField + f)
+  pub player-in : f < playersNamed p → player p f ≡ deskByte p (playersField + f)
   unfolding player
-  player-in l = simp (lt-ltb f (named p) l)
+  player-in l = simp (lt-ltb f (playersNamed p) l)
 
-  pub player-out : named p ≤ f → player p f ≡ f
+  pub player-out : playersNamed p ≤ f → player p f ≡ f
   unfolding player
-  player-out l = simp (le-ltb f (named p) l)
+  player-out l = simp (le-ltb f (playersNamed p) l)
 
 -- what is written to a unit, and to one that is not there
 module _ (p : List ℕ) (u f x : ℕ) where

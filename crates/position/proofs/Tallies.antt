@@ -9,6 +9,7 @@ use native.Mathlib.Decide.{ℕ-discrete}
 use lib.Dec.{eqb}
 use borrow.Author.Tests.{eq-eqb, ne-eqb, eqb-true}
 use Rattle.position.specs.Tally.{tally, any}
+pub use Rattle.grid.proofs.Tests.{both-yes}
 
 -- a number below n that passes
 pub record Some (t : ℕ → Bool) (n : ℕ) : Type 0 where
@@ -24,10 +25,6 @@ pub not-both : {A : Type 0} (b : Bool) → b ≡ true → b ≡ false → A
 not-both b p q = let z : _≡_ {A = ℕ} 0 1 = cc in absurd (omega arith)
 
 -- the parts of a test
-pub both-yes : (x y : Bool) → (x && y) ≡ true → (x ≡ true) × (y ≡ true)
-both-yes true y e = (refl, e)
-both-yes false y e = not-both false e refl
-
 pub neither : (x y : Bool) → (x || y) ≡ false → (x ≡ false) × (y ≡ false)
 neither true y e = not-both true refl e
 neither false y e = (refl, e)

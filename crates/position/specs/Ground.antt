@@ -45,6 +45,15 @@ unfoldable pub isAt : Beside → ℕ → Bool
 isAt (At n) x = eqb n x
 isAt Off x = false
 
+-- the least number below n that passes the test, n where none does
+unfoldable pub least : (ℕ → Bool) → ℕ → ℕ
+least t zero = 0
+least t (suc n) = cond (any t n) (least t n) (cond (t n) n (suc n))
+
+-- the direction in which a step over an unblocked side leads from hex h to hex x; 6 if none does
+unfoldable pub bearing : Map → ℕ → ℕ → ℕ
+bearing m h x = least (λ d. isAt (next m h d) x) 6
+
 -- hex x is next to hex h over an unblocked side
 unfoldable pub joined : Map → ℕ → ℕ → Bool
 joined m h x = any (λ d. isAt (next m h d) x) 6

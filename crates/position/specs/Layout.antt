@@ -72,7 +72,8 @@ costField = 0
 abbrev pub multipleField : ℕ
 multipleField = 1
 
--- what stands before the columns of the results; how long a column is, and its fields: the code for a die stands so far behind codesField
+-- what stands before the columns of the results; how long a column is, and its fields: the code for a die stands so far behind codesField;
+-- and the faces of a die
 abbrev pub resultsHead : ℕ
 resultsHead = 1
 
@@ -87,6 +88,9 @@ defenceField = 1
 
 abbrev pub codesField : ℕ
 codesField = 1
+
+abbrev pub dieFaces : ℕ
+dieFaces = 6
 
 -- what stands before the hexes of the map, and its fields; how long a hex is, and its fields
 abbrev pub mapHead : ℕ
@@ -235,11 +239,11 @@ unfoldable pub deskAt : List ℕ → ℕ
 deskAt p = unitsAt p + unitsHead + unitSize * count p
 
 -- how many players the desk names: one for each force, or none, as its length in the contents says
-unfoldable pub named : List ℕ → ℕ
-named p = cond (eqb (extent p deskBody) (playersField + forces)) forces 0
+unfoldable pub playersNamed : List ℕ → ℕ
+playersNamed p = cond (eqb (extent p deskBody) (playersField + forces)) forces 0
 
 abbrev pub deskLength : List ℕ → ℕ
-deskLength p = playersField + named p
+deskLength p = playersField + playersNamed p
 
 -- byte f of record k, in a table of n records of `size` bytes that begins at `start`; 0 past its last record
 unfoldable pub cell : List ℕ → ℕ → ℕ → ℕ → ℕ → ℕ → ℕ
@@ -267,7 +271,7 @@ defenceOdds p c = columnByte p c defenceField
 
 -- the code for a die of 1..6, 0 for any other
 unfoldable pub code : List ℕ → ℕ → ℕ → ℕ
-code p c die = cond (ltb 0 die) (cond (ltb die 7) (columnByte p c (codesField + die)) 0) 0
+code p c die = cond (ltb 0 die) (cond (ltb die (suc dieFaces)) (columnByte p c (codesField + die)) 0) 0
 
 -- "Map: width, height; per hex terrain .., surface .., flags .., country .., sides .."
 unfoldable pub hexByte : List ℕ → ℕ → ℕ → ℕ
@@ -352,7 +356,7 @@ route p r j = cond (ltb r routeCount) (cond (ltb j routeHexes) (deskByte p (rout
 
 -- "one byte per force naming its player, 0..3"; "Positions of the old length are read with four players"
 unfoldable pub player : List ℕ → ℕ → ℕ
-player p f = cond (ltb f (named p)) (deskByte p (playersField + f)) f
+player p f = cond (ltb f (playersNamed p)) (deskByte p (playersField + f)) f
 
 -- the position with a longer desk, which names the players 0, 1, 2, 3
 unfoldable pub withPlayers : List ℕ → List ℕ
@@ -402,14 +406,14 @@ pub record ViewOf (p : List ℕ) (v : View) : Type 0 where
   pub count : v .count ≡ count p
   pub units : v .units ≡ unitsAt p
   pub desk : v .desk ≡ deskAt p
-  pub named : v .named ≡ named p
+  pub players : v .players ≡ playersNamed p
 
 -- the bodies of a view lie one after the other and fill `long` bytes; no count is above its limit
 pub record Fits (long : ℕ) (v : View) : Type 0 where
   pub units : v .units ≡ resultsAt + resultsHead + columnSize * v .columns + mapHead + hexSize * v .hexes
   pub desk : v .desk ≡ v .units + unitsHead + unitSize * v .count
-  pub whole : long ≡ v .desk + playersField + v .named
+  pub whole : long ≡ v .desk + playersField + v .players
   pub columns : v .columns ≤ 12
   pub hexes : v .hexes ≤ 4096
   pub count : v .count ≤ 400
-  pub named : v .named ≤ forces
+  pub players : v .players ≤ forces

@@ -4,6 +4,7 @@
 use Prim.Native.Nat.{ℕ, zero, suc, _+_, _*_, _/_, _%_}
 use mathlib.Core.List.{List, [], _∷_, _++_}
 use lib.ListN.{length, getD, replicate}
+use Rattle.position.specs.Layout.{nowhere, entrySize, chartRows, routeCount, routeHexes}
 
 -- a number of one byte, or of two, "little-endian"
 pub data Number : Type 0 where
@@ -150,12 +151,12 @@ abbrev pub routeHex : ℕ → Field
 routeHex j = field routes j
 
 abbrev pub noRoutes : List Row
-noRoutes = replicate 6 (replicate 4 (two 65535))
+noRoutes = replicate routeCount (replicate routeHexes (two nowhere))
 
 -- a map of w by h plain hexes with these units, a chart of ones, one column, and a quiet desk that names no players
 abbrev pub plain : ℕ → ℕ → List Row → Parts
 plain w h us =
-    replicate 18 plainTerrain
+    replicate chartRows plainTerrain
     ∷ (evenOdds ∷ [])
     ∷ (plainSize w h ∷ [])
     ∷ replicate (w * h) plainHex
@@ -219,25 +220,25 @@ entries start [] = []
 entries start (b ∷ bs) = (two start ∷ two (length b) ∷ []) ∷ entries (start + length b) bs
 
 unfoldable pub contents : Parts → List Row
-contents p = entries (4 * length (bodies p)) (bodies p)
+contents p = entries (entrySize * length (bodies p)) (bodies p)
 
 -- "then the bodies in this order, without gap or tail"
-unfoldable pub joined : List (List ℕ) → List ℕ
-joined [] = []
-joined (b ∷ bs) = b ++ joined bs
+unfoldable pub endToEnd : List (List ℕ) → List ℕ
+endToEnd [] = []
+endToEnd (b ∷ bs) = b ++ endToEnd bs
 
 -- the bytes of a position
 unfoldable pub built : Parts → List ℕ
-built p = listed (contents p) ++ joined (bodies p)
+built p = listed (contents p) ++ endToEnd (bodies p)
 
 -- the same with contents that lie: another offset for body k, or another length
 unfoldable pub misplaced : Parts → ℕ → ℕ → List ℕ
-misplaced p k x = listed (onPlace k (onPlace 0 (anew x)) (contents p)) ++ joined (bodies p)
+misplaced p k x = listed (onPlace k (onPlace 0 (anew x)) (contents p)) ++ endToEnd (bodies p)
 
 unfoldable pub mismeasured : Parts → ℕ → ℕ → List ℕ
-mismeasured p k x = listed (onPlace k (onPlace 1 (anew x)) (contents p)) ++ joined (bodies p)
+mismeasured p k x = listed (onPlace k (onPlace 1 (anew x)) (contents p)) ++ endToEnd (bodies p)
 
 -- 'unfolding building' opens all that the bytes are computed by
 unfoldable pub building : ℕ
-unfolding onPlace anew having but butDesk seated bytes listed bodies entries contents joined built misplaced mismeasured
+unfolding onPlace anew having but butDesk seated bytes listed bodies entries contents endToEnd built misplaced mismeasured
 building = 0

@@ -3,7 +3,7 @@ ghost use mathlib.Core.Path.{_≡_};
 ghost use Prim.Native.Nat.{_<_};
 ghost use Rattle.grid.specs.declared.Beside.the-variants.{At};
 ghost use Rattle.position.specs.Board.{board, ground};
-ghost use Rattle.position.specs.Ground.{beside, stored, side, next, isAt, joined, standable};
+ghost use Rattle.position.specs.Ground.{beside, stored, side, next, isAt, bearing, joined, standable};
 ghost use Rattle.position.specs.Laid.{Laid, Read};
 use crate::View;
 use crate::read;
@@ -57,15 +57,18 @@ pub fn between(p: &[u8], v: View, h: usize, n: usize, d: usize) -> usize
     stored(p, v, n, d - 3)
 }
 
-// Where a step from hex `h` in direction `d` leads, if the side is not blocked.
+// Where a step from hex `h` in direction `d` leads, if the side is not blocked. The neighbour is looked up once, for itself and its side.
 pub fn next(p: &[u8], v: View, h: usize, d: usize) -> Beside
     requires { ⌜ Laid (now p) v × (d < 6) ⌝ }
     ensures { λ r. ⌜ r ≡ next (ground (now (p .entry))) h d ⌝ }
 {
-    if side(p, v, h, d) == BLOCKED {
+    let Beside::At(n) = grid::neighbour(v.width, v.height, h, d) else {
+        return Beside::Off;
+    };
+    if between(p, v, h, n, d) == BLOCKED {
         return Beside::Off;
     }
-    grid::neighbour(v.width, v.height, h, d)
+    Beside::At(n)
 }
 
 pub fn is_at(b: Beside, x: usize) -> bool
@@ -77,20 +80,27 @@ pub fn is_at(b: Beside, x: usize) -> bool
     }
 }
 
+// The direction in which a step over an unblocked side leads from hex `h` to hex `x`; 6 if none does.
+pub fn bearing(p: &[u8], v: View, h: usize, x: usize) -> usize
+    requires { ⌜ Laid (now p) v ⌝ }
+    ensures { λ r. ⌜ Read (bearing (ground (now (p .entry))) h x) 7 r ⌝ }
+{
+    let mut d = 0;
+    while d < 6 {
+        if is_at(next(p, v, h, d), x) {
+            return d;
+        }
+        d += 1;
+    }
+    6
+}
+
 // Whether hex `x` is next to hex `h` over an unblocked side.
 pub fn joined(p: &[u8], v: View, h: usize, x: usize) -> bool
     requires { ⌜ Laid (now p) v ⌝ }
     ensures { λ r. ⌜ r ≡ joined (ground (now (p .entry))) h x ⌝ }
 {
-    let mut d = 0;
-    while d < 6 {
-        let b = next(p, v, h, d);
-        if is_at(b, x) {
-            return true;
-        }
-        d += 1;
-    }
-    false
+    bearing(p, v, h, x) < 6
 }
 
 // Whether a unit may stand on hex `h`: land or coast of the map, unprohibited.

@@ -3,7 +3,7 @@ ghost use mathlib.Core.Path.{_≡_};
 ghost use Prim.Native.Nat.{_+_, _*_, _<_, _≤_};
 ghost use lib.ListN.{length};
 ghost use Rattle.position.specs.Layout.{terrainSize, columnSize, hexSize, unitSize, playersField, chartAt};
-ghost use Rattle.position.specs.Layout.{word, cell, named, chartByte, columnByte, hexByte, unitByte, deskByte, setUnit, setDesk};
+ghost use Rattle.position.specs.Layout.{word, cell, playersNamed, chartByte, columnByte, hexByte, unitByte, deskByte, setUnit, setDesk};
 ghost use Rattle.position.specs.Laid.{Laid, Read};
 use crate::View;
 
@@ -68,7 +68,7 @@ pub const RIVER: usize = 16;
 
 pub const MAJOR_RIVER: usize = 17;
 
-// The fields of a terrain's record, of a column's, of the map's head, of a hex's, of a unit's and of the desk.
+// The fields of a terrain's record, of a column's with the faces of a die, of the map's head, of a hex's, of a unit's and of the desk.
 pub const COST: usize = 0;
 
 pub const MULTIPLE: usize = 1;
@@ -78,6 +78,8 @@ pub const ATTACK: usize = 0;
 pub const DEFENCE: usize = 1;
 
 pub const CODES: usize = 1;
+
+pub const DIE_FACES: usize = 6;
 
 pub const WIDTH: usize = 0;
 
@@ -140,9 +142,9 @@ pub fn word(p: &[u8], at: usize) -> usize
 }
 
 // How many players the desk names: its length in the contents tells.
-pub fn named(p: &[u8]) -> usize
+pub fn players_named(p: &[u8]) -> usize
     requires { ⌜ chartAt ≤ length (now p) ⌝ }
-    ensures { λ r. ⌜ r ≡ named (now (p .entry)) ⌝ }
+    ensures { λ r. ⌜ r ≡ playersNamed (now (p .entry)) ⌝ }
 {
     if word(p, DESK_EXTENT) == PLAYERS + FORCES {
         return FORCES;
@@ -197,7 +199,7 @@ pub fn unit_byte(p: &[u8], v: View, u: usize, f: usize) -> usize
 }
 
 pub fn desk_byte(p: &[u8], v: View, f: usize) -> usize
-    requires { ⌜ Laid (now p) v × (f < playersField + v .named) ⌝ }
+    requires { ⌜ Laid (now p) v × (f < playersField + v .players) ⌝ }
     ensures { λ r. ⌜ Read (deskByte (now (p .entry)) f) 256 r ⌝ }
 {
     let at = v.desk + f;

@@ -21,7 +21,7 @@ pub struct View {
     pub count: usize,
     pub units: usize,
     pub desk: usize,
-    pub named: usize,
+    pub players: usize,
 }
 
 // The answer of a check: the view of what passed, or nothing of it.

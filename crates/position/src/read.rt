@@ -249,7 +249,7 @@ pub fn player(p: &[u8], v: View, f: usize) -> usize
     requires { ⌜ Laid (now p) v ⌝ }
     ensures { λ r. ⌜ r ≡ player (now (p .entry)) f ⌝ }
 {
-    if v.named <= f {
+    if v.players <= f {
         return f;
     }
     layout::desk_byte(p, v, layout::PLAYERS + f)

@@ -30,8 +30,8 @@ fn with_units(p: &[u8], cols: usize, wide: usize, high: usize) -> Checked
         return Checked::Broken;
     }
     let desk = units + layout::UNITS_HEAD + layout::UNIT_SIZE * count;
-    let named = layout::named(p);
-    if p.len() != desk + layout::PLAYERS + named {
+    let players = layout::players_named(p);
+    if p.len() != desk + layout::PLAYERS + players {
         return Checked::Broken;
     }
     Checked::Whole(View {
@@ -42,7 +42,7 @@ fn with_units(p: &[u8], cols: usize, wide: usize, high: usize) -> Checked
         count,
         units,
         desk,
-        named,
+        players,
     })
 }
 
@@ -141,7 +141,7 @@ pub fn shape(p: &[u8]) -> Checked
     ) {
         return Checked::Broken;
     }
-    if !entry(p, layout::DESK_BODY, v.desk, layout::PLAYERS + v.named) {
+    if !entry(p, layout::DESK_BODY, v.desk, layout::PLAYERS + v.players) {
         return Checked::Broken;
     }
     Checked::Whole(v)

@@ -10,6 +10,7 @@ use Rattle.position.specs.Bits.{has}
 use Rattle.position.specs.Board.{Board, forceOf}
 use Rattle.position.specs.Crowd.{owesAt}
 use Rattle.position.specs.Ground.{standable}
+use Rattle.position.specs.Role as Role
 use Rattle.position.proofs.Tallies.{same-or, any-some, any-true, any-false, any-never}
 use Rattle.field.specs.Scene.{scene}
 use Rattle.field.specs.Zone.{standsOn, vacant}
@@ -26,13 +27,13 @@ module _ (b : Board) (a h u : ℕ) where
   apart-elsewhere e = simp (ne-eqb (b .units .state .hex u) h e)
 
   module _ (e : b .units .state .hex u ≡ h) where
-    pub apart-stays : (b .units .state .role u ≡ 1 → ⊥) → apart b a h u ≡ true
+    pub apart-stays : (b .units .state .role u ≡ Role.owes → ⊥) → apart b a h u ≡ true
     unfolding apart standsOn owesAt
-    apart-stays r = simp (eq-eqb (b .units .state .hex u) h e, ne-eqb (b .units .state .role u) 1 r)
+    apart-stays r = simp (eq-eqb (b .units .state .hex u) h e, ne-eqb (b .units .state .role u) Role.owes r)
 
-    pub apart-owes : b .units .state .role u ≡ 1 → apart b a h u ≡ not (eqb h a)
+    pub apart-owes : b .units .state .role u ≡ Role.owes → apart b a h u ≡ not (eqb h a)
     unfolding apart standsOn owesAt
-    apart-owes r = simp (e, eq-eqb h h refl, eq-eqb (b .units .state .role u) 1 r)
+    apart-owes r = simp (e, eq-eqb h h refl, eq-eqb (b .units .state .role u) Role.owes r)
 
 -- a unit of another force, a supply unit, and any other
 module _ (b : Board) (f u : ℕ) where
@@ -45,7 +46,7 @@ module _ (b : Board) (f u : ℕ) where
     unfolding firm
     firm-supply k = simp (eq-eqb (forceOf b u) f e, eq-eqb (b .units .counter .kind u) 5 k)
 
-    pub firm-owes : (b .units .counter .kind u ≡ 5 → ⊥) → firm b f u ≡ eqb (b .units .state .role u) 1
+    pub firm-owes : (b .units .counter .kind u ≡ 5 → ⊥) → firm b f u ≡ eqb (b .units .state .role u) Role.owes
     unfolding firm
     firm-owes k = simp (eq-eqb (forceOf b u) f e, ne-eqb (b .units .counter .kind u) 5 k)
 
@@ -79,7 +80,7 @@ held-apart b a h e n =
     let u = s .at in
     let i = eqb-true (b .units .state .hex u) h (s .passes) in
     any-true (apart b a h) c u (s .below)
-    (same-or (b .units .state .role u) 1 (λ r. apart-owes b a h u i r ∙ ap not (ne-eqb h a n)) (λ r. apart-stays b a h u i r))
+    (same-or (b .units .state .role u) Role.owes (λ r. apart-owes b a h u i r ∙ ap not (ne-eqb h a n)) (λ r. apart-stays b a h u i r))
 
 -- where no unit may stand, in an Enemy zone, and elsewhere
 module _ (b : Board) (f a h : ℕ) where

@@ -57,7 +57,7 @@ fn at_first(l: Line, b: u8) -> Line {
 }
 
 // The first word with a blank after it: `echo off` is read as one.
-fn joined(l: Line) -> Line {
+fn one_word(l: Line) -> Line {
     let mut after = l;
     after.key = 0x6563686f20;
     after
@@ -103,7 +103,7 @@ fn in_gap(l: Line, b: u8, next: &mut Room, nums: &mut Numbers) -> Line {
         return hex::begin(l, b, next);
     }
     if key == ECHO {
-        return letter(joined(l), b);
+        return letter(one_word(l), b);
     }
     if key == RETREAT {
         return in_lists(l, b, nums);

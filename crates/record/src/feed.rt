@@ -32,7 +32,7 @@ fn byte(
     if b == b'\n' {
         let g = echo::end(s.game, s.line, out);
         let h = orders::finish(g, s.line, pos, next, lent, nums, out);
-        after.game = game::onward(h);
+        after.game = game::next_line(h);
         after.line = reading::empty();
         return after;
     }

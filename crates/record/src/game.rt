@@ -40,7 +40,7 @@ pub fn called(g: Game, lent: usize) -> Game {
 }
 
 // The game at the next line.
-pub fn onward(g: Game) -> Game {
+pub fn next_line(g: Game) -> Game {
     let mut after = g;
     after.line = std::num::wrapping_add_usize(g.line, 1);
     after

@@ -23,7 +23,7 @@ use Rattle.position.specs.Laid.{Laid}
 use Rattle.position.specs.Effect.{change, changes, turnedUp}
 use Rattle.position.specs.Layout.{hex, marks, setMarks, strength}
 use Rattle.position.specs.declared.View.{View}
-use Rattle.ruling.proofs.Meets.{seen}
+use Rattle.ruling.proofs.Meets.{seen, map-same}
 use Rattle.ruling.specs.Verdict.{turnedAll}
 use Rattle.field.proofs.Scenes.{scene-marks, scene-turned-up}
 use Rattle.field.specs.Scene.{Scene, scene}
@@ -249,10 +249,6 @@ unfolding routedFrom changes change
 routed-units b r [] = refl
 routed-units b r (h ∷ hs) = routed-units (change b (routed r h nowhere nowhere nowhere)) (r + 1) hs
 
-map-alike : {f g : ℕ → ℕ} → ((k : ℕ) → f k ≡ g k) → (xs : List ℕ) → map f xs ≡ map g xs
-map-alike h [] = refl
-map-alike h (x ∷ xs) = ap₂ (λ (y : ℕ) (ys : List ℕ). y ∷ ys) (h x) (map-alike h xs)
-
 -- the hexes of the first i are written, as r routes
 pub record Routing (p : List ℕ) (v : View) (us : List ℕ) (i r : ℕ) (q : List ℕ) : Type 0 where
   pub most : i ≤ length us
@@ -282,7 +278,7 @@ module _ {p us q : List ℕ} {v : View} {i r : ℕ} (s : Shaped p) (o : Routing 
       let xs = map (hex p) (take i us) in
       let h = hex p (getD us i 0) in
       let e : named (map (hex q) (take i us)) (hex q (getD us i 0)) ≡ named xs h =
-      ap₂ named (map-alike stays (take i us)) (stays (getD us i 0))
+      ap₂ named (map-same stays (take i us)) (stays (getD us i 0))
       in
       either (named xs h)
       (λ f.
@@ -356,9 +352,6 @@ fought-scene b c [] = refl
 fought-scene b c (u ∷ us) =
     let x = marked u (with fought (b .units .state .marks u)) in
     fought-scene b (change c x) us ∙ scene-marks c {x = x} still
-
-pub laid-then : {p q : List ℕ} {v : View} (xs : List Change) → Laid p v → q ≡ makes p xs → Laid q v
-laid-then xs l e = rw e (laid-kept (front-makes (l .shaped) xs) l)
 
 -- the participants are at least the attackers, and the others are the defenders
 pub all-long : (b : Board) (target : ℕ) (units all : List ℕ) → all ≡ participants b target units → length units ≤ length all

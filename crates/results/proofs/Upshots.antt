@@ -6,48 +6,49 @@ use native.Mathlib.Omega.{arith}
 use lib.Dec.{eqb, leb}
 use borrow.Author.Tests.{eq-eqb, le-leb, leb-false, leb-true, lt-leb, ne-eqb}
 use Rattle.position.specs.Shape.{In}
+use Rattle.position.specs.Stage as Stage
 use Rattle.position.proofs.Tallies.{either, same-or}
 use Rattle.results.specs.declared.Upshot.{Upshot}
-use Rattle.results.specs.Results.{fateOf, lost, needOf, upshot}
+use Rattle.results.specs.Results.{comesTo, lost, needOf, upshot}
 use Rattle.results.specs.Settled.{Fitting}
 
 -- the rows of the table of codes
 module _ (code : ℕ) where
-  pub upshot-d : code ≤ 3 → upshot code ≡ fateOf 2 1 1 code
+  pub upshot-d : code ≤ 3 → upshot code ≡ comesTo 2 1 1 code
   unfolding upshot
   upshot-d l = simp (le-leb code 3 l)
 
   module _ (k : 3 < code) where
-    pub upshot-a : code ≤ 6 → upshot code ≡ fateOf 1 2 1 (code - 3)
+    pub upshot-a : code ≤ 6 → upshot code ≡ comesTo 1 2 1 (code - 3)
     unfolding upshot
     upshot-a l = simp (lt-leb code 3 k, le-leb code 6 l)
 
     module _ (m : 6 < code) where
-      pub upshot-ae : code ≡ 7 → upshot code ≡ fateOf lost 2 3 0
+      pub upshot-ae : code ≡ 7 → upshot code ≡ comesTo lost 2 3 0
       unfolding upshot
       upshot-ae e = simp (lt-leb code 3 k, lt-leb code 6 m, eq-eqb code 7 e)
 
       module _ (d : code ≡ 7 → ⊥) where
-        pub upshot-de : code ≡ 8 → upshot code ≡ fateOf 2 lost 3 0
+        pub upshot-de : code ≡ 8 → upshot code ≡ comesTo 2 lost 3 0
         unfolding upshot
         upshot-de e = simp (lt-leb code 3 k, lt-leb code 6 m, ne-eqb code 7 d, eq-eqb code 8 e)
 
         module _ (f : code ≡ 8 → ⊥) where
-          pub upshot-dx : code ≡ 9 → upshot code ≡ fateOf 1 lost 2 0
+          pub upshot-dx : code ≡ 9 → upshot code ≡ comesTo 1 lost 2 0
           unfolding upshot
           upshot-dx e = simp (lt-leb code 3 k, lt-leb code 6 m, ne-eqb code 7 d, ne-eqb code 8 f, eq-eqb code 9 e)
 
-          pub upshot-ax : (code ≡ 9 → ⊥) → upshot code ≡ fateOf lost 1 2 0
+          pub upshot-ax : (code ≡ 9 → ⊥) → upshot code ≡ comesTo lost 1 2 0
           unfolding upshot
           upshot-ax g = simp (lt-leb code 3 k, lt-leb code 6 m, ne-eqb code 7 d, ne-eqb code 8 f, ne-eqb code 9 g)
 
 -- a table of six rows, gone through
 pub each-row :
     (P : Upshot → Type 0) (code : ℕ)
-    → (code ≤ 3 → P (fateOf 2 1 1 code))
-    → (3 < code → code ≤ 6 → P (fateOf 1 2 1 (code - 3)))
-    → P (fateOf lost 2 3 0) → P (fateOf 2 lost 3 0)
-    → P (fateOf 1 lost 2 0) → P (fateOf lost 1 2 0)
+    → (code ≤ 3 → P (comesTo 2 1 1 code))
+    → (3 < code → code ≤ 6 → P (comesTo 1 2 1 (code - 3)))
+    → P (comesTo lost 2 3 0) → P (comesTo 2 lost 3 0)
+    → P (comesTo 1 lost 2 0) → P (comesTo lost 1 2 0)
     → P (upshot code)
 unfolding upshot
 each-row P code d a ae de dx ax =
@@ -76,18 +77,18 @@ upshot-fits code l =
 
 -- no exchange, the attackers destroyed, the defenders destroyed
 module _ (o : Upshot) (attack defence : ℕ) where
-  pub need-none : (o .stage ≡ 2 → ⊥) → needOf o attack defence ≡ 0
+  pub need-none : (o .stage ≡ Stage.losses → ⊥) → needOf o attack defence ≡ 0
   unfolding needOf
-  need-none d = simp (ne-eqb (o .stage) 2 d)
+  need-none d = simp (ne-eqb (o .stage) Stage.losses d)
 
-  module _ (e : o .stage ≡ 2) where
+  module _ (e : o .stage ≡ Stage.losses) where
     pub need-attackers : o .attackers ≡ lost → needOf o attack defence ≡ attack
     unfolding needOf
-    need-attackers f = simp (eq-eqb (o .stage) 2 e, eq-eqb (o .attackers) lost f)
+    need-attackers f = simp (eq-eqb (o .stage) Stage.losses e, eq-eqb (o .attackers) lost f)
 
     pub need-defenders : (o .attackers ≡ lost → ⊥) → needOf o attack defence ≡ defence
     unfolding needOf
-    need-defenders d = simp (eq-eqb (o .stage) 2 e, ne-eqb (o .attackers) lost d)
+    need-defenders d = simp (eq-eqb (o .stage) Stage.losses e, ne-eqb (o .attackers) lost d)
 
 -- Of roles 0 to 2 the sides have two: 1 and 2 where the losers retreat, 0 and 1 in an exchange, 0 and 2 where one side is gone.
 pub record Sensible (o : Upshot) : Type 0 where
@@ -95,13 +96,13 @@ pub record Sensible (o : Upshot) : Type 0 where
   pub defenders : o .defenders ≤ 2
   pub apart : o .attackers ≡ o .defenders → ⊥
   pub stage : In 1 (o .stage) 3
-  pub retreats : o .stage ≡ 1 → o .attackers + o .defenders ≡ 3
-  pub losses : o .stage ≡ 2 → o .attackers + o .defenders ≡ 1
-  pub advances : o .stage ≡ 3 → o .attackers + o .defenders ≡ 2
-  pub owed : o .stage ≡ 1 → In 1 (o .owed) 3
-  pub free : (o .stage ≡ 1 → ⊥) → o .owed ≡ 0
+  pub retreats : o .stage ≡ Stage.retreats → o .attackers + o .defenders ≡ 3
+  pub losses : o .stage ≡ Stage.losses → o .attackers + o .defenders ≡ 1
+  pub advances : o .stage ≡ Stage.advances → o .attackers + o .defenders ≡ 2
+  pub owed : o .stage ≡ Stage.retreats → In 1 (o .owed) 3
+  pub free : (o .stage ≡ Stage.retreats → ⊥) → o .owed ≡ 0
 
-retreating : (a d n : ℕ) → a ≤ 2 → d ≤ 2 → a + d ≡ 3 → In 1 n 3 → Sensible (fateOf a d 1 n)
+retreating : (a d n : ℕ) → a ≤ 2 → d ≤ 2 → a + d ≡ 3 → In 1 n 3 → Sensible (comesTo a d 1 n)
 retreating a d n i j e k =
     record {
       attackers = i;
@@ -115,7 +116,7 @@ retreating a d n i j e k =
       free = λ q. absurd (q refl);
     }
 
-exchanging : (a d : ℕ) → a + d ≡ 1 → Sensible (fateOf a d 2 0)
+exchanging : (a d : ℕ) → a + d ≡ 1 → Sensible (comesTo a d 2 0)
 exchanging a d e =
     record {
       attackers = omega arith;
@@ -129,7 +130,7 @@ exchanging a d e =
       free = λ q. refl;
     }
 
-advancing : (a d : ℕ) → a + d ≡ 2 → (a ≡ d → ⊥) → Sensible (fateOf a d 3 0)
+advancing : (a d : ℕ) → a + d ≡ 2 → (a ≡ d → ⊥) → Sensible (comesTo a d 3 0)
 advancing a d e n =
     record {
       attackers = omega arith;
@@ -155,8 +156,8 @@ sensible code i =
 
 -- "Stage 2: need is 1..1080", "Elsewhere .. need [is] 0"
 pub record NeedOk (o : Upshot) (need : ℕ) : Type 0 where
-  pub exact : o .stage ≡ 2 → In 1 need 1080
-  pub none : (o .stage ≡ 2 → ⊥) → need ≡ 0
+  pub exact : o .stage ≡ Stage.losses → In 1 need 1080
+  pub none : (o .stage ≡ Stage.losses → ⊥) → need ≡ 0
 
 -- the destroyed side's total is there
 module _ (o : Upshot) (attack defence : ℕ) where

@@ -20,20 +20,20 @@ abbrev pub lost : ℕ
 lost = 0
 
 -- what becomes of attackers and defenders, the stage and n
-abbrev pub fateOf : ℕ → ℕ → ℕ → ℕ → Upshot
-fateOf a d s n = record { attackers = a; defenders = d; stage = s; owed = n }
+abbrev pub comesTo : ℕ → ℕ → ℕ → ℕ → Upshot
+comesTo a d s n = record { attackers = a; defenders = d; stage = s; owed = n }
 
 -- "D or A gives the losers role 1 and n. De and Ae destroy. Dx and Ax destroy one side; .. the other side gets role 1. Victors of
 -- D, De, A, Ae get role 2. D and A lead to stage 1, Dx and Ax to 2, De and Ae to 3."
 -- "Codes: 1..3 D1..D3, 4..6 A1..A3, 7 Ae, 8 De, 9 Dx, 10 Ax."
 unfoldable pub upshot : ℕ → Upshot
 upshot code =
-    cond (leb code 3) (fateOf Role.advances Role.owes Stage.retreats code)
-    (cond (leb code 6) (fateOf Role.owes Role.advances Stage.retreats (code - 3))
-    (cond (eqb code 7) (fateOf lost Role.advances Stage.advances 0)
-    (cond (eqb code 8) (fateOf Role.advances lost Stage.advances 0)
-    (cond (eqb code 9) (fateOf Role.owes lost Stage.losses 0)
-    (fateOf lost Role.owes Stage.losses 0)))))
+    cond (leb code 3) (comesTo Role.advances Role.owes Stage.retreats code)
+    (cond (leb code 6) (comesTo Role.owes Role.advances Stage.retreats (code - 3))
+    (cond (eqb code 7) (comesTo lost Role.advances Stage.advances 0)
+    (cond (eqb code 8) (comesTo Role.advances lost Stage.advances 0)
+    (cond (eqb code 9) (comesTo Role.owes lost Stage.losses 0)
+    (comesTo lost Role.owes Stage.losses 0)))))
 
 -- "need is its printed total": the destroyed side's, in an exchange alone
 unfoldable pub needOf : Upshot → ℕ → ℕ → ℕ

@@ -1,6 +1,6 @@
 // What a result code does to the two sides and to the desk.
 ghost use mathlib.Core.Path.{_≡_};
-ghost use Rattle.results.specs.Results.{fateOf, upshot, needOf};
+ghost use Rattle.results.specs.Results.{comesTo, upshot, needOf};
 use crate::Upshot;
 use position::role;
 use position::stage;
@@ -21,7 +21,7 @@ const DX: usize = 9;
 
 // What becomes of the sides, the stage that follows, and the length of the retreats.
 fn fate(attackers: usize, defenders: usize, stage: usize, owed: usize) -> Upshot
-    ensures { λ r. ⌜ r ≡ fateOf attackers defenders stage owed ⌝ }
+    ensures { λ r. ⌜ r ≡ comesTo attackers defenders stage owed ⌝ }
 {
     Upshot {
         attackers,

@@ -12,6 +12,7 @@ use borrow.Author.Tests.{ltb-false}
 use Rattle.position.specs.Tally.{any}
 use Rattle.position.specs.Board.{Board, board, nowhere}
 use Rattle.position.specs.Crowd.{owesAt}
+use Rattle.position.specs.Stage as Stage
 use Rattle.position.proofs.Shapes.{hexes-most}
 use Rattle.position.proofs.Tallies.{either}
 use Rattle.acceptance.specs.Accepted.{Accepted}
@@ -52,7 +53,7 @@ retreat-bounded {p} a h route pushes =
     (λ on.
     from-bounded b pushes _ (length route + 1) (omega (arith, s, f))
     (λ _.
-    bounded-past (not (eqb (b .desk .battle .stage) 1)) refl
+    bounded-past (not (eqb (b .desk .battle .stage) Stage.retreats)) refl
     (λ _.
     bounded-past (not (any (owesAt b h) (b .units .count))) refl
     (λ _.

@@ -18,7 +18,7 @@ use Rattle.chains.specs.Serves.{pushesServe}
 use Rattle.pushes.specs.Pushes.{served}
 use Rattle.shoves.specs.Group.{groupForce}
 use Rattle.retreat.specs.declared.fate.Fate.{Fate}
-use Rattle.retreat.specs.declared.fate.Fate.the-variants.{Lost, NoPushes, NoRoute, Pushing, Vacant}
+use Rattle.retreat.specs.declared.fate.Fate.the-variants.{Lost, WrongPushes, WrongRoute, Pushing, Walking}
 use Rattle.retreat.specs.Retreat.{doomed, hasRoute, hasSeries, isPart, notPart, notPushed, notVacant, walksFrom}
 use Rattle.retreat.specs.Fate.{fateOf, lostFate, pushFate, routeFate, servedFate}
 
@@ -88,17 +88,17 @@ module _ (b : Board) (h : ℕ) (route pushes : List ℕ) where
     unfolding fateOf lostFate
     fate-lost f = simp (e, f)
 
-    pub fate-no-part : parts ≡ false → fateOf b h route pushes ≡ NoRoute
+    pub fate-no-part : parts ≡ false → fateOf b h route pushes ≡ WrongRoute
     unfolding fateOf lostFate
     fate-no-part f = simp (e, f)
 
   module _ (e : doomed b h ≡ false) where
     module _ (r : hasRoute b h ≡ true) where
-      pub fate-vacant : fits ≡ true → fateOf b h route pushes ≡ Vacant
+      pub fate-vacant : fits ≡ true → fateOf b h route pushes ≡ Walking
       unfolding fateOf routeFate
       fate-vacant f = simp (e, r, f)
 
-      pub fate-no-route : fits ≡ false → fateOf b h route pushes ≡ NoRoute
+      pub fate-no-route : fits ≡ false → fateOf b h route pushes ≡ WrongRoute
       unfolding fateOf routeFate
       fate-no-route f = simp (e, r, f)
 
@@ -107,7 +107,7 @@ module _ (b : Board) (h : ℕ) (route pushes : List ℕ) where
       unfolding fateOf pushFate
       fate-pushing f = simp (e, r, f)
 
-      pub fate-no-pushes : serves ≡ false → fateOf b h route pushes ≡ NoPushes
+      pub fate-no-pushes : serves ≡ false → fateOf b h route pushes ≡ WrongPushes
       unfolding fateOf pushFate
       fate-no-pushes f = simp (e, r, f)
 
@@ -144,13 +144,13 @@ module _ (b : Board) (h : ℕ) (route pushes : List ℕ) where
     -- where one does
     module _ (r : hasRoute b h ≡ true) where
       pub fate-legal :
-          legal b (groupForce b h) h (b .desk .battle .owed) route ≡ true → cond (none pushes) Vacant NoRoute ≡ fateOf b h route pushes
+          legal b (groupForce b h) h (b .desk .battle .owed) route ≡ true → cond (none pushes) Walking WrongRoute ≡ fateOf b h route pushes
       fate-legal f =
           either (none pushes)
           (λ e. simp e (sym (fate-vacant (spared-route b h w r) r (simp (f, e)))))
           (λ e. simp e (sym (fate-no-route (spared-route b h w r) r (simp (f, e)))))
 
-      pub fate-illegal : legal b (groupForce b h) h (b .desk .battle .owed) route ≡ false → NoRoute ≡ fateOf b h route pushes
+      pub fate-illegal : legal b (groupForce b h) h (b .desk .battle .owed) route ≡ false → WrongRoute ≡ fateOf b h route pushes
       fate-illegal f = sym (fate-no-route (spared-route b h w r) r (simp f))
 
 -- what a fate says of the tests of 14 and 17, and of what follows them
@@ -170,9 +170,9 @@ falls-by b h route pushes e f = record { lost = e; part = simp (e, f) }
 
 abbrev pub FateSays : Board → ℕ → List ℕ → List ℕ → Fate → Type 0
 FateSays b h route pushes Lost = Falls b h route pushes
-FateSays b h route pushes NoRoute = (notPart b h route pushes || notVacant b h route pushes) ≡ true
-FateSays b h route pushes NoPushes = (doomed b h ≡ false) × (notVacant b h route pushes ≡ false) × (notPushed b h route pushes ≡ true)
-FateSays b h route pushes Vacant = Goes b h route pushes true
+FateSays b h route pushes WrongRoute = (notPart b h route pushes || notVacant b h route pushes) ≡ true
+FateSays b h route pushes WrongPushes = (doomed b h ≡ false) × (notVacant b h route pushes ≡ false) × (notPushed b h route pushes ≡ true)
+FateSays b h route pushes Walking = Goes b h route pushes true
 FateSays b h route pushes Pushing = Goes b h route pushes false
 
 pub fate-says : (b : Board) (h : ℕ) (route pushes : List ℕ) → FateSays b h route pushes (fateOf b h route pushes)

@@ -15,6 +15,7 @@ use Rattle.position.specs.Tally.{any}
 use Rattle.position.specs.Laid.{Laid}
 use Rattle.position.specs.Shape.{In}
 use Rattle.position.specs.declared.View.{View}
+use Rattle.position.specs.Stage as Stage
 use Rattle.acceptance.specs.Accepted.{Accepted}
 use Rattle.ruling.proofs.Meets.{pass, stop}
 use Rattle.ruling.specs.Judged.{Passes, Stops}
@@ -31,7 +32,7 @@ use Rattle.routes.specs.declared.Outlook.the-variants.{Alone, Friends, Illegal,
 use Rattle.pushes.specs.Pushes.{served}
 use Rattle.pushes.specs.declared.Served.{Served}
 use Rattle.shoves.specs.Group.{group, groupForce}
-use Rattle.retreat.specs.Retreat.{Owing, groupChecks, hasRoute, walksFrom}
+use Rattle.retreat.specs.Retreat.{RetreatNow, groupChecks, hasRoute, walksFrom}
 
 -- each test by its cases
 module _ (b : Board) (h u : ℕ) where
@@ -159,25 +160,25 @@ module _ (p : List ℕ) (b : Board) (h : ℕ) (route pushes : List ℕ) where
           stops-pushes s l v = numbers (o l _ _ _ _ (s l _))
 
           module _ (i : Passes p (onMapFrom b pushes (length route + 1))) where
-            pub stops-stage : (b .desk .battle .stage ≡ 1 → ⊥) → Stops p (groupChecks b h route pushes) 2 0
-            stops-stage e l v = numbers (o l _ _ _ _ (i l _ _ _ _ (stop (ap not (ne-eqb (b .desk .battle .stage) 1 e)))))
+            pub stops-stage : (b .desk .battle .stage ≡ Stage.retreats → ⊥) → Stops p (groupChecks b h route pushes) 2 0
+            stops-stage e l v = numbers (o l _ _ _ _ (i l _ _ _ _ (stop (ap not (ne-eqb (b .desk .battle .stage) Stage.retreats e)))))
 
-            module _ (e : b .desk .battle .stage ≡ 1) where
+            module _ (e : b .desk .battle .stage ≡ Stage.retreats) where
               pub stops-role : any (owesAt b h) (b .units .count) ≡ false → Stops p (groupChecks b h route pushes) 4 0
               stops-role f l v =
-                  numbers (o l _ _ _ _ (i l _ _ _ _ (pass (ap not (eq-eqb (b .desk .battle .stage) 1 e)) (stop (ap not f)))))
+                  numbers (o l _ _ _ _ (i l _ _ _ _ (pass (ap not (eq-eqb (b .desk .battle .stage) Stage.retreats e)) (stop (ap not f)))))
 
               pub passes-group :
-                  any (owesAt b h) (b .units .count) ≡ true → Passes p (groupChecks b h route pushes) × Owing b h
+                  any (owesAt b h) (b .units .count) ≡ true → Passes p (groupChecks b h route pushes) × RetreatNow b h
               passes-group f = (
                 λ l v a q x w.
-                    numbers (o l _ a q x (i l _ a q x (pass (ap not (eq-eqb (b .desk .battle .stage) 1 e)) (pass (ap not f) w)))),
+                    numbers (o l _ a q x (i l _ a q x (pass (ap not (eq-eqb (b .desk .battle .stage) Stage.retreats e)) (pass (ap not f) w)))),
                 record { there = k; now = e },
               )
 
 -- "Stage 1: n is 1..3", and a hex is a 16-bit number
-pub owed-of : {p : List ℕ} {h : ℕ} → Accepted p → Owing (board p) h → In 1 (board p .desk .battle .owed) 3
+pub owed-of : {p : List ℕ} {h : ℕ} → Accepted p → RetreatNow (board p) h → In 1 (board p .desk .battle .owed) 3
 owed-of a o = a .lawful .stage .during .retreats (o .now) .owed
 
-pub small-hex : {p : List ℕ} {v : View} {h : ℕ} → Laid p v → Owing (board p) h → h < 65536
+pub small-hex : {p : List ℕ} {v : View} {h : ℕ} → Laid p v → RetreatNow (board p) h → h < 65536
 small-hex l o = omega (arith, o .there, l .view .hexes, l .fits .hexes)

@@ -14,6 +14,7 @@ use Rattle.position.specs.Crowd.{holders, owesAt, owingHexes}
 use Rattle.position.specs.Tally.{tally}
 use Rattle.position.specs.Change.Change.{destroyed}
 use Rattle.position.specs.Effect.{changes}
+use Rattle.position.specs.Role as Role
 use Rattle.position.proofs.Crowds.{holders-is}
 use Rattle.position.proofs.Tallies.{but, but-other, either, equals, equals-is, equals-yes, not-both, same-or, tally-but-hit, tally-le, tally-pos}
 use Rattle.acceptance.specs.Accepted.{Lawful}
@@ -98,7 +99,7 @@ module _ {o b : Board} (s : Since o b) (most : o .map .hexes ≤ nowhere) (h : �
 
 -- when the group is gone fewer units owe, and a hex less
 module _ {o b c : Board} {h : ℕ} (x : Left o b h c) (u : ℕ) (m : Owes b h u) where
-  pub left-holders : holders c 1 < holders b 1
+  pub left-holders : holders c Role.owes < holders b Role.owes
   left-holders =
       let t = equals (b .units .state .role) 1 in
       let s = equals (c .units .state .role) 1 in
@@ -129,7 +130,7 @@ module _ {o b c : Board} {h : ℕ} (x : Left o b h c) (u : ℕ) (m : Owes b h u)
       either (owesAt b h w)
       (λ q. absurd (omega (arith, x .gone w n q)))
       (λ q.
-      let r : b .units .state .role w ≡ 1 = sym (x .roles w n q) ∙ e in
+      let r : b .units .state .role w ≡ Role.owes = sym (x .roles w n q) ∙ e in
       (r, x .still w n q r, λ z. not-both (owesAt b h w) (owes b w h r z) q)))
       u
       (m .0)

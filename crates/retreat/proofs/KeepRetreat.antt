@@ -15,6 +15,8 @@ use Rattle.position.specs.Ground.{standable}
 use Rattle.position.specs.Tally.{any, tally}
 use Rattle.position.specs.Change.Change.{routed}
 use Rattle.position.specs.Effect.{change, changes}
+use Rattle.position.specs.Role as Role
+use Rattle.position.specs.Stage as Stage
 use Rattle.position.proofs.Shapes.{hexes-most}
 use Rattle.position.proofs.Tallies.{any-some, both-yes, either, tally-some}
 use Rattle.acceptance.specs.Accepted.{Accepted, Lawful, StageOk}
@@ -90,7 +92,7 @@ module _ (b : Board) (h x y z : ℕ) where
   unfolding change group owesAt
   noted-group = refl
 
-  noted-holders : (holders noted 1 ≡ holders b 1) × (owingHexes noted ≡ owingHexes b)
+  noted-holders : (holders noted Role.owes ≡ holders b Role.owes) × (owingHexes noted ≡ owingHexes b)
   unfolding change holders owingHexes owesAt
   noted-holders = (refl, refl)
 
@@ -116,10 +118,10 @@ unfolding routes filled
 routes-desk b c e = ap (λ (d : Desk). tally (λ r. not (eqb (d .route r 0) nowhere)) 6) e
 
 -- where somebody owes, a hex does
-holds-some : (b : Board) → (holders b 1 ≡ 0 → ⊥) → 1 ≤ owingHexes b
+holds-some : (b : Board) → (holders b Role.owes ≡ 0 → ⊥) → 1 ≤ owingHexes b
 unfolding holders
 holds-some b n =
-    let s = tally-some (λ u. eqb (b .units .state .role u) 1) (b .units .count) (omega arith) in
+    let s = tally-some (λ u. eqb (b .units .state .role u) Role.owes) (b .units .count) (omega arith) in
     owing-some b (s .at) (s .below) (eqb-true (b .units .state .role (s .at)) 1 (s .passes))
 
 -- a retreat starts at no distance
@@ -130,10 +132,10 @@ far-start b h = same-zero (b .map .width) h
 -- board c since board b, the retreats not over and fewer units owing
 pub record Lighter (b c : Board) : Type 0 where
   pub since : Since b c
-  pub stage : c .desk .battle .stage ≡ 1
-  pub fewer : holders c 1 < holders b 1
+  pub stage : c .desk .battle .stage ≡ Stage.retreats
+  pub fewer : holders c Role.owes < holders b Role.owes
 
-module _ {b : Board} (l : Lawful b) (most : b .map .hexes ≤ nowhere) (e : b .desk .battle .stage ≡ 1) (h u : ℕ) (m : Owes b h u) where
+module _ {b : Board} (l : Lawful b) (most : b .map .hexes ≤ nowhere) (e : b .desk .battle .stage ≡ Stage.retreats) (h u : ℕ) (m : Owes b h u) where
   stands : standable b h ≡ true
   stands = start-stands l h u m
 
@@ -152,7 +154,7 @@ module _ {b : Board} (l : Lawful b) (most : b .map .hexes ≤ nowhere) (e : b .d
         ∙ routes-more b (routes b) h x y z (routes-room l e) real
         (routes-empty (l .routes) (routes b) (omega arith) (routes-room l e))
 
-    as-before : (c .desk .battle .stage ≡ 1) × (c .desk .battle .owed ≡ b .desk .battle .owed) × (c .desk .battle .need ≡ 0)
+    as-before : (c .desk .battle .stage ≡ Stage.retreats) × (c .desk .battle .owed ≡ b .desk .battle .owed) × (c .desk .battle .need ≡ 0)
     as-before =
         let k = noted-stage b h x y z in (
           ap (λ (d : Desk). d .battle .stage) (o .desk) ∙ k .0 ∙ e,
@@ -168,7 +170,7 @@ module _ {b : Board} (l : Lawful b) (most : b .map .hexes ≤ nowhere) (e : b .d
           fewer = omega (arith, left-holders o u still-owes, noted-holders b h x y z .0);
         }
 
-    goes-on : (holders c 1 ≡ 0 → ⊥) → StageOk c
+    goes-on : (holders c Role.owes ≡ 0 → ⊥) → StageOk c
     goes-on n =
         let k = l .stage .during .retreats e in
         stage-retreats (as-before .0) (as-before .2)
@@ -309,7 +311,7 @@ module _ {p : List ℕ} (a : Accepted p) (h : ℕ) (route pushes : List ℕ) whe
       (λ _ _.
       kept-along a (λ _. Unit {0}) (λ s x k v _ f. kept-past a (leb (b .map .hexes) x) (λ _. f tt)) 0 tt pushes (length route + 1) _
       (λ _ _.
-      kept-past a (not (eqb (b .desk .battle .stage) 1))
+      kept-past a (not (eqb (b .desk .battle .stage) Stage.retreats))
       (λ e.
       kept-past a (not (any (owesAt b h) (b .units .count)))
       (λ f.
@@ -322,7 +324,7 @@ module _ {p : List ℕ} (a : Accepted p) (h : ℕ) (route pushes : List ℕ) whe
       let s = any-some (owesAt b h) (b .units .count) (not-false (any (owesAt b h) (b .units .count)) f) in
       kept-ruled a (thenOn b (leaveChanges b h route pushes))
       (lawful-retreat (a .lawful) (omega (arith, hexes-most (a .shaped)))
-      (eqb-true (b .desk .battle .stage) 1 (not-false (eqb (b .desk .battle .stage) 1) e))
+      (eqb-true (b .desk .battle .stage) Stage.retreats (not-false (eqb (b .desk .battle .stage) Stage.retreats) e))
       h
       (s .at)
       (s .below, s .passes)

@@ -12,6 +12,7 @@ use Rattle.position.specs.Ground.{joined, standable}
 use Rattle.position.specs.Crowd.{routes}
 use Rattle.position.specs.Change.Change.{routed}
 use Rattle.position.specs.Effect.{change, ofFour}
+use Rattle.position.specs.Stage as Stage
 use Rattle.position.proofs.Tallies.{both-yes}
 use Rattle.acceptance.specs.Accepted.{Lawful, PlaceOk}
 use Rattle.acceptance.proofs.Carries.{fixed-change, standable-by}
@@ -136,12 +137,12 @@ module _
       }
 
 -- "k plus filled routes is at most 6": while a hex owes there is room for a route
-pub routes-room : {b : Board} → Lawful b → b .desk .battle .stage ≡ 1 → routes b < 6
+pub routes-room : {b : Board} → Lawful b → b .desk .battle .stage ≡ Stage.retreats → routes b < 6
 routes-room l e = let o = l .stage .during .retreats e in omega (arith, o .some, o .room)
 
 -- the next route is written
 pub since-written :
-    {b : Board} → Lawful b → b .map .hexes ≤ nowhere → b .desk .battle .stage ≡ 1 → (w x y z : ℕ) → standable b w ≡ true
+    {b : Board} → Lawful b → b .map .hexes ≤ nowhere → b .desk .battle .stage ≡ Stage.retreats → (w x y z : ℕ) → standable b w ≡ true
     → ((x ≡ nowhere → ⊥) → Follows b w x) → ((y ≡ nowhere → ⊥) → Follows b x y) → ((z ≡ nowhere → ⊥) → Follows b y z)
     → Since b (change b (routed (routes b) w x y z))
 since-written {b} l most e w x y z s one two three =

@@ -16,6 +16,7 @@ use Rattle.position.specs.Change.Change.{assigned, destroyed, placed, routed}
 use Rattle.position.specs.Crowd.{owesAt, routes}
 use Rattle.position.specs.Effect.{change, changes}
 use Rattle.position.specs.Shape.{Shaped}
+use Rattle.position.specs.Role as Role
 use Rattle.acceptance.proofs.Fates.{assigned-else, destroyed-else, same-trans}
 use Rattle.field.specs.Listed.{sieve}
 use Rattle.shoves.proofs.Sweeps.{Own, placed-else}
@@ -61,7 +62,7 @@ own-leaves c end =
 pub leaves-same : (b c : Board) (end u : ℕ) → c .units .counter .kind ≡ b .units .counter .kind → leaves c end u ≡ leaves b end u
 unfolding leaves
 leaves-same b c end u e =
-    ap (λ (k : ℕ → ℕ). cond (eqb (k u) 5) (destroyed u ∷ []) (placed u end ∷ assigned u 0 ∷ [])) e
+    ap (λ (k : ℕ → ℕ). cond (eqb (k u) 5) (destroyed u ∷ []) (placed u end ∷ assigned u Role.none ∷ [])) e
 
 -- a supply unit, and one that goes
 module _ (p : List ℕ) (end u : ℕ) where
@@ -70,10 +71,10 @@ module _ (p : List ℕ) (end u : ℕ) where
   leave-supply e f = simp (eq-eqb (board p .units .counter .kind u) 5 e) f
 
   pub leave-walks :
-      {q r : List ℕ} → (board p .units .counter .kind u ≡ 5 → ⊥) → q ≡ make p (placed u end) → r ≡ make q (assigned u 0)
+      {q r : List ℕ} → (board p .units .counter .kind u ≡ 5 → ⊥) → q ≡ make p (placed u end) → r ≡ make q (assigned u Role.none)
       → r ≡ makes p (leaves (board p) end u)
   unfolding leaves makes
-  leave-walks n e f = simp (ne-eqb (board p .units .counter .kind u) 5 n) (f ∙ ap (λ (l : List ℕ). make l (assigned u 0)) e)
+  leave-walks n e f = simp (ne-eqb (board p .units .counter .kind u) 5 n) (f ∙ ap (λ (l : List ℕ). make l (assigned u Role.none)) e)
 
 pub falls-made : (p : List ℕ) (u : ℕ) {q : List ℕ} → q ≡ make p (destroyed u) → q ≡ makes p (falls u)
 unfolding makes
@@ -90,7 +91,7 @@ module _ {p q : List ℕ} (s : Shaped p) (r a x y z : ℕ) (e : q ≡ make p (ro
 
   routed-group : (h : ℕ) → group (board q) h ≡ group (board p) h
   unfolding group owesAt
-  routed-group h = ap (λ (t : Units). sieve (λ u. eqb (t .state .role u) 1 && eqb (t .state .hex u) h) (t .count)) routed-units
+  routed-group h = ap (λ (t : Units). sieve (λ u. eqb (t .state .role u) Role.owes && eqb (t .state .hex u) h) (t .count)) routed-units
 
   leaves-routed : (end u : ℕ) → leaves (board q) end u ≡ leaves (board p) end u
   leaves-routed end u = leaves-same (board p) (board q) end u (ap (λ (t : Units). t .counter .kind) routed-units)

@@ -8,6 +8,7 @@ use lib.ListN.{getD}
 use Rattle.position.specs.Board.{Board, Desk, board, nowhere}
 use Rattle.position.specs.Crowd.{routes}
 use Rattle.position.specs.Effect.{change, changes, ofFour}
+use Rattle.position.specs.Stage as Stage
 use Rattle.position.proofs.Changes.{board-makes}
 use Rattle.position.proofs.Shapes.{hexes-most}
 use Rattle.acceptance.proofs.Carries.{changes-then}
@@ -57,10 +58,10 @@ module _ {p : List ℕ} {h : ℕ} {route pushes : List ℕ} (d : Due p h route p
       ∙ four h route j l
 
   -- and when the stage has passed on, unless it is quiet
-  passed : (changes fallen (passesOn fallen) .desk .battle .stage ≡ 0 → ⊥) → Shown (routes (board p)) h route (changes fallen (passesOn fallen))
+  passed : (changes fallen (passesOn fallen) .desk .battle .stage ≡ Stage.quiet → ⊥) → Shown (routes (board p)) h route (changes fallen (passesOn fallen))
   unfolding change
   passed =
-      passed-by (λ c. (c .desk .battle .stage ≡ 0 → ⊥) → Shown (routes (board p)) h route c) fallen
+      passed-by (λ c. (c .desk .battle .stage ≡ Stage.quiet → ⊥) → Shown (routes (board p)) h route c) fallen
       (λ _ _ n. absurd (n refl))
       (λ _ _ _. shown)
       (λ _ _. shown)

@@ -45,7 +45,7 @@ use Rattle.retreat.specs.Words.{
   RetreatedRight,
   Trapped,
   TrappedRight,
-  Vacant,
+  VacantRoute,
   answerTo,
 }
 use Rattle.retreat.specs.declared.fate.Fate.{Fate}
@@ -102,7 +102,7 @@ module _ (b : Board) (h : ℕ) where
   walks : (OnlySupply b h → ⊥) → any (walksFrom b h) (b .units .count) ≡ true
   walks n = either (any (walksFrom b h) (b .units .count)) (λ e. e) (λ e. absurd (n (only-supply e)))
 
-  pub route-right : (hasRoute b h ≡ true) ↔ Vacant b h
+  pub route-right : (hasRoute b h ≡ true) ↔ VacantRoute b h
   unfolding hasRoute
   route-right = found-right b (groupForce b h) h (b .desk .battle .owed)
 
@@ -134,17 +134,17 @@ module _ (b : Board) (h : ℕ) where
 -- what is answered, by the group's fate
 abbrev answerOf : ℕ → Fate → Ruling
 answerOf end F.Lost = accepted eliminated
-answerOf end F.NoRoute = refused 14 0
-answerOf end F.NoPushes = refused 17 0
-answerOf end F.Vacant = accepted (retreatedTo end)
+answerOf end F.WrongRoute = refused 14 0
+answerOf end F.WrongPushes = refused 17 0
+answerOf end F.Walking = accepted (retreatedTo end)
 answerOf end F.Pushing = accepted (retreatedTo end)
 
 module _ {p : List ℕ} {h : ℕ} {route pushes : List ℕ} (d : Due p h route pushes) where
   answers : (f : Fate) → FateSays (board p) h route pushes f → answerTo p h route pushes ≡ answerOf (endOf (board p) route) f
   answers F.Lost e = sym (checked (d .whole) (ends-doomed h route pushes (passes-due d) e refl) .answers)
-  answers F.NoRoute e = sym (checked (d .whole) (stops-route h route pushes (passes-due d) e) .answers)
-  answers F.NoPushes e = sym (checked (d .whole) (stops-pushes h route pushes (passes-due d) (e .0) (e .1) (e .2)) .answers)
-  answers F.Vacant g = sym (checked (d .whole) (ends-going h route pushes (passes-due d) g refl refl) .answers)
+  answers F.WrongRoute e = sym (checked (d .whole) (stops-route h route pushes (passes-due d) e) .answers)
+  answers F.WrongPushes e = sym (checked (d .whole) (stops-pushes h route pushes (passes-due d) (e .0) (e .1) (e .2)) .answers)
+  answers F.Walking g = sym (checked (d .whole) (ends-going h route pushes (passes-due d) g refl refl) .answers)
   answers F.Pushing g = sym (checked (d .whole) (ends-going h route pushes (passes-due d) g refl refl) .answers)
 
   answered : {f : Fate} → fateOf (board p) h route pushes ≡ f → answerTo p h route pushes ≡ answerOf (endOf (board p) route) f
@@ -213,18 +213,18 @@ destroyed-right p h route pushes d =
           (λ e.
           either (parts b h route pushes)
           (λ f. let k = parts-right b h route pushes .0 f in (lost b h e, k .0, k .1))
-          (λ f. absurd (other F.NoRoute (answered d (fate-no-part b h route pushes e f)) (λ z. omega arith) a)))
+          (λ f. absurd (other F.WrongRoute (answered d (fate-no-part b h route pushes e f)) (λ z. omega arith) a)))
           (λ e.
           absurd
           (either (hasRoute b h)
           (λ r.
           either (fits b h route pushes)
-          (λ f. other F.Vacant (answered d (fate-vacant b h route pushes e r f)) (λ z. omega arith) a)
-          (λ f. other F.NoRoute (answered d (fate-no-route b h route pushes e r f)) (λ z. omega arith) a))
+          (λ f. other F.Walking (answered d (fate-vacant b h route pushes e r f)) (λ z. omega arith) a)
+          (λ f. other F.WrongRoute (answered d (fate-no-route b h route pushes e r f)) (λ z. omega arith) a))
           (λ r.
           either (serves b h route pushes)
           (λ f. other F.Pushing (answered d (fate-pushing b h route pushes e r f)) (λ z. omega arith) a)
-          (λ f. other F.NoPushes (answered d (fate-no-pushes b h route pushes e r f)) (λ z. omega arith) a)))),
+          (λ f. other F.WrongPushes (answered d (fate-no-pushes b h route pushes e r f)) (λ z. omega arith) a)))),
       λ l.
           record {
             values = eliminated;

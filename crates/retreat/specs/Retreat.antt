@@ -95,7 +95,7 @@ unfoldable pub retreatValues : Board → ℕ → List ℕ → Values
 retreatValues b h route = cond (doomed b h) eliminated (retreatedTo (endOf b route))
 
 -- what the questions before that of the route leave known
-pub record Owing (b : Board) (h : ℕ) : Type 0 where
+pub record RetreatNow (b : Board) (h : ℕ) : Type 0 where
   pub there : h < b .map .hexes
   pub now : b .desk .battle .stage ≡ Stage.retreats
 

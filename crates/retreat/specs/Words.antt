@@ -43,8 +43,8 @@ OnlySupply b h = (u : ℕ) → u < b .units .count → owesAt b h u ≡ true →
 abbrev pub LegalFor : Board → ℕ → List ℕ → Type 0
 LegalFor b h route = LegalRoute b (groupForce b h) h (b .desk .battle .owed) route
 
-abbrev pub Vacant : Board → ℕ → Type 0
-Vacant b h = RouteExists b (groupForce b h) h (b .desk .battle .owed)
+abbrev pub VacantRoute : Board → ℕ → Type 0
+VacantRoute b h = RouteExists b (groupForce b h) h (b .desk .battle .owed)
 
 -- route and pushes are legal together, and "such a series of pushes exists"
 abbrev pub LegalWith : Board → ℕ → List ℕ → List ℕ → Type 0
@@ -55,7 +55,7 @@ Pushed b h = SeriesExists b (groupForce b h) h (b .desk .battle .owed)
 
 -- "neither a vacant route nor such a series of pushes exists"
 abbrev pub Neither : Board → ℕ → Type 0
-Neither b h = (Vacant b h → ⊥) × (Pushed b h → ⊥)
+Neither b h = (VacantRoute b h → ⊥) × (Pushed b h → ⊥)
 
 -- what a retreat is answered, and the board that it leaves
 abbrev pub answerTo : List ℕ → ℕ → List ℕ → List ℕ → Ruling
@@ -112,7 +112,7 @@ pub record ByRoute (p : List ℕ) (h : ℕ) (route pushes : List ℕ) : Type 0 w
 
 abbrev pub RetreatedRight : Type 0
 RetreatedRight =
-    (p : List ℕ) (h : ℕ) (route pushes : List ℕ) → Due p h route pushes → Vacant (board p) h → (OnlySupply (board p) h → ⊥)
+    (p : List ℕ) (h : ℕ) (route pushes : List ℕ) → Due p h route pushes → VacantRoute (board p) h → (OnlySupply (board p) h → ⊥)
     → ByRoute p h route pushes
 
 -- if only pushes serve, it retreats exactly if route and pushes are legal together, and is refused by 17 exactly if not
@@ -123,5 +123,5 @@ pub record ByPushes (p : List ℕ) (h : ℕ) (route pushes : List ℕ) : Type 0 
 
 abbrev pub PushedRight : Type 0
 PushedRight =
-    (p : List ℕ) (h : ℕ) (route pushes : List ℕ) → Due p h route pushes → (Vacant (board p) h → ⊥) → Pushed (board p) h
+    (p : List ℕ) (h : ℕ) (route pushes : List ℕ) → Due p h route pushes → (VacantRoute (board p) h → ⊥) → Pushed (board p) h
     → (OnlySupply (board p) h → ⊥) → ByPushes p h route pushes

@@ -5,7 +5,7 @@ ghost use Rattle.position.specs.Board.{board};
 ghost use Rattle.position.specs.Crowd.{owesAt};
 ghost use Rattle.position.specs.Laid.{Laid};
 ghost use Rattle.ruling.specs.Judged.{TestedOf};
-ghost use Rattle.retreat.specs.Retreat.{Owing, groupChecks};
+ghost use Rattle.retreat.specs.Retreat.{RetreatNow, groupChecks};
 use field::listed;
 use position::View;
 use position::read;
@@ -32,7 +32,7 @@ fn any_owes(p: &[u8], v: View, h: usize) -> bool
 // The questions of a retreat before those of its route and pushes: 3, 2, 4. Places are counted on through both lists.
 pub fn judge_group(p: &[u8], v: View, h: usize, route: &[u16], pushes: &[u16]) -> Tested
     requires { ⌜ Laid (now p) v ⌝ }
-    ensures { λ r. ⌜ TestedOf (now (p .entry)) (groupChecks (board (now (p .entry))) h (now (route .entry)) (now (pushes .entry))) (Owing (board (now (p .entry))) h) r ⌝ }
+    ensures { λ r. ⌜ TestedOf (now (p .entry)) (groupChecks (board (now (p .entry))) h (now (route .entry)) (now (pushes .entry))) (RetreatNow (board (now (p .entry))) h) r ⌝ }
 {
     if 3 < route.len() {
         return Tested::Stopped(3, 0);

@@ -13,7 +13,7 @@ ghost use Rattle.chains.specs.Follows.{none};
 ghost use Rattle.pushes.specs.Pushes.{served};
 ghost use Rattle.shoves.specs.Group.{group, groupForce};
 ghost use Rattle.retreat.specs.Retreat.{hasRoute, walksFrom};
-ghost use Rattle.retreat.specs.declared.fate.Fate.the-variants.{NoRoute, Vacant};
+ghost use Rattle.retreat.specs.declared.fate.Fate.the-variants.{WrongRoute, Walking};
 ghost use Rattle.retreat.specs.Fate.{fateOf, lostFate, servedFate};
 use position::View;
 use position::forces;
@@ -23,13 +23,13 @@ use pushes::Served;
 use routes::Outlook;
 use shoves::group;
 
-// Lost: destroyed, with the part route that was sent. NoRoute: refused, since a vacant route exists or a part route is due, and what was
-// sent is none. NoPushes: refused, since only pushes serve. Vacant and Pushing: it goes.
+// Lost: destroyed, with the part route that was sent. WrongRoute: refused, since a vacant route exists or a part route is due, and what was
+// sent is none. WrongPushes: refused, since only pushes serve. Walking and Pushing: it goes.
 pub enum Fate {
     Lost,
-    NoRoute,
-    NoPushes,
-    Vacant,
+    WrongRoute,
+    WrongPushes,
+    Walking,
     Pushing,
 }
 
@@ -123,12 +123,12 @@ fn is_part(p: &[u8], v: View, h: usize, run: bool, route: &[u16]) -> bool
 
 // What comes of it where the route is legal: no pushes may be sent with it.
 fn by_route(pushes: &[u16]) -> Fate
-    ensures { λ r. ⌜ r ≡ cond (none (now (pushes .entry))) Vacant NoRoute ⌝ }
+    ensures { λ r. ⌜ r ≡ cond (none (now (pushes .entry))) Walking WrongRoute ⌝ }
 {
     if 0 < pushes.len() {
-        return Fate::NoRoute;
+        return Fate::WrongRoute;
     }
-    Fate::Vacant
+    Fate::Walking
 }
 
 // What comes of it where it is destroyed: its part route must have been sent, and no pushes with it.
@@ -136,10 +136,10 @@ fn by_part(part: bool, pushes: &[u16]) -> Fate
     ensures { λ r. ⌜ r ≡ lostFate part (now (pushes .entry)) ⌝ }
 {
     if !part {
-        return Fate::NoRoute;
+        return Fate::WrongRoute;
     }
     if 0 < pushes.len() {
-        return Fate::NoRoute;
+        return Fate::WrongRoute;
     }
     Fate::Lost
 }
@@ -159,7 +159,7 @@ fn by_pushes(p: &[u8], v: View, h: usize, run: bool, route: &[u16], pushes: &[u1
         pushes,
     ) {
         Served::None => by_part(is_part(p, v, h, run, route), pushes),
-        Served::Wrong => Fate::NoPushes,
+        Served::Wrong => Fate::WrongPushes,
         Served::Right => Fate::Pushing,
     }
 }
@@ -175,7 +175,7 @@ pub fn decide(p: &[u8], v: View, h: usize, route: &[u16], pushes: &[u16]) -> Fat
     }
     match judge(p, v, h, read::owed(p, v), route) {
         Outlook::Legal => by_route(pushes),
-        Outlook::Illegal => Fate::NoRoute,
+        Outlook::Illegal => Fate::WrongRoute,
         Outlook::Friends(run) => by_pushes(p, v, h, run, route, pushes),
         Outlook::Alone(run) => by_part(is_part(p, v, h, run, route), pushes),
     }

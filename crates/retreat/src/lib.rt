@@ -35,9 +35,9 @@ pub fn retreat(p: &mut [u8], v: View, hex: usize, route: &[u16], pushes: &[u16])
             going::fall(p, v, hex, route);
             Retreated::Destroyed
         }
-        Fate::NoRoute => Retreated::Refused(14, 0),
-        Fate::NoPushes => Retreated::Refused(17, 0),
-        Fate::Vacant => Retreated::To(going::go_off(p, v, hex, route)),
+        Fate::WrongRoute => Retreated::Refused(14, 0),
+        Fate::WrongPushes => Retreated::Refused(17, 0),
+        Fate::Walking => Retreated::To(going::go_off(p, v, hex, route)),
         Fate::Pushing => Retreated::To(going::push_off(p, v, hex, route, pushes)),
     }
 }

@@ -11,7 +11,7 @@ use Rattle.grid.specs.declared.Beside.the-variants.{At, Off}
 use Rattle.position.specs.Board.{Board}
 use Rattle.routes.specs.declared.Found.{Found}
 use Rattle.routes.specs.declared.Found.the-variants.{Route, Nothing}
-use Rattle.routes.specs.Search.{orElse, onward, stepOf, firstOf, routeOf, goOn, firstRoute}
+use Rattle.routes.specs.Search.{orElse, searchBeyond, stepOf, firstOf, routeOf, goOn, firstRoute}
 
 -- where a search stands: for which group, how many steps it has made, how many are left after the next, the hexes passed, and where it is
 pub record Stand : Type 0 where
@@ -47,7 +47,7 @@ onFrom k x = goOn (k .board) (k .force) (k .start) (suc (k .made)) (k .left) (k 
 
 -- what one direction has
 abbrev pub tries : Stand → ℕ → Found
-tries k d = onward (onFrom k) (stepFrom k d)
+tries k d = searchBeyond (onFrom k) (stepFrom k d)
 
 -- what is left after a direction: the later ones, and then what the outer loops have left
 abbrev pub rest : Stand → ℕ → Found → Found
@@ -101,17 +101,17 @@ module _ {found r : Found} {k : Stand} {d : ℕ} {outer : Found} (p : Ahead foun
     module _ {s : Beside} (q : s ≡ stepFrom k d) where
       -- no step there
       pub none : s ≡ Off → Ahead found r k (d + 1) outer
-      none e = record { yet = p .yet; is = is-now (ap (onward (onFrom k)) (sym q ∙ e)) }
+      none e = record { yet = p .yet; is = is-now (ap (searchBeyond (onFrom k)) (sym q ∙ e)) }
 
       module _ {x : ℕ} (e : s ≡ At x) where
         -- the last step
         pub reached : k .left ≡ 0 → routeOf (k .past ++ (x ∷ [])) ≡ r
         unfolding goOn
-        reached z = sym (is-now {y = routeOf (k .past ++ (x ∷ []))} (ap (onward (onFrom k)) (sym q ∙ e) ∙ rw z refl))
+        reached z = sym (is-now {y = routeOf (k .past ++ (x ∷ []))} (ap (searchBeyond (onFrom k)) (sym q ∙ e) ∙ rw z refl))
 
         -- one loop further in
         pub inward : 1 ≤ k .left → Ahead found r (further k x) 0 (rest k d outer)
-        inward m = record { yet = p .yet; is = is-now (ap (onward (onFrom k)) (sym q ∙ e) ∙ opened _ _ _ _ (k .left) _ x m) }
+        inward m = record { yet = p .yet; is = is-now (ap (searchBeyond (onFrom k)) (sym q ∙ e) ∙ opened _ _ _ _ (k .left) _ x m) }
 
 -- out of a loop again: what it has left is what is left outside
 pub outward : (d : ℕ) {e : ℕ} {found r : Found} {k m : Stand} {outer : Found} → Ahead found r m e (rest k d outer) → 6 ≤ e

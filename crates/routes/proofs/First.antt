@@ -19,7 +19,7 @@ use Rattle.routes.specs.Search.{
   stepOf,
   orElse,
   firstOf,
-  onward,
+  searchBeyond,
   routeOf,
   goOn,
   firstRoute,
@@ -76,7 +76,7 @@ module _ (b : Board) (f start : ℕ) where
   search i left past x = goOn b f start (suc i) left (past ++ (x ∷ [])) x
 
   abbrev tries : ℕ → ℕ → List ℕ → ℕ → ℕ → Found
-  tries i left past a d = onward (search i left past) (stepOf b f start i a d)
+  tries i left past a d = searchBeyond (search i left past) (stepOf b f start i a d)
 
   module _ (i left : ℕ) (past : List ℕ) (a d : ℕ) where
     -- a direction that has nothing can be passed
@@ -117,7 +117,7 @@ module _ (b : Board) (f start : ℕ) where
 
     turn : ((x : ℕ) → Answer (suc i) left (past ++ (x ∷ [])) x (search i left past x))
         → (t : Beside) → stepOf b f start i a d ≡ t → (z : Found) → AnswerFrom i left past a (suc d) z
-        → AnswerFrom i left past a d (orElse (onward (search i left past) t) z)
+        → AnswerFrom i left past a d (orElse (searchBeyond (search i left past) t) z)
     turn g (At x) e z q = one x e (search i left past x) (g x) z q
     turn g Off e z q = pass (λ u h. off-at e (rw h at (is-step b f start i a (u .dir) (u .hex) (u .step)))) z q
 

@@ -14,8 +14,8 @@ use Rattle.position.proofs.Tallies.{both-yes, either, not-both}
 use Rattle.routes.specs.Run.{Run, stay, go, LegalRoute, RouteExists}
 use Rattle.routes.specs.Legal.{legal}
 use Rattle.routes.specs.Search.{firstRoute, found}
-use Rattle.routes.specs.Part.{Longest, isRun, noLonger, partRoute, reach, PartRight, ReachRight}
-use Rattle.routes.specs.Outlook.{Tested}
+use Rattle.routes.specs.Part.{Longest, isRun, noLonger, partRoute, farthest, PartRight, FarthestRight}
+use Rattle.routes.specs.Outlook.{RouteTested}
 use Rattle.routes.proofs.First.{Way, found-right}
 use Rattle.routes.proofs.Legal.{legal-right, right-length}
 
@@ -111,7 +111,7 @@ module _ (b : Board) (f start n : ℕ) (route : List ℕ) (e : found (firstRoute
       (λ y. absurd (omega (arith, none-shorter b f start (length route) n e (route, run-right b f start route .0 y))))
       (λ y. y)
 
-  pub tested-run : {t : Bool} {k : ℕ} → Tested t n (length route) k → t ≡ false → legal b f start k route ≡ isRun b f start route
+  pub tested-run : {t : Bool} {k : ℕ} → RouteTested t n (length route) k → t ≡ false → legal b f start k route ≡ isRun b f start route
   unfolding isRun
   tested-run {t} {k} s out = at (decLt (length route) n)
     where
@@ -120,7 +120,7 @@ module _ (b : Board) (f start n : ℕ) (route : List ℕ) (e : found (firstRoute
       at (no l) =
           ap (λ (j : ℕ). legal b f start j route) (s .most out (omega arith)) ∙ no-legal ∙ sym (no-run (omega arith))
 
-pub tested-most : {t : Bool} {n k r : ℕ} → Tested t n k r → r ≤ n
+pub tested-most : {t : Bool} {n k r : ℕ} → RouteTested t n k r → r ≤ n
 tested-most {t} {n} {k} {r} s = either t (λ e. omega (arith, s .owed e)) (λ e. at e (decLt k n))
   where
     at : t ≡ false → Dec (k < n) → r ≤ n
@@ -129,27 +129,27 @@ tested-most {t} {n} {k} {r} s = either t (λ e. omega (arith, s .owed e)) (λ e.
 
 -- how far a group gets, by what is found
 module _ (b : Board) (f start : ℕ) where
-  pub reach-here : (n : ℕ) → found (firstRoute b f start n) ≡ true → reach b f start n ≡ n
-  unfolding reach
-  reach-here zero e = refl
-  reach-here (suc n) e = simp e
+  pub farthest-here : (n : ℕ) → found (firstRoute b f start n) ≡ true → farthest b f start n ≡ n
+  unfolding farthest
+  farthest-here zero e = refl
+  farthest-here (suc n) e = simp e
 
-  reach-less : (n : ℕ) → found (firstRoute b f start (suc n)) ≡ false → reach b f start (suc n) ≡ reach b f start n
-  unfolding reach
-  reach-less n e = simp e
+  farthest-less : (n : ℕ) → found (firstRoute b f start (suc n)) ≡ false → farthest b f start (suc n) ≡ farthest b f start n
+  unfolding farthest
+  farthest-less n e = simp e
 
-pub reach-right : ReachRight
-reach-right b f start zero e =
+pub farthest-right : FarthestRight
+farthest-right b f start zero e =
     absurd (omega (arith, none-shorter b f start 0 0 e ([], record { long = refl; last = start; run = stay })))
-reach-right b f start (suc n) e =
-    let q = reach-less b f start n e in
+farthest-right b f start (suc n) e =
+    let q = farthest-less b f start n e in
     either (found (firstRoute b f start n))
     (λ t.
-    subst (λ (k : ℕ). Longest b f start k × (k < suc n)) (sym (q ∙ reach-here b f start n t)) (
+    subst (λ (k : ℕ). Longest b f start k × (k < suc n)) (sym (q ∙ farthest-here b f start n t)) (
       record {
         some = found-right b f start n .0 t;
         most = λ j x. let l = none-shorter b f start j (suc n) e x in omega arith;
       },
       omega arith,
     ))
-    (λ t. let r = reach-right b f start n t in (rw q (r .0), omega (arith, r .1)))
+    (λ t. let r = farthest-right b f start n t in (rw q (r .0), omega (arith, r .1)))

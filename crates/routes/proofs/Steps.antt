@@ -16,7 +16,7 @@ use Rattle.position.specs.Laid.{Laid}
 use Rattle.position.specs.Board.{Board, Map, ground}
 use Rattle.position.specs.Ground.{blockedSide, isAt, joined, next, side}
 use Rattle.position.proofs.Tallies.{any-some, any-true, both-yes, not-both, same-or}
-use Rattle.position.proofs.Sides.{beside-view, joined-is, next-beside, next-blocked, next-dir, next-in, off-at, reaches}
+use Rattle.position.proofs.Sides.{beside-view, joined-is, next-beside, next-blocked, next-dir, next-in, off-at, reaches, is-at, at-is}
 use Rattle.routes.specs.Bears.{refuge}
 use Rattle.routes.specs.Run.{Step}
 use Rattle.routes.specs.Legal.{enters, stepsTo}
@@ -25,16 +25,6 @@ use Rattle.routes.specs.Search.{entered, stepOf}
 -- the distance by the view's width
 pub far-view : {p : List ℕ} {v : View} → Laid p v → (start x : ℕ) → distanceOf (v .width) start x ≡ distanceOf (width p) start x
 far-view l start x = ap (λ (w : ℕ). distanceOf w start x) (l .view .width)
-
--- where a step leads, by its test
-pub is-at : (r : Beside) (x : ℕ) → isAt r x ≡ true → r ≡ At x
-unfolding isAt
-is-at (At y) x e = ap At (eqb-true y x e)
-is-at Off x e = not-both false e refl
-
-pub at-is : {r : Beside} {x : ℕ} → r ≡ At x → isAt r x ≡ true
-unfolding isAt
-at-is {x = x} e = rw e (eq-eqb x x refl)
 
 -- hexes are joined exactly if some step leads from one to the other
 module _ (m : Map) (a x : ℕ) where
@@ -121,15 +111,3 @@ module _ (b : Board) (f start i a : ℕ) where
     pub is-step : Step b f start i a d x → stepOf b f start i a d ≡ At x
     unfolding stepOf entered
     is-step s = simp (s .leads, enters-away b f start i x (s .away), s .into)
-
--- where a step leads, by the neighbour and the side
-module _ {p : List ℕ} {v : View} (o : ViewOf p v) (a d : ℕ) where
-  pub leads-off : neighbourOf (v .width) (v .height) a d ≡ Off → Off ≡ next (ground p) a d
-  leads-off e =
-      same-or (side (ground p) a d) blockedSide
-      (λ z. sym (next-blocked (ground p) a d z))
-      (λ z. sym (next-beside (ground p) a d z ∙ sym (beside-view o a d) ∙ e))
-
-  pub leads-at :
-      {x : ℕ} → neighbourOf (v .width) (v .height) a d ≡ At x → (side (ground p) a d ≡ blockedSide → ⊥) → At x ≡ next (ground p) a d
-  leads-at e z = sym (next-beside (ground p) a d z ∙ sym (beside-view o a d) ∙ e)

@@ -22,13 +22,13 @@ unfoldable pub stepsTo : Board → ℕ → ℕ → ℕ → ℕ → ℕ → Bool
 stepsTo b f start i a x = joined (b .map) a x && enters b f start i x
 
 -- the rest of a route is a run that goes on from hex a after i steps
-unfoldable pub along : Board → ℕ → ℕ → ℕ → ℕ → List ℕ → Bool
-along b f start i a [] = true
-along b f start i a (x ∷ route) = stepsTo b f start i a x && along b f start (suc i) x route
+unfoldable pub runAlong : Board → ℕ → ℕ → ℕ → ℕ → List ℕ → Bool
+runAlong b f start i a [] = true
+runAlong b f start i a (x ∷ route) = stepsTo b f start i a x && runAlong b f start (suc i) x route
 
 -- a route is legal: this is asked where "route not legal though one exists" is refused
 unfoldable pub legal : Board → ℕ → ℕ → ℕ → List ℕ → Bool
-legal b f start n route = eqb (length route) n && along b f start 0 start route
+legal b f start n route = eqb (length route) n && runAlong b f start 0 start route
 
 -- The test is true exactly of the legal routes. Proved in proofs/Legal.antt.
 abbrev pub LegalRight : Type 0

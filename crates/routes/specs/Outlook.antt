@@ -40,7 +40,7 @@ pub record Nobody (b : Board) (f start : ℕ) : Type 0 where
       → friends b f x ≡ false
 
 -- a route of k hexes is tested for r steps: the n that are owed, or its own where no legal route is found and it has fewer
-pub record Tested (found : Bool) (n k r : ℕ) : Type 0 where
+pub record RouteTested (found : Bool) (n k r : ℕ) : Type 0 where
   pub owed : found ≡ true → r ≡ n
   pub own : found ≡ false → k < n → r ≡ k
   pub most : found ≡ false → n ≤ k → r ≡ n

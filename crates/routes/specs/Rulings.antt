@@ -9,11 +9,11 @@ use Rattle.position.specs.Board.{Board, nowhere, enemy}
 use Rattle.position.specs.Ground.{stored, storedAt, side, next, isAt, joined, standable}
 use Rattle.field.specs.Zone.{standsOn, vacant, ownOn, casterOn, holdsCaster, casterAt, castsOver, casts, enemyCasts, enemyZone}
 use Rattle.routes.specs.Bears.{bears, refuge}
-use Rattle.routes.specs.Legal.{enters, stepsTo, along, legal}
+use Rattle.routes.specs.Legal.{enters, stepsTo, runAlong, legal}
 
 -- 'unfolding routesOpen' opens the test of a route, for a row that is to be computed
 unfoldable pub routesOpen : ℕ
-unfolding gridOpen any enemy stored storedAt side next isAt joined standable standsOn vacant ownOn casterOn holdsCaster casterAt castsOver casts enemyCasts enemyZone bears refuge enters stepsTo along legal
+unfolding gridOpen any enemy stored storedAt side next isAt joined standable standsOn vacant ownOn casterOn holdsCaster casterAt castsOver casts enemyCasts enemyZone bears refuge enters stepsTo runAlong legal
 routesOpen = 0
 
 -- "on 5 x 5": all land of cost 1, no unit

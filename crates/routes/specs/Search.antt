@@ -35,9 +35,9 @@ firstOf zero d tries = Nothing
 firstOf (suc k) d tries = orElse (tries d) (firstOf k (suc d) tries)
 
 -- what is found from the hex that a step leads to
-abbrev pub onward : (ℕ → Found) → Beside → Found
-onward search (At x) = search x
-onward search Off = Nothing
+abbrev pub searchBeyond : (ℕ → Found) → Beside → Found
+searchBeyond search (At x) = search x
+searchBeyond search Off = Nothing
 
 -- a route in the three places of an answer, 65535 where it has no more hexes
 abbrev pub routeOf : List ℕ → Found
@@ -48,7 +48,7 @@ routeOf route = Route (getD route 0 nowhere) (getD route 1 nowhere) (getD route 
 unfoldable pub goOn : Board → ℕ → ℕ → ℕ → ℕ → List ℕ → ℕ → Found
 goOn b f start i zero past a = routeOf past
 goOn b f start i (suc left) past a =
-    firstOf 6 0 (λ d. onward (λ x. goOn b f start (suc i) left (past ++ (x ∷ [])) x) (stepOf b f start i a d))
+    firstOf 6 0 (λ d. searchBeyond (λ x. goOn b f start (suc i) left (past ++ (x ∷ [])) x) (stepOf b f start i a d))
 
 -- "The search tries directions in clockwise order and stops at the first legal route found."
 unfoldable pub firstRoute : Board → ℕ → ℕ → ℕ → Found

@@ -24,13 +24,13 @@ fn friendly(m: usize) -> bool
 }
 
 // Whether a place of the window shows such a hex. All are looked at: that is faster than to stop at the first.
-fn any_friendly(shown: &[u8]) -> bool
-    requires { ⌜ length (now shown) ≡ 49 ⌝ }
-    ensures { λ r. ⌜ r ≡ any (friendlyAt (now (shown .entry))) 49 ⌝ }
+fn any_friendly(painted: &[u8]) -> bool
+    requires { ⌜ length (now painted) ≡ 49 ⌝ }
+    ensures { λ r. ⌜ r ≡ any (friendlyAt (now (painted .entry))) 49 ⌝ }
 {
     let mut found = false;
     for i in 0..PLACES {
-        if friendly(layout::wide(shown[i])) {
+        if friendly(layout::wide(painted[i])) {
             found = true;
         }
     }
@@ -38,10 +38,10 @@ fn any_friendly(shown: &[u8]) -> bool
 }
 
 // Whether a place other than `home` does: the start's own, which no route enters, is blotted out first.
-pub fn near(shown: &mut [u8], home: usize) -> bool
-    requires { ⌜ (length (now shown) ≡ 49) × (home < 49) ⌝ }
-    ensures { λ r. ⌜ r ≡ any (friendlyAt (set (now (shown .entry)) home 0)) 49 ⌝ }
+pub fn near(painted: &mut [u8], home: usize) -> bool
+    requires { ⌜ (length (now painted) ≡ 49) × (home < 49) ⌝ }
+    ensures { λ r. ⌜ r ≡ any (friendlyAt (set (now (painted .entry)) home 0)) 49 ⌝ }
 {
-    shown[home] = 0;
-    any_friendly(shown)
+    painted[home] = 0;
+    any_friendly(painted)
 }

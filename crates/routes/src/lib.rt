@@ -8,7 +8,7 @@ ghost use Prim.Native.Nat.{_<_, _≤_};
 ghost use lib.ListN.{length, replicate};
 ghost use Rattle.position.specs.Board.{board};
 ghost use Rattle.position.specs.Laid.{Laid};
-ghost use Rattle.routes.specs.Outlook.{OutlookOf, Tested};
+ghost use Rattle.routes.specs.Outlook.{OutlookOf, RouteTested};
 ghost use Rattle.routes.specs.Window.{Window};
 use grid::near;
 use paint::frame;
@@ -32,7 +32,7 @@ pub enum Outlook {
 
 // How many steps the route is tested for: those that are owed, or its own where it has fewer and no legal route exists.
 fn tested(found: bool, n: usize, k: usize) -> usize
-    ensures { λ r. ⌜ Tested found n k r ⌝ }
+    ensures { λ r. ⌜ RouteTested found n k r ⌝ }
 {
     if found {
         return n;
@@ -49,21 +49,21 @@ fn tell(
     p: &[u8],
     v: View,
     at: Frame,
-    shown: &mut [u8],
+    painted: &mut [u8],
     f: usize,
     start: usize,
     n: usize,
     route: &[u16],
 ) -> Outlook
-    requires { ⌜ Laid (now p) v × Window (now p) v f start at (now shown) × (length (now shown) ≡ 49) × (start < v .hexes) × (1 ≤ n) × (n ≤ 3) ⌝ }
+    requires { ⌜ Laid (now p) v × Window (now p) v f start at (now painted) × (length (now painted) ≡ 49) × (start < v .hexes) × (1 ≤ n) × (n ≤ 3) ⌝ }
     ensures { λ r. ⌜ OutlookOf (board (now (p .entry))) f start n (now (route .entry)) r ⌝ }
 {
-    let found = window::finds(p, v, at, shown, f, start, n);
+    let found = window::finds(p, v, at, painted, f, start, n);
     let k = tested(found, n, route.len());
-    let fits = sent::is_legal(p, v, at, shown, f, start, k, route);
+    let fits = sent::is_legal(p, v, at, painted, f, start, k, route);
     if !found {
         let here = near::spot(v.width, v.height, start);
-        if friends::near(shown, frame::place(v, at, here)) {
+        if friends::near(painted, frame::place(v, at, here)) {
             return Outlook::Friends(fits);
         }
         return Outlook::Alone(fits);

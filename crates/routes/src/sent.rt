@@ -15,20 +15,20 @@ fn steps_to(
     p: &[u8],
     v: View,
     at: Frame,
-    shown: &[u8],
+    painted: &[u8],
     f: usize,
     start: usize,
     i: usize,
     a: usize,
     x: usize,
 ) -> bool
-    requires { ⌜ Laid (now p) v × Window (now p) v f start at (now shown) × (start < v .hexes) × (i < 3) ⌝ }
+    requires { ⌜ Laid (now p) v × Window (now p) v f start at (now painted) × (start < v .hexes) × (i < 3) ⌝ }
     ensures { λ r. ⌜ r ≡ stepsTo (board (now (p .entry))) f start i a x ⌝ }
 {
     if !ground::joined(p, v, a, x) {
         return false;
     }
-    window::enters(p, v, at, shown, f, start, i, x)
+    window::enters(p, v, at, painted, f, start, i, x)
 }
 
 // Whether a route is a legal one of n hexes for a group of force `f`.
@@ -36,13 +36,13 @@ pub fn is_legal(
     p: &[u8],
     v: View,
     at: Frame,
-    shown: &[u8],
+    painted: &[u8],
     f: usize,
     start: usize,
     n: usize,
     route: &[u16],
 ) -> bool
-    requires { ⌜ Laid (now p) v × Window (now p) v f start at (now shown) × (start < v .hexes) × (n ≤ 3) ⌝ }
+    requires { ⌜ Laid (now p) v × Window (now p) v f start at (now painted) × (start < v .hexes) × (n ≤ 3) ⌝ }
     ensures { λ r. ⌜ r ≡ legal (board (now (p .entry))) f start n (now (route .entry)) ⌝ }
 {
     if route.len() != n {
@@ -51,7 +51,7 @@ pub fn is_legal(
     let mut a = start;
     for i in 0..n {
         let x = route[i] as usize;
-        if !steps_to(p, v, at, shown, f, start, i, a, x) {
+        if !steps_to(p, v, at, painted, f, start, i, a, x) {
             return false;
         }
         a = x;

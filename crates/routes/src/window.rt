@@ -84,13 +84,13 @@ pub fn around(v: View, s: Spot) -> Frame
 }
 
 // Whether a retreating group of force `f` may enter hex `x` of the window.
-fn refuge(p: &[u8], v: View, at: Frame, shown: &[u8], f: usize, start: usize, x: usize) -> bool
-    requires { ⌜ Laid (now p) v × Window (now p) v f start at (now shown) × (x < v .hexes) × Inside (v .width) at x ⌝ }
+fn refuge(p: &[u8], v: View, at: Frame, painted: &[u8], f: usize, start: usize, x: usize) -> bool
+    requires { ⌜ Laid (now p) v × Window (now p) v f start at (now painted) × (x < v .hexes) × Inside (v .width) at x ⌝ }
     ensures { λ r. ⌜ r ≡ refuge (board (now (p .entry))) f x ⌝ }
 {
     if ground::standable(p, v, x) {
         let i = frame::place(v, at, near::spot(v.width, v.height, x));
-        return free(layout::wide(shown[i]));
+        return free(layout::wide(painted[i]));
     }
     false
 }
@@ -100,33 +100,19 @@ pub fn enters(
     p: &[u8],
     v: View,
     at: Frame,
-    shown: &[u8],
+    painted: &[u8],
     f: usize,
     start: usize,
     i: usize,
     x: usize,
 ) -> bool
-    requires { ⌜ Laid (now p) v × Window (now p) v f start at (now shown) × (start < v .hexes) × (x < v .hexes) × (i < 3) ⌝ }
+    requires { ⌜ Laid (now p) v × Window (now p) v f start at (now painted) × (start < v .hexes) × (x < v .hexes) × (i < 3) ⌝ }
     ensures { λ r. ⌜ r ≡ enters (board (now (p .entry))) f start i x ⌝ }
 {
     if as_far(p, v, start, i, x) {
-        return refuge(p, v, at, shown, f, start, x);
+        return refuge(p, v, at, painted, f, start, x);
     }
     false
-}
-
-// Where a step from hex `a` in direction `d` leads, if the side is not blocked. The neighbour is looked up once, for itself and its sides.
-fn leads(p: &[u8], v: View, a: usize, d: usize) -> Beside
-    requires { ⌜ Laid (now p) v × (d < 6) ⌝ }
-    ensures { λ r. ⌜ r ≡ next (ground (now (p .entry))) a d ⌝ }
-{
-    let Beside::At(n) = grid::neighbour(v.width, v.height, a, d) else {
-        return Beside::Off;
-    };
-    if ground::between(p, v, a, n, d) == ground::BLOCKED {
-        return Beside::Off;
-    }
-    Beside::At(n)
 }
 
 // The hex that a run goes on to from hex `a` in direction `d` after `i` steps.
@@ -134,33 +120,33 @@ fn step(
     p: &[u8],
     v: View,
     at: Frame,
-    shown: &[u8],
+    painted: &[u8],
     f: usize,
     start: usize,
     i: usize,
     a: usize,
     d: usize,
 ) -> Beside
-    requires { ⌜ Laid (now p) v × (start < v .hexes) × (i < 3) × (d < 6) × Window (now p) v f start at (now shown) ⌝ }
+    requires { ⌜ Laid (now p) v × (start < v .hexes) × (i < 3) × (d < 6) × Window (now p) v f start at (now painted) ⌝ }
     ensures { λ r. ⌜ r ≡ stepOf (board (now (p .entry))) f start i a d ⌝ }
 {
-    let Beside::At(x) = leads(p, v, a, d) else {
+    let Beside::At(x) = ground::next(p, v, a, d) else {
         return Beside::Off;
     };
-    if enters(p, v, at, shown, f, start, i, x) {
+    if enters(p, v, at, painted, f, start, i, x) {
         return Beside::At(x);
     }
     Beside::Off
 }
 
 // The first legal route of n hexes, directions tried clockwise: three nested loops left by a label.
-fn search(p: &[u8], v: View, at: Frame, shown: &[u8], f: usize, start: usize, n: usize) -> Found
-    requires { ⌜ Laid (now p) v × (start < v .hexes) × (1 ≤ n) × (n ≤ 3) × Window (now p) v f start at (now shown) ⌝ }
+fn search(p: &[u8], v: View, at: Frame, painted: &[u8], f: usize, start: usize, n: usize) -> Found
+    requires { ⌜ Laid (now p) v × (start < v .hexes) × (1 ≤ n) × (n ≤ 3) × Window (now p) v f start at (now painted) ⌝ }
     ensures { λ r. ⌜ r ≡ firstRoute (board (now (p .entry))) f start n ⌝ }
 {
     let mut found = Found::Nothing;
     'search: for d1 in 0..6 {
-        let Beside::At(a) = step(p, v, at, shown, f, start, 0, start, d1) else {
+        let Beside::At(a) = step(p, v, at, painted, f, start, 0, start, d1) else {
             continue;
         };
         if n == 1 {
@@ -168,7 +154,7 @@ fn search(p: &[u8], v: View, at: Frame, shown: &[u8], f: usize, start: usize, n:
             break 'search;
         }
         for d2 in 0..6 {
-            let Beside::At(b) = step(p, v, at, shown, f, start, 1, a, d2) else {
+            let Beside::At(b) = step(p, v, at, painted, f, start, 1, a, d2) else {
                 continue;
             };
             if n == 2 {
@@ -176,7 +162,7 @@ fn search(p: &[u8], v: View, at: Frame, shown: &[u8], f: usize, start: usize, n:
                 break 'search;
             }
             for d3 in 0..6 {
-                if let Beside::At(c) = step(p, v, at, shown, f, start, 2, b, d3) {
+                if let Beside::At(c) = step(p, v, at, painted, f, start, 2, b, d3) {
                     found = Found::Route(a, b, c);
                     break 'search;
                 }
@@ -187,11 +173,11 @@ fn search(p: &[u8], v: View, at: Frame, shown: &[u8], f: usize, start: usize, n:
 }
 
 // Whether it finds one.
-pub fn finds(p: &[u8], v: View, at: Frame, shown: &[u8], f: usize, start: usize, n: usize) -> bool
-    requires { ⌜ Laid (now p) v × (start < v .hexes) × (1 ≤ n) × (n ≤ 3) × Window (now p) v f start at (now shown) ⌝ }
+pub fn finds(p: &[u8], v: View, at: Frame, painted: &[u8], f: usize, start: usize, n: usize) -> bool
+    requires { ⌜ Laid (now p) v × (start < v .hexes) × (1 ≤ n) × (n ≤ 3) × Window (now p) v f start at (now painted) ⌝ }
     ensures { λ r. ⌜ r ≡ found (firstRoute (board (now (p .entry))) f start n) ⌝ }
 {
-    if let Found::Nothing = search(p, v, at, shown, f, start, n) {
+    if let Found::Nothing = search(p, v, at, painted, f, start, n) {
         return false;
     }
     true

@@ -8,6 +8,7 @@ use native.Mathlib.Omega.{arith}
 use lib.ListN.{length, replicate}
 use borrow.Author.Tests.{eq-eqb}
 use Rattle.position.specs.Board.{Board, board}
+use Rattle.position.specs.Stage as Stage
 use Rattle.position.proofs.Tallies.{either, same-or}
 use Rattle.acceptance.specs.Accepted.{Accepted}
 use Rattle.ruling.specs.Secret.{Sent}
@@ -42,25 +43,25 @@ use Rattle.rules.proofs.OnwardRetreat.{retreat-goes}
 
 -- the order for each stage, and what is lent with it
 module _ (b : Board) where
-  order-quiet : b .desk .battle .stage ≡ 0 → (onward b ≡ endPhase) × (lentOnward b ≡ replicate (b .map .hexes) 0)
+  order-quiet : b .desk .battle .stage ≡ Stage.quiet → (onward b ≡ endPhase) × (lentOnward b ≡ replicate (b .map .hexes) 0)
   unfolding onward lentOnward
   order-quiet e = (rw e refl, rw e refl)
 
-  order-retreats : b .desk .battle .stage ≡ 1 → (onward b ≡ retreatOnward b) × (lentOnward b ≡ [])
+  order-retreats : b .desk .battle .stage ≡ Stage.retreats → (onward b ≡ retreatOnward b) × (lentOnward b ≡ [])
   unfolding onward lentOnward
   order-retreats e = (rw e refl, rw e refl)
 
-  order-losses : b .desk .battle .stage ≡ 2 → (onward b ≡ losses (allOwing b)) × (lentOnward b ≡ [])
+  order-losses : b .desk .battle .stage ≡ Stage.losses → (onward b ≡ losses (allOwing b)) × (lentOnward b ≡ [])
   unfolding onward lentOnward
   order-losses e = (rw e refl, rw e refl)
 
-  order-advances : b .desk .battle .stage ≡ 3 → (onward b ≡ close) × (lentOnward b ≡ [])
+  order-advances : b .desk .battle .stage ≡ Stage.advances → (onward b ≡ close) × (lentOnward b ≡ [])
   unfolding onward lentOnward
   order-advances e = (rw e refl, rw e refl)
 
-  not-last : over b ≡ false → b .desk .battle .stage ≡ 0 → isLast (b .desk .clock) (b .desk .lastTurn) ≡ false
+  not-last : over b ≡ false → b .desk .battle .stage ≡ Stage.quiet → isLast (b .desk .clock) (b .desk .lastTurn) ≡ false
   unfolding over
-  not-last o e = simp (eq-eqb (b .desk .battle .stage) 0 e) at o
+  not-last o e = simp (eq-eqb (b .desk .battle .stage) Stage.quiet e) at o
 
 goes-as :
     {p : List ℕ} {o : Order} {l : List ℕ} → (onward (board p) ≡ o) × (lentOnward (board p) ≡ l)
@@ -72,16 +73,16 @@ goes : (p : List ℕ) → Accepted p → over (board p) ≡ false → Goes p (on
 goes p a o =
     let b = board p in
     let k = a .lawful .clock .stage in
-    same-or (b .desk .battle .stage) 0
+    same-or (b .desk .battle .stage) Stage.quiet
     (λ e. goes-as (order-quiet b e) (end-goes a e (not-last b o e)))
     (λ n.
-    same-or (b .desk .battle .stage) 1
+    same-or (b .desk .battle .stage) Stage.retreats
     (λ e. goes-as (order-retreats b e) (retreat-goes a e))
     (λ m.
-    same-or (b .desk .battle .stage) 2
+    same-or (b .desk .battle .stage) Stage.losses
     (λ e. goes-as (order-losses b e) (losses-go a e))
     (λ i.
-    let e : b .desk .battle .stage ≡ 3 = omega arith in
+    let e : b .desk .battle .stage ≡ Stage.advances = omega arith in
     goes-as (order-advances b e) (close-goes a e))))
 
 is-accepted : {a : Ruling} {vs : Values} → a ≡ accepted vs → IsAccepted a

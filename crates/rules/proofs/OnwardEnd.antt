@@ -9,6 +9,7 @@ use lib.ListN.{length, length-replicate, replicate}
 use borrow.Author.Tests.{eq-eqb}
 use Rattle.position.specs.Board.{Board, Desk, board}
 use Rattle.position.specs.Effect.{changes}
+use Rattle.position.specs.Stage as Stage
 use Rattle.acceptance.proofs.Clocks.{timely}
 use Rattle.acceptance.specs.Accepted.{Accepted, Lawful}
 use Rattle.ruling.proofs.Meets.{pass, ruled}
@@ -22,7 +23,7 @@ use Rattle.rules.specs.Onward.{battleLeft, left, phasesOf}
 use Rattle.rules.proofs.OnwardCall.{Goes, goes-met}
 use Rattle.rules.proofs.OnwardStage.{left-quiet}
 
-module _ {b : Board} (l : Lawful b) (e : b .desk .battle .stage ≡ 0) (more : isLast (b .desk .clock) (b .desk .lastTurn) ≡ false) where
+module _ {b : Board} (l : Lawful b) (e : b .desk .battle .stage ≡ Stage.quiet) (more : isLast (b .desk .clock) (b .desk .lastTurn) ≡ false) where
   end-phases : phasesOf (changes b (endChanges b)) < phasesOf b
   end-phases =
       let n = next-less (b .desk .lastTurn) (b .desk .clock) (timely (l .clock)) more in
@@ -36,7 +37,7 @@ module _ {b : Board} (l : Lawful b) (e : b .desk .battle .stage ≡ 0) (more : i
   end-falls = omega (arith, end-phases, end-quiet)
 
 pub end-goes :
-    {p : List ℕ} → Accepted p → board p .desk .battle .stage ≡ 0 → isLast (board p .desk .clock) (board p .desk .lastTurn) ≡ false
+    {p : List ℕ} → Accepted p → board p .desk .battle .stage ≡ Stage.quiet → isLast (board p .desk .clock) (board p .desk .lastTurn) ≡ false
     → Goes p (record { order = endPhase; lent = replicate (board p .map .hexes) 0 })
 unfolding ruleOf endRule
 end-goes {p} a e more =
@@ -45,5 +46,5 @@ end-goes {p} a e more =
     let l : List ℕ = replicate n 0 in
     goes-met a (record { order = endPhase; lent = l }) (endChanges b)
     (pass (ap not (eq-eqb (length l) n (length-replicate {A = ℕ} n 0)))
-    (pass (ap not (eq-eqb (b .desk .battle .stage) 0 e)) (pass more (ruled refl))))
+    (pass (ap not (eq-eqb (b .desk .battle .stage) Stage.quiet e)) (pass more (ruled refl))))
     (end-falls (a .lawful) e more)

@@ -6,6 +6,7 @@ use mathlib.Core.List.{List, []}
 use native.Mathlib.Omega.{arith}
 use Rattle.position.specs.Board.{Board, board, nowhere}
 use Rattle.position.specs.Effect.{changes}
+use Rattle.position.specs.Stage as Stage
 use Rattle.position.proofs.Shapes.{hexes-most}
 use Rattle.acceptance.specs.Accepted.{Accepted, Lawful}
 use Rattle.ruling.proofs.Meets.{ruled}
@@ -20,14 +21,14 @@ use Rattle.rules.proofs.OnwardCall.{Goes, goes-met}
 use Rattle.rules.proofs.OnwardStage.{falls-then-on, left-losses}
 
 losses-fall :
-    {b : Board} → Lawful b → b .map .hexes ≤ nowhere → b .desk .battle .stage ≡ 2 → (units : List ℕ)
+    {b : Board} → Lawful b → b .map .hexes ≤ nowhere → b .desk .battle .stage ≡ Stage.losses → (units : List ℕ)
     → left (changes b (thenOn b (lossChanges b units))) < left b
 losses-fall {b} l most e units =
     falls-then-on (lossChanges b units) (since-losses l most e units) (omega (arith, left-losses b e))
     (λ _. omega (arith, left-losses b e))
     (λ n. absurd (n (losses-owing l most e units)))
 
-pub losses-go : {p : List ℕ} → Accepted p → board p .desk .battle .stage ≡ 2 → Goes p (record { order = losses (allOwing (board p)); lent = [] })
+pub losses-go : {p : List ℕ} → Accepted p → board p .desk .battle .stage ≡ Stage.losses → Goes p (record { order = losses (allOwing (board p)); lent = [] })
 unfolding ruleOf lossesRule allOwing
 losses-go {p} a e =
     let b = board p in

@@ -13,6 +13,8 @@ use Rattle.position.specs.Crowd.{owingHexes}
 use Rattle.position.specs.Shape.{In}
 use Rattle.position.specs.Effect.{changes}
 use Rattle.position.specs.Tally.{any}
+use Rattle.position.specs.Role as Role
+use Rattle.position.specs.Stage as Stage
 use Rattle.position.proofs.Shapes.{hexes-most}
 use Rattle.position.proofs.Tallies.{both-yes, either, not-both, tally-pos, tally-some}
 use Rattle.acceptance.specs.Accepted.{Accepted, Lawful}
@@ -22,13 +24,13 @@ use Rattle.ruling.proofs.Meets.{pass, ruled}
 use Rattle.field.specs.Listed.{Charted}
 use Rattle.field.proofs.Lists.{sieve-at, sieve-long}
 use Rattle.routes.specs.Run.{LegalRoute, Run, stay}
-use Rattle.routes.specs.Part.{PartRoute, reach}
+use Rattle.routes.specs.Part.{PartRoute, farthest}
 use Rattle.routes.specs.Search.{Searched, firstRoute, found, routeOf}
 use Rattle.routes.specs.declared.Found.{Found}
 use Rattle.routes.specs.declared.Found.the-variants.{Nothing, Route}
 use Rattle.routes.proofs.First.{first-right, found-right}
 use Rattle.routes.proofs.Legal.{legal-right}
-use Rattle.routes.proofs.Part.{none-shorter, part-right, reach-here, reach-right}
+use Rattle.routes.proofs.Part.{none-shorter, part-right, farthest-here, farthest-right}
 use Rattle.chains.specs.Series.{LegalSeries}
 use Rattle.chains.specs.Serves.{pushesServe}
 use Rattle.chains.proofs.Find.{find-right, series-charted, series-few}
@@ -90,7 +92,7 @@ module _ (b : Board) (some : 1 ≤ owingHexes b) where
   unfolding firstOwing allOwing Losses.owes
   leads =
       let k = sieve-at (Losses.owes b) (b .units .count) 0 (omega (arith, some-owes)) in
-      (k .below, owes b leader (b .units .state .hex leader) (eqb-true (b .units .state .role leader) 1 (k .passes)) refl)
+      (k .below, owes b leader (b .units .state .hex leader) (eqb-true (b .units .state .role leader) Role.owes (k .passes)) refl)
 
 -- a route of n hexes, read off the three places of an answer
 sent-same : (n : ℕ) (route : List ℕ) → length route ≡ n → n ≤ 3 → sentRoute n (routeOf route) ≡ route
@@ -117,15 +119,15 @@ module _ (b : Board) (h : ℕ) (l : b .desk .battle .owed ≤ 3) where
   run-legally e =
       let f = groupForce b h in
       let n = b .desk .battle .owed in
-      rw (reach-here b f h n e) (sent-legally b f h n l (firstRoute b f h n) e (first-right b f h n))
+      rw (farthest-here b f h n e) (sent-legally b f h n l (firstRoute b f h n) e (first-right b f h n))
 
   part-legally : found (firstRoute b (groupForce b h) h (b .desk .battle .owed)) ≡ false → PartRoute b (groupForce b h) h (runFor b h)
   unfolding runFor
   part-legally e =
       let f = groupForce b h in
       let n = b .desk .battle .owed in
-      let k = reach b f h n in
-      let r = reach-right b f h n e in
+      let k = farthest b f h n in
+      let r = farthest-right b f h n e in
       record {
         steps = k;
         longest = r .0;
@@ -171,7 +173,7 @@ module _ {b : Board} (h : ℕ) (l : b .desk .battle .owed ≤ 3) {route pushes :
   given-pushed (vacantly d e k q) = simp (d, e)
   given-pushed (pushing d e k) = simp (d, e, legal-pushes-right b (groupForce b h) h (b .desk .battle .owed) route pushes .1 k)
 
-module _ {b : Board} (l : Lawful b) (most : b .map .hexes ≤ nowhere) (e : b .desk .battle .stage ≡ 1) (h u : ℕ) (m : Owes b h u) where
+module _ {b : Board} (l : Lawful b) (most : b .map .hexes ≤ nowhere) (e : b .desk .battle .stage ≡ Stage.retreats) (h u : ℕ) (m : Owes b h u) where
   abbrev sent : List ℕ
   sent = routeFor b h
 
@@ -217,7 +219,7 @@ module _ {b : Board} (l : Lawful b) (most : b .map .hexes ≤ nowhere) (e : b .d
       falls-then-on xs (o .since) (omega arith) (λ _. omega arith)
       (λ _. omega (arith, left-retreats (changes b xs) (o .stage), o .fewer))
 
-module _ {p : List ℕ} (a : Accepted p) (e : board p .desk .battle .stage ≡ 1) where
+module _ {p : List ℕ} (a : Accepted p) (e : board p .desk .battle .stage ≡ Stage.retreats) where
   abbrev start : ℕ
   start = firstOwing (board p)
 

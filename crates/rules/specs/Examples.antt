@@ -11,7 +11,7 @@ use Rattle.acceptance.specs.Broken.{broken}
 use Rattle.acceptance.specs.Examples.{computing, roster, rosterParts, lessParts, during}
 use Rattle.field.specs.Listed.{sieve}
 use Rattle.routes.specs.Examples.{searching}
-use Rattle.routes.specs.Part.{reach}
+use Rattle.routes.specs.Part.{farthest}
 use Rattle.clock.specs.Clock.{isLast, phasesLeft}
 use Rattle.aftermath.specs.Losses.{owes}
 use Rattle.chains.specs.Examples.{pushing}
@@ -61,7 +61,7 @@ whole = refl
 pub orders :
     map (λ p. onward (board p)) (roster ∷ retreating ∷ trapped ∷ losing ∷ advancing ∷ [])
     ≡ endPhase ∷ retreat 2 (1 ∷ []) [] ∷ retreat 2 (1 ∷ 0 ∷ []) [] ∷ losses (0 ∷ []) ∷ close ∷ []
-unfolding computing searching pushing sieve owes group groupForce walksFrom hasRoute hasSeries doomed allOwing firstOwing sentRoute reach runFor lastRoad routeFor pushesFor retreatOnward onward
+unfolding computing searching pushing sieve owes group groupForce walksFrom hasRoute hasSeries doomed allOwing firstOwing sentRoute farthest runFor lastRoad routeFor pushesFor retreatOnward onward
 orders = refl
 
 pub ends : map (λ p. over (board p)) (roster ∷ retreating ∷ lastPhase ∷ []) ≡ false ∷ false ∷ true ∷ []

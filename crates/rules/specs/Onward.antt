@@ -19,7 +19,7 @@ use Rattle.field.specs.Listed.{sieve}
 use Rattle.routes.specs.declared.Found.{Found}
 use Rattle.routes.specs.declared.Found.the-variants.{Route, Nothing}
 use Rattle.routes.specs.Search.{firstRoute}
-use Rattle.routes.specs.Part.{reach}
+use Rattle.routes.specs.Part.{farthest}
 use Rattle.clock.specs.Clock.{isLast, phasesLeft}
 use Rattle.aftermath.specs.Losses.{owes}
 use Rattle.chains.specs.Find.{Sought, seriesFor}
@@ -52,7 +52,7 @@ pushedFor b h = seriesFor b (groupForce b h) h (b .desk .battle .owed)
 -- the first run of as many steps as the group of hex h makes: a vacant route, or else "as long as the longest such run"
 unfoldable pub runFor : Board → ℕ → List ℕ
 runFor b h =
-    let k = reach b (groupForce b h) h (b .desk .battle .owed) in sentRoute k (firstRoute b (groupForce b h) h k)
+    let k = farthest b (groupForce b h) h (b .desk .battle .owed) in sentRoute k (firstRoute b (groupForce b h) h k)
 
 -- "empty where only supply units owe"
 unfoldable pub lastRoad : Board → ℕ → List ℕ

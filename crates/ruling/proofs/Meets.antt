@@ -19,7 +19,8 @@ use Rattle.ruling.specs.Verdict.Judge.{reveal, rule}
 use Rattle.ruling.specs.Verdict.Verdict.{refuseIf, judge}
 use Rattle.ruling.specs.Verdict.Ruling.{refused, accepted}
 
-map-same : {f g : ℕ → ℕ} → ((k : ℕ) → f k ≡ g k) → (xs : List ℕ) → map f xs ≡ map g xs
+-- the same function on each number of a list
+pub map-same : {f g : ℕ → ℕ} → ((k : ℕ) → f k ≡ g k) → (xs : List ℕ) → map f xs ≡ map g xs
 map-same h [] = refl
 map-same h (x ∷ xs) = ap₂ (λ (a : ℕ) (bs : List ℕ). a ∷ bs) (h x) (map-same h xs)
 

@@ -1,10 +1,12 @@
 // Whether chart and results keep their lines of document 01.
 ghost use Prim.Native.Nat.{ℕ, _+_, _<_};
+ghost use Rattle.position.specs.Layout.{dieFaces};
 ghost use Rattle.position.specs.Board.{chart, results};
 ghost use Rattle.position.specs.Shape.{In};
 ghost use Rattle.setting.specs.Setting.{TerrainOk, ChartOk, ColumnOk, RisingOk, ResultsOk};
 ghost use Rattle.position.specs.Laid.{Laid, Says};
 use position::View;
+use position::layout;
 use position::read;
 use position::shape;
 
@@ -25,7 +27,7 @@ pub fn chart_ok(p: &[u8], v: View) -> bool
     requires { ⌜ Laid (now p) v ⌝ }
     ensures { λ r. ⌜ Says r (ChartOk (chart (now (p .entry)))) ⌝ }
 {
-    for t in 0..18 {
+    for t in 0..layout::CHART_ROWS {
         if !terrain_ok(p, v, t) {
             return false;
         }
@@ -36,9 +38,9 @@ pub fn chart_ok(p: &[u8], v: View) -> bool
 // The six codes of a column.
 fn codes_ok(p: &[u8], v: View, c: usize) -> bool
     requires { ⌜ Laid (now p) v ⌝ }
-    ensures { λ r. ⌜ Says r ((die : ℕ) → die < 6 → In 1 (results (now (p .entry)) .code c (die + 1)) 10) ⌝ }
+    ensures { λ r. ⌜ Says r ((die : ℕ) → die < dieFaces → In 1 (results (now (p .entry)) .code c (die + 1)) 10) ⌝ }
 {
-    for die in 0..6 {
+    for die in 0..layout::DIE_FACES {
         if !shape::within(1, read::code(p, v, c, die + 1), 10) {
             return false;
         }

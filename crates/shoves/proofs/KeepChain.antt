@@ -10,6 +10,7 @@ use Rattle.position.specs.Board.{Board, forceOf, nowhere}
 use Rattle.position.specs.Crowd.{owesAt}
 use Rattle.position.specs.Ground.{standable}
 use Rattle.position.specs.Effect.{changes}
+use Rattle.position.specs.Role as Role
 use Rattle.position.proofs.Tallies.{both-yes, either, not-both, same-or}
 use Rattle.acceptance.proofs.Carries.{Fixed, changes-then, force-by}
 use Rattle.acceptance.proofs.Lawfuls.{standable-on}
@@ -38,7 +39,7 @@ pub record Pushes (o b : Board) (f : ℕ) (c : Board) : Type 0 where
   pub fixed : Fixed b c
   pub desk : c .desk ≡ b .desk
   pub roles : (w : ℕ) → w < b .units .count → c .units .state .role w ≡ b .units .state .role w
-  pub still : (w : ℕ) → w < b .units .count → b .units .state .role w ≡ 1 → c .units .state .hex w ≡ b .units .state .hex w
+  pub still : (w : ℕ) → w < b .units .count → b .units .state .role w ≡ Role.owes → c .units .state .hex w ≡ b .units .state .hex w
   pub others : (w : ℕ) → w < b .units .count → (forceOf b w ≡ f → ⊥) → c .units .state .hex w ≡ b .units .state .hex w
 
 -- and hex x is empty, while a stack that can be pushed stands in hex y
@@ -138,7 +139,7 @@ module _ {o b : Board} (s : Since o b) (most : o .map .hexes ≤ nowhere) (f a :
 
     owes-not : (w : ℕ) → w < b .units .count → b .units .state .hex w ≡ h → owesAt moved a w ≡ false
     unfolding owesAt
-    owes-not w l e = simp (ne-eqb (moved .units .state .role w) 1 (λ y. light w l e .role (sym (role-same w l) ∙ y)))
+    owes-not w l e = simp (ne-eqb (moved .units .state .role w) Role.owes (λ y. light w l e .role (sym (role-same w l) ∙ y)))
 
     apart-z : (w : ℕ) → w < b .units .count → b .units .state .hex w ≡ h → apart moved a z w ≡ true
     unfolding apart

@@ -10,6 +10,7 @@ use Rattle.position.specs.Crowd.{owesAt}
 use Rattle.position.specs.Change.{Change}
 use Rattle.position.specs.Change.Change.{assigned, destroyed}
 use Rattle.position.specs.Effect.{change, changes}
+use Rattle.position.specs.Role as Role
 use Rattle.position.proofs.Tallies.{not-both, same-or}
 use Rattle.acceptance.proofs.Carries.{Fixed, fixed-change}
 use Rattle.acceptance.proofs.Fates.{Same, assigned-else, assigned-none, destroyed-else, destroyed-here, same-trans}
@@ -28,18 +29,18 @@ pub record Left (o b : Board) (a : ℕ) (c : Board) : Type 0 where
   pub since : Since o c
   pub fixed : Fixed b c
   pub desk : c .desk ≡ b .desk
-  pub gone : (w : ℕ) → w < b .units .count → owesAt b a w ≡ true → c .units .state .role w ≡ 0
+  pub gone : (w : ℕ) → w < b .units .count → owesAt b a w ≡ true → c .units .state .role w ≡ Role.none
   pub roles : (w : ℕ) → w < b .units .count → owesAt b a w ≡ false → c .units .state .role w ≡ b .units .state .role w
-  pub still : (w : ℕ) → w < b .units .count → owesAt b a w ≡ false → b .units .state .role w ≡ 1 → c .units .state .hex w ≡ b .units .state .hex w
+  pub still : (w : ℕ) → w < b .units .count → owesAt b a w ≡ false → b .units .state .role w ≡ Role.owes → c .units .state .hex w ≡ b .units .state .hex w
 
 -- a change of one unit after which it has no role
 record Ending (g : ℕ → Change) : Type 0 where
   pub since : {o c : Board} → o .map .hexes ≤ nowhere → Since o c → (u : ℕ) → Since o (change c (g u))
   pub desk : (c : Board) (u : ℕ) → change c (g u) .desk ≡ c .desk
   pub else : (c : Board) (u w : ℕ) → (w ≡ u → ⊥) → Same (c .units) (change c (g u) .units) w
-  pub none : (c : Board) (u : ℕ) → u < c .units .count → change c (g u) .units .state .role u ≡ 0
+  pub none : (c : Board) (u : ℕ) → u < c .units .count → change c (g u) .units .state .role u ≡ Role.none
 
-freeing : Ending (λ u. assigned u 0)
+freeing : Ending (λ u. assigned u Role.none)
 freeing =
     record {
       since = λ m s u. since-freed m s u;
@@ -62,7 +63,7 @@ record Leaving (o b : Board) (a : ℕ) (us : List ℕ) (c : Board) : Type 0 wher
   pub since : Since o c
   pub fixed : Fixed b c
   pub desk : c .desk ≡ b .desk
-  pub gone : (w : ℕ) → w < b .units .count → owesAt b a w ≡ true → named us w ≡ false → c .units .state .role w ≡ 0
+  pub gone : (w : ℕ) → w < b .units .count → owesAt b a w ≡ true → named us w ≡ false → c .units .state .role w ≡ Role.none
   pub kept : (w : ℕ) → owesAt b a w ≡ false → Same (b .units) (c .units) w
 
 module _ {o b : Board} (most : o .map .hexes ≤ nowhere) (a : ℕ) where
@@ -116,7 +117,7 @@ module _ {o b : Board} (most : o .map .hexes ≤ nowhere) (a : ℕ) where
   -- it is where it has come to, or destroyed
   pub all-freed : Since o b → Left o b a (changes b (gather frees (group b a)))
   unfolding frees
-  all-freed s = all-left (λ u. assigned u 0) freeing s
+  all-freed s = all-left (λ u. assigned u Role.none) freeing s
 
   pub all-doomed : Since o b → Left o b a (changes b (gather (λ u. destroyed u ∷ []) (group b a)))
   all-doomed s = all-left destroyed falling s

@@ -14,6 +14,7 @@ use Rattle.position.specs.Tally.{any}
 use Rattle.position.specs.Change.{Change}
 use Rattle.position.specs.Change.Change.{assigned, destroyed, placed}
 use Rattle.position.specs.Effect.{change, changes}
+use Rattle.position.specs.Role as Role
 use Rattle.position.proofs.Crowds.{crowd-with, others-is}
 use Rattle.position.proofs.Tallies.{any-false, but, but-other, but-self, either, equals, equals-is, equals-yes, not-both, same-or, tally-le}
 use Rattle.acceptance.specs.Accepted.{MappedOk}
@@ -46,7 +47,7 @@ module _ (c : Board) (u x : ℕ) where
 
 -- no role and no loss touches the desk
 module _ (c : Board) (u : ℕ) where
-  pub freed-desk : change c (assigned u 0) .desk ≡ c .desk
+  pub freed-desk : change c (assigned u Role.none) .desk ≡ c .desk
   unfolding change
   freed-desk = refl
 
@@ -70,11 +71,11 @@ pub record Going (a b : Board) (x : ℕ) (t k : ℕ → Bool) (freed : Bool) (us
       → (c .units .state .hex w ≡ x) × (c .units .state .role w ≡ roleThen freed (b .units .state .role w))
   pub lost :
       (w : ℕ) → w < b .units .count → t w ≡ true → k w ≡ true → named us w ≡ false
-      → (c .units .state .hex w ≡ nowhere) × (c .units .state .role w ≡ 0)
+      → (c .units .state .hex w ≡ nowhere) × (c .units .state .role w ≡ Role.none)
 
 -- how each of them goes
 pub record Goes (x : ℕ) (k : ℕ → Bool) (freed : Bool) (g : ℕ → List Change) : Type 0 where
-  pub is : (u : ℕ) → g u ≡ cond (k u) (destroyed u ∷ []) (placed u x ∷ cond freed (assigned u 0 ∷ []) [])
+  pub is : (u : ℕ) → g u ≡ cond (k u) (destroyed u ∷ []) (placed u x ∷ cond freed (assigned u Role.none ∷ []) [])
 
 -- unit u has gone from board c to hex x of board e
 record Went (a b : Board) (x : ℕ) (freed : Bool) (u : ℕ) (c e : Board) : Type 0 where
@@ -158,14 +159,14 @@ module _
           role = placed-role c u x u;
         }
 
-    freed-went : Went a b x true u c (change (change c (placed u x)) (assigned u 0))
+    freed-went : Went a b x true u c (change (change c (placed u x)) (assigned u Role.none))
     freed-went =
         let d = change c (placed u x) in
         let y = placed-went in
         let z = assigned-none d u (omega (arith, on, y .fixed .count)) in
         record {
           since = since-freed most (y .since) u;
-          fixed = fixed-trans (y .fixed) (fixed-change d (assigned u 0));
+          fixed = fixed-trans (y .fixed) (fixed-change d (assigned u Role.none));
           desk = freed-desk d u ∙ y .desk;
           else = λ w n. same-trans (y .else w n) (assigned-else d u 0 w n);
           hex = z .hex ∙ y .hex;
@@ -245,10 +246,10 @@ module _
       (λ z. subst (Going a b x t k freed us) (then-freed z) (going-went u m e o f (rw z (freed-went u m e o))))
       (λ z. subst (Going a b x t k freed us) (then-not z) (going-went u m e o f (rw z (placed-went u m e o)))))))
     where
-      then-freed : freed ≡ true → change (change c (placed u x)) (assigned u 0) ≡ changes (change c (placed u x)) (cond freed (assigned u 0 ∷ []) [])
+      then-freed : freed ≡ true → change (change c (placed u x)) (assigned u Role.none) ≡ changes (change c (placed u x)) (cond freed (assigned u Role.none ∷ []) [])
       then-freed z = simp z
 
-      then-not : freed ≡ false → change c (placed u x) ≡ changes (change c (placed u x)) (cond freed (assigned u 0 ∷ []) [])
+      then-not : freed ≡ false → change c (placed u x) ≡ changes (change c (placed u x)) (cond freed (assigned u Role.none ∷ []) [])
       then-not z = simp z
 
   -- one after another

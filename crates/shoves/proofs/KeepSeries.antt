@@ -8,6 +8,7 @@ use borrow.Author.Tests.{eq-eqb, ne-eqb}
 use Rattle.position.specs.Board.{Board, nowhere}
 use Rattle.position.specs.Crowd.{owesAt}
 use Rattle.position.specs.Effect.{changes}
+use Rattle.position.specs.Role as Role
 use Rattle.position.proofs.Tallies.{either, same-or}
 use Rattle.acceptance.proofs.Carries.{changes-then, force-by}
 use Rattle.acceptance.proofs.Since.{Since}
@@ -46,9 +47,9 @@ after-step {o} {b} {c} {d} {f} {a} {x} s y =
 pub pushes-owes : {o b c : Board} {f : ℕ} → Pushes o b f c → (a w : ℕ) → w < b .units .count → owesAt c a w ≡ owesAt b a w
 unfolding owesAt
 pushes-owes {b = b} x a w l =
-    same-or (b .units .state .role w) 1
+    same-or (b .units .state .role w) Role.owes
     (λ e. simp (x .roles w l, x .still w l e))
-    (λ e. simp (x .roles w l, ne-eqb (b .units .state .role w) 1 e))
+    (λ e. simp (x .roles w l, ne-eqb (b .units .state .role w) Role.owes e))
 
 -- and what comes after them
 after-pushes : {o b c d : Board} {f a : ℕ} → Pushes o b f c → Left o c a d → Left o b a d

@@ -10,6 +10,7 @@ use Rattle.position.specs.Kind.{supplyKind}
 use Rattle.position.specs.Board.{Board, forceOf, nowhere}
 use Rattle.position.specs.Crowd.{owesAt}
 use Rattle.position.specs.Effect.{changes}
+use Rattle.position.specs.Role as Role
 use Rattle.position.proofs.Tallies.{either, not-both}
 use Rattle.acceptance.proofs.Carries.{Fixed, force-by}
 use Rattle.acceptance.proofs.Fates.{Same}
@@ -39,7 +40,7 @@ pub record Stepped (o b : Board) (f a x : ℕ) (c : Board) : Type 0 where
   pub desk : c .desk ≡ b .desk
   pub kept : (w : ℕ) → owesAt b a w ≡ false → Same (b .units) (c .units) w
   pub left : (w : ℕ) → w < b .units .count → owesAt b a w ≡ false → owesAt c x w ≡ false
-  pub gone : (w : ℕ) → w < b .units .count → owesAt b a w ≡ true → owesAt c x w ≡ false → c .units .state .role w ≡ 0
+  pub gone : (w : ℕ) → w < b .units .count → owesAt b a w ≡ true → owesAt c x w ≡ false → c .units .state .role w ≡ Role.none
   pub own : OwnGroup c f x
   pub stands : stand c f x ≡ stand b f a
 
@@ -77,7 +78,7 @@ module _
   -- a unit of the group is destroyed or owes in hex x now
   lost :
       (w : ℕ) → w < b .units .count → owesAt b a w ≡ true → supply w ≡ true
-      → (moved .units .state .hex w ≡ nowhere) × (moved .units .state .role w ≡ 0)
+      → (moved .units .state .hex w ≡ nowhere) × (moved .units .state .role w ≡ Role.none)
   lost w l e k = going .lost w l e k (named-nil w)
 
   pub went : (w : ℕ) → w < b .units .count → owesAt b a w ≡ true → supply w ≡ false → owesAt moved x w ≡ true

@@ -11,6 +11,7 @@ use Rattle.position.specs.Kind.{supplyKind}
 use Rattle.position.specs.Board.{Board, forceOf, nowhere}
 use Rattle.position.specs.Ground.{next}
 use Rattle.position.specs.Crowd.{owesAt}
+use Rattle.position.specs.Role as Role
 use Rattle.position.proofs.Tallies.{not-both, same-or}
 use Rattle.acceptance.specs.Accepted.{UnitsOk}
 use Rattle.acceptance.proofs.Carries.{Fixed, kind-by, force-by}
@@ -60,7 +61,7 @@ land-same s start = simp (s .fixed .map)
 
 -- what is known of a group by one unit of it that is no supply unit
 module _ {b : Board} {f a u : ℕ} (units : UnitsOk b) (r : Retreats b f a u) where
-  owing : b .units .state .role u ≡ 0 → ⊥
+  owing : b .units .state .role u ≡ Role.none → ⊥
   owing e = omega (arith, owes-role b u a (r .owes))
 
   real : a ≡ nowhere → ⊥
@@ -123,8 +124,8 @@ shoved-in {o} {b} {f} {a} {u} small k r x y zs ps n e h =
     record { since = i .since; retreats = i .retreats; stands = i .stands ∙ q .shifted .stands }
 
 -- the group does not enter the hex that it stands in
-onward : {g : Land} {i a d x : ℕ} → Onto g (suc i) a d x → g .far a ≡ i → x ≡ a → ⊥
-onward {g} t z e = omega (arith, t .away, z, ap (g .far) e)
+not-back : {g : Land} {i a d x : ℕ} → Onto g (suc i) a d x → g .far a ≡ i → x ≡ a → ⊥
+not-back {g} t z e = omega (arith, t .away, z, ap (g .far) e)
 
 module _ {o : Board} (small : o .map .hexes ≤ nowhere) (f start u : ℕ) where
   -- the ways of the land are those of any board since
@@ -138,7 +139,7 @@ module _ {o : Board} (small : o .map .hexes ≤ nowhere) (f start u : ℕ) where
       → Series (landOf o start) s i a route pushes → stand b f a ≡ s → Played f start b i a route pushes
   series-played k r z stay e = halts
   series-played {b} {s} {i} {a} k r z (walk {x = x} d t y n) e =
-      let v = free-refuge b f a x (onward t z) (ap (λ (q : Stands). q x) e ∙ y) in
+      let v = free-refuge b f a x (not-back t z) (ap (λ (q : Stands). q x) e ∙ y) in
       let c = stepped-in small k r x v in
       enters d (subst (λ (g : Land). Onto g (suc i) a d x) (sym (land-same k start)) t) v
       (series-played (c .since) (c .retreats) (t .away) n (c .stands ∙ e))
@@ -146,8 +147,8 @@ module _ {o : Board} (small : o .map .hexes ≤ nowhere) (f start u : ℕ) where
       let here : stand b f a x ≡ Loose = ap (λ (q : Stands). q x) e ∙ l in
       let h₁ = subst (λ (p : Stands). Chain (landOf o start .next) p (a ∷ []) most x zs y) (sym e) h in
       let h₂ = subst (λ (p : Ways). Chain p (stand b f a) (a ∷ []) most x zs y) (ways k) h₁ in
-      let can = loose-can b f a x (onward t z) here in
-      let c = shoved-in small k r x y zs ps (onward t z) here h₂ in
+      let can = loose-can b f a x (not-back t z) here in
+      let c = shoved-in small k r x y zs ps (not-back t z) here h₂ in
       let held = held-more b a [] (λ w q. not-both (named [] w) q (named-nil w)) (own-held (k .units) r) in
       clearsIn d (subst (λ (g : Land). Onto g (suc i) a d x) (sym (land-same k start)) t) can
       (chain-played b f a h₂ (named-here a [] a refl) held (held-by b x (can .unit) (can .counted) (can .there)))
@@ -165,9 +166,9 @@ module _ {o : Board} (small : o .map .hexes ≤ nowhere) (f start u : ℕ) where
       (played-series (c .since) (c .retreats) (t' .away) n))
   played-series {b} {i} {a} k r z (clearsIn {x = x} {y = y} {route = route} {zs = zs} {pushes = ps} d t can h n) =
       let t' = subst (λ (g : Land). Onto g (suc i) a d x) (land-same k start) t in
-      let here = can-loose b f a x (onward t' z) can in
+      let here = can-loose b f a x (not-back t' z) can in
       let h' = played-chain b f a h (named-here a [] a refl) in
-      let c = shoved-in small k r x y zs ps (onward t' z) here h' in
+      let c = shoved-in small k r x y zs ps (not-back t' z) here h' in
       shove d t' here (subst (λ (p : Ways). Chain p (stand b f a) (a ∷ []) most x zs y) (sym (ways k)) h')
       (subst (λ (s : Stands). Series (landOf o start) s (suc i) x route ps) (c .stands)
       (played-series (c .since) (c .retreats) (t' .away) n))

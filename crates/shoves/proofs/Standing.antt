@@ -9,6 +9,7 @@ use Rattle.position.specs.Kind.{supplyKind}
 use Rattle.position.specs.Board.{Board, forceOf}
 use Rattle.position.specs.Crowd.{owesAt}
 use Rattle.position.specs.Tally.{any}
+use Rattle.position.specs.Role as Role
 use Rattle.position.proofs.Tallies.{any-false, any-never, any-same, any-some, any-true, both-yes, either, neither, not-both, same-or}
 use Rattle.acceptance.proofs.Carries.{Fixed, kind-by, force-by}
 use Rattle.field.specs.Scene.{scene}
@@ -22,17 +23,17 @@ use Rattle.chains.specs.Stand.{apart, firm, bars, stand, isFree, isLoose}
 pub record Light (b : Board) (f u : ℕ) : Type 0 where
   pub own : forceOf b u ≡ f
   pub kind : b .units .counter .kind u ≡ supplyKind → ⊥
-  pub role : b .units .state .role u ≡ 1 → ⊥
+  pub role : b .units .state .role u ≡ Role.owes → ⊥
 
 pub light-is : (b : Board) (f u : ℕ) → firm b f u ≡ false → Light b f u
 unfolding firm
 light-is b f u e =
-    let i = neither (not (eqb (forceOf b u) f)) (eqb (b .units .counter .kind u) supplyKind || eqb (b .units .state .role u) 1) e in
-    let j = neither (eqb (b .units .counter .kind u) supplyKind) (eqb (b .units .state .role u) 1) (i .1) in
+    let i = neither (not (eqb (forceOf b u) f)) (eqb (b .units .counter .kind u) supplyKind || eqb (b .units .state .role u) Role.owes) e in
+    let j = neither (eqb (b .units .counter .kind u) supplyKind) (eqb (b .units .state .role u) Role.owes) (i .1) in
     record {
       own = eqb-true (forceOf b u) f (not-false (eqb (forceOf b u) f) (i .0));
       kind = λ z. not-both (eqb (b .units .counter .kind u) supplyKind) (eq-eqb (b .units .counter .kind u) supplyKind z) (j .0);
-      role = λ z. not-both (eqb (b .units .state .role u) 1) (eq-eqb (b .units .state .role u) 1 z) (j .1);
+      role = λ z. not-both (eqb (b .units .state .role u) Role.owes) (eq-eqb (b .units .state .role u) Role.owes z) (j .1);
     }
 
 -- such a unit is not firm
@@ -42,7 +43,7 @@ is-light b f u l =
     simp (
       eq-eqb (forceOf b u) f (l .own),
       ne-eqb (b .units .counter .kind u) supplyKind (l .kind),
-      ne-eqb (b .units .state .role u) 1 (l .role),
+      ne-eqb (b .units .state .role u) Role.owes (l .role),
     )
 
 pub firm-same : {b c : Board} (f u : ℕ) → Fixed b c → c .units .state .role u ≡ b .units .state .role u → firm c f u ≡ firm b f u
@@ -54,7 +55,7 @@ module _ (b : Board) (a h w : ℕ) where
   pub apart-here : (h ≡ a → ⊥) → b .units .state .hex w ≡ h → apart b a h w ≡ true
   unfolding apart owesAt
   apart-here n e =
-      simp (stands-here (scene b) h w e, e, ne-eqb h a n) (either (eqb (b .units .state .role w) 1) (λ z. simp z) (λ z. simp z))
+      simp (stands-here (scene b) h w e, e, ne-eqb h a n) (either (eqb (b .units .state .role w) Role.owes) (λ z. simp z) (λ z. simp z))
 
   pub apart-off : (b .units .state .hex w ≡ h → ⊥) → apart b a h w ≡ false
   unfolding apart

@@ -10,17 +10,18 @@ use Rattle.position.specs.Board.{Board, board}
 use Rattle.position.specs.Crowd.{owesAt}
 use Rattle.position.specs.Change.{Change, make, makes}
 use Rattle.position.specs.Change.Change.{placed, destroyed, assigned}
+use Rattle.position.specs.Role as Role
 use Rattle.shoves.specs.Shoves.{frees, goesTo, shifts}
 
 -- the role is asked first, then the hex
 module _ (b : Board) (h u : ℕ) where
-  pub owes-not : (b .units .state .role u ≡ 1 → ⊥) → owesAt b h u ≡ false
+  pub owes-not : (b .units .state .role u ≡ Role.owes → ⊥) → owesAt b h u ≡ false
   unfolding owesAt
-  owes-not n = simp (ne-eqb (b .units .state .role u) 1 n)
+  owes-not n = simp (ne-eqb (b .units .state .role u) Role.owes n)
 
-  pub owes-where : b .units .state .role u ≡ 1 → owesAt b h u ≡ eqb (b .units .state .hex u) h
+  pub owes-where : b .units .state .role u ≡ Role.owes → owesAt b h u ≡ eqb (b .units .state .hex u) h
   unfolding owesAt
-  owes-where e = simp (eq-eqb (b .units .state .role u) 1 e)
+  owes-where e = simp (eq-eqb (b .units .state .role u) Role.owes e)
 
 -- a unit that does not pass is left alone, to one that does it is done
 module _ (p : List ℕ) (t : Bool) (xs : List Change) where
@@ -50,6 +51,6 @@ module _ (p : List ℕ) {q : List ℕ} (u : ℕ) where
   unfolding shifts makes
   shifts-there z e = e
 
-  pub frees-it : q ≡ make p (assigned u 0) → q ≡ makes p (frees u)
+  pub frees-it : q ≡ make p (assigned u Role.none) → q ≡ makes p (frees u)
   unfolding frees makes
   frees-it e = e

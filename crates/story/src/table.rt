@@ -148,7 +148,7 @@ fn seat(out: &mut Output, full: usize, before: &[u8], f: usize, player: usize) -
 fn players(out: &mut Output, full: usize, p: &[u8], v: View) -> usize
     requires { ⌜ Laid (now p) v ⌝ }
 {
-    if v.named == 0 {
+    if v.players == 0 {
         return full;
     }
     let f = seat(out, full, b"players: ", 0, read::player(p, v, 0));

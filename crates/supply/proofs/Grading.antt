@@ -11,7 +11,7 @@ use borrow.Author.Tests.{lt-ltb, le-leb, lt-leb, eq-eqb, ne-eqb}
 use Rattle.grid.specs.Map.{On}
 use Rattle.position.specs.Layout.{byte}
 use Rattle.position.specs.Bits.{has, port, urban, supply}
-use Rattle.position.specs.Kind.{force}
+use Rattle.position.specs.Kind.{force, us, canada}
 use Rattle.field.specs.Scene.{Scene}
 use Rattle.supply.specs.Open.{openTo, homeSource, coastal, landing, landedSource, source, grade}
 use Rattle.walk.specs.Chain.{mark}
@@ -59,17 +59,17 @@ module _ (s : Scene) (h m : ℕ) where
   landed-not e o = simp (e, o)
 
   module _ (n : ℕ) where
-    pub source-us : n ≡ 3 → sourceBy s n h m ≡ homeSource s 1 h
+    pub source-us : n ≡ us → sourceBy s n h m ≡ homeSource s 1 h
     unfolding sourceBy
-    source-us e = simp (eq-eqb n 3 e)
+    source-us e = simp (eq-eqb n us e)
 
-    pub source-canada : n ≡ 4 → sourceBy s n h m ≡ homeSource s 2 h
+    pub source-canada : n ≡ canada → sourceBy s n h m ≡ homeSource s 2 h
     unfolding sourceBy
-    source-canada e = simp (ne-eqb n 3 (λ q. omega arith), eq-eqb n 4 e)
+    source-canada e = simp (ne-eqb n us (λ q. omega arith), eq-eqb n canada e)
 
-    pub source-landed : (n ≡ 3 → ⊥) → (n ≡ 4 → ⊥) → sourceBy s n h m ≡ landedBy s h m
+    pub source-landed : (n ≡ us → ⊥) → (n ≡ canada → ⊥) → sourceBy s n h m ≡ landedBy s h m
     unfolding sourceBy
-    source-landed e q = simp (ne-eqb n 3 e, ne-eqb n 4 q)
+    source-landed e q = simp (ne-eqb n us e, ne-eqb n canada q)
 
     pub grade-closed : openBy s h m ≡ false → gradeBy s n h m ≡ 0
     unfolding gradeBy

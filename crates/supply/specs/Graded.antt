@@ -7,6 +7,7 @@ use mathlib.Core.List.{List}
 use lib.Dec.{leb, eqb}
 use lib.ListN.{length}
 use Rattle.position.specs.Bits.{has}
+use Rattle.position.specs.Kind.{us, canada}
 use Rattle.walk.specs.Chain.{mark}
 use Rattle.field.specs.Scene.{Scene}
 use Rattle.paint.specs.Paint.{zoneMark, enemyMark, ownMark, depotMark, Marked}
@@ -25,7 +26,7 @@ unfoldable pub landedBy : Scene → ℕ → ℕ → Bool
 landedBy s h m = (coastal s h && has depotMark m) || (has ownMark m && landing s h)
 
 unfoldable pub sourceBy : Scene → ℕ → ℕ → ℕ → Bool
-sourceBy s n h m = cond (eqb n 3) (homeSource s 1 h) (cond (eqb n 4) (homeSource s 2 h) (landedBy s h m))
+sourceBy s n h m = cond (eqb n us) (homeSource s 1 h) (cond (eqb n canada) (homeSource s 2 h) (landedBy s h m))
 
 unfoldable pub gradeBy : Scene → ℕ → ℕ → ℕ → ℕ
 gradeBy s n h m = cond (openBy s h m) (cond (sourceBy s n h m) 2 1) 0

@@ -5,7 +5,7 @@ use mathlib.Core.Bool.{Bool, not, cond, _&&_, _||_}
 use lib.Dec.{ltb, leb, eqb}
 use Rattle.position.specs.Tally.{any}
 use Rattle.position.specs.Bits.{has, port, urban, supply}
-use Rattle.position.specs.Kind.{force}
+use Rattle.position.specs.Kind.{force, us, canada}
 use Rattle.field.specs.Scene.{Scene}
 use Rattle.field.specs.Zone.{holds, supplyUnitOn, holdsEnemy, enemyZone}
 
@@ -31,7 +31,7 @@ landedSource s f h = (coastal s h && any (supplyUnitOn s f h) (s .count)) || (ho
 
 -- "Sources: for US and Canada ..; for others .."
 unfoldable pub source : Scene → ℕ → ℕ → Bool
-source s n h = cond (eqb n 3) (homeSource s 1 h) (cond (eqb n 4) (homeSource s 2 h) (landedSource s (force n) h))
+source s n h = cond (eqb n us) (homeSource s 1 h) (cond (eqb n canada) (homeSource s 2 h) (landedSource s (force n) h))
 
 -- 0 closed or off the map, 1 open, 2 open and a source: "both ends included", a source must itself be open
 unfoldable pub grade : Scene → ℕ → ℕ → ℕ

@@ -6,6 +6,7 @@ use mathlib.Core.List.{List, []}
 use lib.Dec.{ltb, eqb}
 use Rattle.position.specs.Board.{Board}
 use Rattle.position.specs.Ground.{next}
+use Rattle.position.specs.Kind.{canada}
 use Rattle.ruling.specs.Values.{accepting}
 use Rattle.ruling.specs.Verdict.{Verdict}
 use Rattle.ruling.specs.Verdict.Judge.{rule}
@@ -36,5 +37,5 @@ supplyMap s n = tab (s .map .hexes) (λ h. cond (supplied s n h) 1 0)
 unfoldable pub supplyRule : Board → ℕ → ℕ → Verdict
 supplyRule b n long =
     refuseIf (not (eqb long (b .map .hexes))) 3 0
-    (refuseIf (ltb 4 n) 3 0
+    (refuseIf (ltb canada n) 3 0
     (judge (rule accepting [] (supplyMap (scene b) n))))

@@ -8,6 +8,7 @@ ghost use Rattle.supply.specs.Open.{homeSource, coastal, landing};
 ghost use Rattle.supply.specs.Graded.{MapShows, Grades, openBy, landedBy, sourceBy, gradeBy};
 use position::View;
 use position::bits;
+use position::kind;
 use position::layout;
 use position::read;
 
@@ -85,10 +86,10 @@ fn source_by(p: &[u8], v: View, n: usize, h: usize, m: usize) -> bool
     requires { ⌜ Laid (now p) v ⌝ }
     ensures { λ r. ⌜ r ≡ sourceBy (scene (board (now (p .entry)))) n h m ⌝ }
 {
-    if n == 3 {
+    if n == kind::US {
         return home_source(p, v, 1, h);
     }
-    if n == 4 {
+    if n == kind::CANADA {
         return home_source(p, v, 2, h);
     }
     landed_by(p, v, h, m)

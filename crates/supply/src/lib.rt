@@ -35,7 +35,7 @@ pub fn supply(p: &[u8], v: View, nationality: usize, out: &mut [u8]) -> Answer
     if out.len() != hexes {
         return Answer::Refused(3, 0);
     }
-    if 4 < nationality {
+    if kind::CANADA < nationality {
         return Answer::Refused(3, 0);
     }
     fill(p, v, nationality, out);

@@ -14,8 +14,8 @@ use Rattle.grid.specs.declared.Nearby.{Nearby}
 use Rattle.grid.specs.declared.Nearby.the-variants as N
 use Rattle.grid.specs.Map.{neighbourOf}
 use Rattle.grid.specs.Spot.{SpotOf}
-use Rattle.walk.specs.declared.Onward.{Onward}
-use Rattle.walk.specs.declared.Onward.the-variants.{To, Over}
+use Rattle.walk.specs.declared.Going.{Going}
+use Rattle.walk.specs.declared.Going.the-variants.{To, Over}
 use Rattle.walk.specs.Chain.{mark, Chain}
 
 -- the mark of a hex that was entered in direction d
@@ -60,17 +60,17 @@ pub record Ready (l : List ℕ) (a : ℕ) : Type 0 where
   pub still : mark l a % 8 ≡ 0
 
 -- on at a neighbour, from direction c on
-abbrev pub onward : Nearby → ℕ → Onward
-onward (N.At t) c = To t c
-onward N.Off c = Over
+abbrev pub arriving : Nearby → ℕ → Going
+arriving (N.At t) c = To t c
+arriving N.Off c = Over
 
 -- home from hex a, in direction d
-abbrev pub HomeOf : ℕ → ℕ → ℕ → ℕ → Onward → Type 0
+abbrev pub HomeOf : ℕ → ℕ → ℕ → ℕ → Going → Type 0
 HomeOf w h a d (To t c) = (neighbourOf w h a d ≡ At (t .hex)) × SpotOf w h t × (c ≡ afterHome d)
 HomeOf w h a d Over = neighbourOf w h a d ≡ Off
 
 -- into the hex beside hex a in direction d
-abbrev pub EnterOf : ℕ → ℕ → List ℕ → ℕ → ℕ → List ℕ → Onward → Type 0
+abbrev pub EnterOf : ℕ → ℕ → List ℕ → ℕ → ℕ → List ℕ → Going → Type 0
 EnterOf w h l a d out (To t c) = (neighbourOf w h a d ≡ At (t .hex)) × SpotOf w h t × (c ≡ 0) × (out ≡ set l (t .hex) (enteredBy d))
 EnterOf w h l a d out Over = neighbourOf w h a d ≡ Off
 
@@ -96,7 +96,7 @@ pub record Last (next home : ℕ → ℕ → Beside) (l : List ℕ) (a c : ℕ) 
   pub nowhere : home a (mark l a / 8 - 1) ≡ Off
   pub left : out ≡ set l a (mark l a + 7)
 
-abbrev pub StepOf : ℕ → ℕ → (ℕ → ℕ → Beside) → (ℕ → ℕ → Beside) → List ℕ → ℕ → ℕ → List ℕ → Onward → Type 0
+abbrev pub StepOf : ℕ → ℕ → (ℕ → ℕ → Beside) → (ℕ → ℕ → Beside) → List ℕ → ℕ → ℕ → List ℕ → Going → Type 0
 StepOf w h next home l a c out (To t e) = Step next home l a c out (t .hex) e × SpotOf w h t
 StepOf w h next home l a c out Over = Last next home l a c out
 

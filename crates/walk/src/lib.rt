@@ -17,7 +17,7 @@ use grid::near;
 use position::View;
 
 // Where the walk goes on: at a hex, with the direction that it looks in next there. Or it is over.
-pub enum Onward {
+pub enum Going {
     To(Spot, usize),
     Over,
 }
@@ -34,7 +34,7 @@ fn flood(p: &[u8], v: View, buf: &mut [u8], start: usize)
     let mut s = near::spot(v.width, v.height, start);
     let mut from = 0;
     loop {
-        let Onward::To(t, f) = step::step(p, v, buf, s, from) else {
+        let Going::To(t, f) = step::step(p, v, buf, s, from) else {
             return;
         };
         s = t;

@@ -7,8 +7,8 @@ ghost use Rattle.position.specs.Board.{ground};
 ghost use Rattle.position.specs.Ground.{beside, next};
 ghost use Rattle.position.specs.Laid.{Laid};
 ghost use Rattle.walk.specs.Chain.{mark};
-ghost use Rattle.walk.specs.Trail.{Ready, onward, HomeOf, EnterOf, StepOf};
-use crate::Onward;
+ghost use Rattle.walk.specs.Trail.{Ready, arriving, HomeOf, EnterOf, StepOf};
+use crate::Going;
 use crate::look;
 use grid::Nearby;
 use grid::Spot;
@@ -16,17 +16,17 @@ use grid::near;
 use position::View;
 
 // On at `b`, from direction `from` on; over if there is no hex.
-fn arrive(b: Nearby, from: usize) -> Onward
-    ensures { λ r. ⌜ r ≡ onward b from ⌝ }
+fn arrive(b: Nearby, from: usize) -> Going
+    ensures { λ r. ⌜ r ≡ arriving b from ⌝ }
 {
     let Nearby::At(t) = b else {
-        return Onward::Over;
+        return Going::Over;
     };
-    Onward::To(t, from)
+    Going::To(t, from)
 }
 
 // Home from spot `s` in direction `dir`. There the walk goes on after the opposite direction, in which it had entered `s`.
-fn home(w: usize, h: usize, s: Spot, dir: usize) -> Onward
+fn home(w: usize, h: usize, s: Spot, dir: usize) -> Going
     requires { ⌜ SpotOf w h s ⌝ }
     ensures { λ r. ⌜ HomeOf w h (s .hex) dir r ⌝ }
 {
@@ -37,12 +37,12 @@ fn home(w: usize, h: usize, s: Spot, dir: usize) -> Onward
         3 => arrive(near::south(w, h, s), 1),
         4 => arrive(near::south_west(w, h, s), 2),
         5 => arrive(near::north_west(w, h, s), 3),
-        _ => Onward::Over,
+        _ => Going::Over,
     }
 }
 
 // Leaves spot `s` for home.
-fn leave(v: View, buf: &mut [u8], s: Spot) -> Onward
+fn leave(v: View, buf: &mut [u8], s: Spot) -> Going
     requires { ⌜ SpotOf (v .width) (v .height) s × Ready (now buf) (s .hex) ⌝ }
     ensures { λ r. ⌜ HomeOf (v .width) (v .height) (s .hex) (mark (now (buf .entry)) (s .hex) / 8 - 1) r ⌝ }
     ensures { λ r. ⌜ now (buf .exit) ≡ set (now (buf .entry)) (s .hex) (mark (now (buf .entry)) (s .hex) + 7) ⌝ }
@@ -54,22 +54,22 @@ fn leave(v: View, buf: &mut [u8], s: Spot) -> Onward
 }
 
 // Enters the hex beside spot `s` in direction `dir`.
-fn enter(v: View, buf: &mut [u8], s: Spot, dir: usize) -> Onward
+fn enter(v: View, buf: &mut [u8], s: Spot, dir: usize) -> Going
     requires { ⌜ SpotOf (v .width) (v .height) s × (dir < 6) ⌝ }
     requires { ⌜ length (now buf) ≡ v .width * v .height ⌝ }
     ensures { λ r. ⌜ EnterOf (v .width) (v .height) (now (buf .entry)) (s .hex) dir (now (buf .exit)) r ⌝ }
 {
     let Nearby::At(t) = near::near(v.width, v.height, s, dir) else {
-        return Onward::Over;
+        return Going::Over;
     };
     let n = t.hex;
     buf[n] = (8 * ((dir + 3) % 6 + 1)) as u8;
-    Onward::To(t, 0)
+    Going::To(t, 0)
 }
 
 // One step of the walk from spot `s`, where it was done with the directions below `from`: it enters the first hex that it finds from there
 // on, or goes home.
-pub fn step(p: &[u8], v: View, buf: &mut [u8], s: Spot, from: usize) -> Onward
+pub fn step(p: &[u8], v: View, buf: &mut [u8], s: Spot, from: usize) -> Going
     requires { ⌜ Laid (now p) v × SpotOf (v .width) (v .height) s ⌝ }
     requires { ⌜ length (now buf) ≡ v .hexes ⌝ }
     requires { ⌜ Ready (now buf) (s .hex) ⌝ }

@@ -7,7 +7,7 @@ use borrow.Author.Needs.{needs}
 use Rattle.grid.proofs.Arith.{small}
 use Rattle.position.specs.Board.{board, ground}
 use Rattle.position.specs.Ground.{joined}
-use Rattle.field.proofs.Bearings.{bearing-below}
+use Rattle.position.proofs.Bearings.{bearing-below}
 use Rattle.odds.proofs.Columns.{crossed-read}
 use Rattle.odds.proofs.crossed.Statement.{statement}
 use Rattle.odds.proofs.crossed.Tie as tie

@@ -6,7 +6,7 @@ use borrow.Author.Needs.{needs}
 use Rattle.position.specs.Board.{board}
 use Rattle.ruling.specs.Judged.{Passes, TestedOf}
 use Rattle.retreat.specs.declared.fate.Fate.{Fate}
-use Rattle.retreat.specs.Retreat.{Owing, groupChecks}
+use Rattle.retreat.specs.Retreat.{RetreatNow, groupChecks}
 use Rattle.retreat.proofs.Fates.{FateSays, fate-says}
 use Rattle.retreat.proofs.Groups.{owed-of, small-hex}
 use Rattle.retreat.proofs.Rulings.{ends-doomed, ends-going, stops-group, stops-pushes, stops-route}
@@ -17,7 +17,7 @@ use Rattle.retreat.proofs.retreat.Tie as tie
 asked :
     (c : tie.After-enum-told)
     → let s = c .before .before .before .before .before .before .before .args in
-    Passes (s .p .now) (groupChecks (board (s .p .now)) (s .hex) (s .route .now) (s .pushes .now)) × Owing (board (s .p .now)) (s .hex)
+    Passes (s .p .now) (groupChecks (board (s .p .now)) (s .hex) (s .route .now) (s .pushes .now)) × RetreatNow (board (s .p .now)) (s .hex)
 asked c = subst (TestedOf _ _ _) (c .enum-told .given .1) (c .before .before .judge-group .ensures)
 
 -- what the group's fate says

@@ -5,14 +5,16 @@ use native.Mathlib.Omega.{arith}
 use borrow.Author.Needs.{needs}
 use Rattle.acceptance.specs.Accepted.{ClockOk}
 use Rattle.position.specs.Board.{desk}
+use Rattle.position.specs.Stage as Stage
 use Rattle.position.proofs.Answers.{said, unsaid, carry, carry-both}
 use Rattle.acceptance.proofs.desk_ok.clock_ok.Statement.{statement}
 use Rattle.acceptance.proofs.desk_ok.clock_ok.Tie as tie
+use Rattle.clock.specs.Phase as Phase
 
 -- all but the last question
 clock : (c : tie.Else5) →
     let d = desk (c .before .before .before .before .before .before .before .before .before .before .before .before .before .args .p .now) in
-    ((d .battle .stage ≡ 0 → ⊥) → d .clock .phase ≡ 1) → ClockOk d
+    ((d .battle .stage ≡ Stage.quiet → ⊥) → d .clock .phase ≡ Phase.combat) → ClockOk d
 clock c combat =
     let q2 = c .before .before .before .before .before in
     let q1 = q2 .before .before .before in

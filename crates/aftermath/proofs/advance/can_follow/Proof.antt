@@ -1,13 +1,13 @@
--- `advance::serves` meets its contract: where the route starts is asked first, then whether it leads to the hex.
+-- `advance::can_follow` meets its contract: where the route starts is asked first, then whether it leads to the hex.
 -- Assumes nothing.
 use mathlib.Core.Path.{_≡_, ap₂, sym, _∙_}
 use borrow.Author.Needs.{needs}
 use borrow.Author.Tests.{not-false, not-true}
 use Rattle.position.specs.Board.{board}
 use Rattle.position.specs.Ground.{joined}
-use Rattle.aftermath.proofs.Advancing.{serves-apart, serves-beside}
-use Rattle.aftermath.proofs.advance.serves.Statement.{statement}
-use Rattle.aftermath.proofs.advance.serves.Tie as tie
+use Rattle.aftermath.proofs.Advancing.{follow-apart, follow-beside}
+use Rattle.aftermath.proofs.advance.can_follow.Statement.{statement}
+use Rattle.aftermath.proofs.advance.can_follow.Tie as tie
 
 -- where the route starts was asked
 beside : (c : tie.After-joined) →
@@ -28,15 +28,15 @@ joined-requires : tie.Need-joined-requires
 joined-requires c κs = search needs
 
 returns : tie.Need-returns
-returns c = sym (serves-apart _ _ _ _ (beside (c .before) ∙ not-true _ (c .if1 .taken)))
+returns c = sym (follow-apart _ _ _ _ (beside (c .before) ∙ not-true _ (c .if1 .taken)))
 
 leads-to-requires : tie.Need-leads-to-requires
 leads-to-requires c κs = search needs
 
 returns-2 : tie.Need-returns-2
-returns-2 c = c .leads-to .ensures ∙ sym (serves-beside _ _ _ _ (beside (c .before .before) ∙ not-false _ (c .before .if1 .left)))
+returns-2 c = c .leads-to .ensures ∙ sym (follow-beside _ _ _ _ (beside (c .before .before) ∙ not-false _ (c .before .if1 .left)))
 
-pub serves-spec : {M : Type 1} → statement M
-serves-spec =
+pub can-follow-spec : {M : Type 1} → statement M
+can-follow-spec =
     tie.close
     (tie.spec hex-requires route-requires joined-requires returns leads-to-requires returns-2)

@@ -7,6 +7,8 @@ use borrow.Author.Needs.{needs}
 use borrow.Author.Tests.{eq-eqb, ne-eqb}
 use Rattle.position.specs.Board.{board}
 use Rattle.position.specs.Change.{makes}
+use Rattle.position.specs.Stage as Stage
+use Rattle.position.specs.Role as Role
 use Rattle.position.proofs.Changes.{laid-makes}
 use Rattle.ruling.proofs.Meets.{pass, ruled, stop}
 use Rattle.aftermath.proofs.Advancing.{closed-is}
@@ -26,14 +28,14 @@ returns : tie.Need-returns
 unfolding closeRule
 returns c =
     let b = board (c .before .before .before .before .args .p .now) in
-    stop (ap not (ne-eqb (b .desk .battle .stage) 3 (λ e. c .if1 .taken (c .before .stage .ensures .is ∙ e))))
+    stop (ap not (ne-eqb (b .desk .battle .stage) Stage.advances (λ e. c .if1 .taken (c .before .stage .ensures .is ∙ e))))
 
 reassign-requires : tie.Need-reassign-requires
 reassign-requires c κs = (c .before .before .before .before .before .pre, omega arith)
 
 pass-on-requires : tie.Need-pass-on-requires
 pass-on-requires c κs =
-    laid-makes (reassigned (board (c .before .before .before .before .before .before .before .before .before .args .p .now)) 2 0) (c .before .before .before .before .before .before .before .before .before .pre) (c .before .before .before .reassign .ensures)
+    laid-makes (reassigned (board (c .before .before .before .before .before .before .before .before .before .args .p .now)) Role.advances Role.none) (c .before .before .before .before .before .before .before .before .before .pre) (c .before .before .before .reassign .ensures)
 
 same-length-2 : tie.Need-same-length-2
 same-length-2 c = search needs
@@ -42,7 +44,7 @@ returns-2 : tie.Need-returns-2
 unfolding closeRule
 returns-2 c =
     let p = c .before .before .before .before .before .before .before .before .before .before .before .before .args .p .now in
-    pass (ap not (eq-eqb (board p .desk .battle .stage) 3 (sym (c .before .before .before .before .before .before .before .before .before .stage .ensures .is) ∙ c .before .before .before .before .before .before .before .before .if1 .left)))
+    pass (ap not (eq-eqb (board p .desk .battle .stage) Stage.advances (sym (c .before .before .before .before .before .before .before .before .before .stage .ensures .is) ∙ c .before .before .before .before .before .before .before .before .if1 .left)))
     (ruled
     (then-on (c .before .before .before .before .before .before .before .before .before .before .before .before .pre .shaped) (closeChanges (board p)) (c .before .before .before .before .before .before .reassign .ensures ∙ ap (makes p) (closed-is (board p)))
     (c .before .before .pass-on .ensures)))

@@ -7,6 +7,7 @@ use borrow.Author.Needs.{needs}
 use borrow.Author.Tests.{eq-eqb, le-leb, lt-leb, ne-eqb}
 use lib.Dec.{leb}
 use Rattle.position.specs.Board.{board}
+use Rattle.position.specs.Stage as Stage
 use Rattle.ruling.proofs.Going.{tested-through}
 use Rattle.ruling.proofs.Meets.{pass, stop}
 use Rattle.aftermath.specs.Advance.{advanceChecks}
@@ -50,7 +51,7 @@ returns-3 c =
     λ l v.
     pass (there (c .before .before))
     (pass (mapped (c .before .before))
-    (stop (ap not (ne-eqb (board (a .p .now) .desk .battle .stage) 3 (λ e. c .if3 .taken (c .before .stage .ensures .is ∙ e))))))
+    (stop (ap not (ne-eqb (board (a .p .now) .desk .battle .stage) Stage.advances (λ e. c .if3 .taken (c .before .stage .ensures .is ∙ e))))))
 
 judge-unit-requires : tie.Need-judge-unit-requires
 judge-unit-requires c κs = search needs
@@ -63,7 +64,7 @@ returns-4 c =
     (λ l v r q m w.
     pass (there (c .before .before .before))
     (pass (mapped (c .before .before .before))
-    (pass (ap not (eq-eqb (board (a .p .now) .desk .battle .stage) 3 (sym (c .before .before .stage .ensures .is) ∙ c .before .if3 .left))) w)))
+    (pass (ap not (eq-eqb (board (a .p .now) .desk .battle .stage) Stage.advances (sym (c .before .before .stage .ensures .is) ∙ c .before .if3 .left))) w)))
     (λ n. n)
     (c .judge-unit .result) (c .judge-unit .ensures)
 

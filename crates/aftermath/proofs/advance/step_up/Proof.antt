@@ -6,6 +6,7 @@ use Rattle.position.proofs.Changes.{laid-make}
 use Rattle.position.specs.Board.{board}
 use Rattle.position.specs.Change.Change.{assigned, placed}
 use Rattle.position.specs.Laid.{Laid}
+use Rattle.position.specs.Role as Role
 use Rattle.aftermath.proofs.Advancing.{both-made}
 use Rattle.aftermath.proofs.Stages.{then-on}
 use Rattle.aftermath.specs.Advance.{advanceChanges}
@@ -28,7 +29,7 @@ assign-requires c κs = (laid (c .before .before .before), omega arith)
 pass-on-requires : tie.Need-pass-on-requires
 pass-on-requires c κs =
     let a = c .before .before .before .before .before .before .before .before .before .before .args in
-    rw (c .before .before .before .assign .ensures) (laid-make (laid (c .before .before .before .before .before .before .before)) (assigned (a .u) 0))
+    rw (c .before .before .before .assign .ensures) (laid-make (laid (c .before .before .before .before .before .before .before)) (assigned (a .u) Role.none))
 
 same-length : tie.Need-same-length
 same-length c = search needs

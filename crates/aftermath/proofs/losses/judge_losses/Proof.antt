@@ -7,6 +7,7 @@ use borrow.Author.Needs.{needs}
 use borrow.Author.Tests.{eq-eqb, ne-eqb}
 use lib.Dec.{eqb}
 use Rattle.position.specs.Board.{board}
+use Rattle.position.specs.Stage as Stage
 use Rattle.ruling.proofs.Meets.{pass, stop}
 use Rattle.ruling.specs.Judged.{Passes, TestedOf}
 use Rattle.ruling.specs.Verdict.Verdict.{refuseIf}
@@ -36,18 +37,18 @@ timed : (c : tie.Else3) →
     Passes (a .p .now)
     (λ v. refuseIf (not (listLength (a .units .now))) 3 0
     (allThere (board (a .p .now)) (a .units .now)
-    (refuseIf (not (eqb (board (a .p .now) .desk .battle .stage) 2)) 2 0 v)))
+    (refuseIf (not (eqb (board (a .p .now) .desk .battle .stage) Stage.losses)) 2 0 v)))
 timed c l v r q m w =
     let a = c .before .before .before .before .before .before .before .before .before .args in
     there (c .before .before) l _ r q m
-    (pass (ap not (eq-eqb (board (a .p .now) .desk .battle .stage) 2 (sym (c .before .stage .ensures .is) ∙ c .if3 .left))) w)
+    (pass (ap not (eq-eqb (board (a .p .now) .desk .battle .stage) Stage.losses (sym (c .before .stage .ensures .is) ∙ c .if3 .left))) w)
 
 owed : (c : tie.After-enum-told2) →
     let a = c .before .before .before .before .before .before .before .before .before .before .before .before .args in
     Passes (a .p .now)
     (λ v. refuseIf (not (listLength (a .units .now))) 3 0
     (allThere (board (a .p .now)) (a .units .now)
-    (refuseIf (not (eqb (board (a .p .now) .desk .battle .stage) 2)) 2 0 (losses (board (a .p .now)) (a .units .now) v))))
+    (refuseIf (not (eqb (board (a .p .now) .desk .battle .stage) Stage.losses)) 2 0 (losses (board (a .p .now)) (a .units .now) v))))
 owed c l v r q m w =
     timed (c .before .before .before) l _ r q m
     (subst (TestedOf _ _ _) (c .enum-told2 .given .1) (c .before .before .each-loss .ensures) .0 l v r q m w)
@@ -80,7 +81,7 @@ returns-4 : tie.Need-returns-4
 unfolding lossChecks
 returns-4 c =
     let a = c .before .before .before .before .before .before .before .before .before .args in
-    λ l v. there (c .before .before) l _ _ _ _ (stop (ap not (ne-eqb (board (a .p .now) .desk .battle .stage) 2 (λ e. c .if3 .taken (c .before .stage .ensures .is ∙ e)))))
+    λ l v. there (c .before .before) l _ _ _ _ (stop (ap not (ne-eqb (board (a .p .now) .desk .battle .stage) Stage.losses (λ e. c .if3 .taken (c .before .stage .ensures .is ∙ e)))))
 
 each-loss-requires : tie.Need-each-loss-requires
 each-loss-requires c κs = (c .before .before .before .before .before .before .before .before .before .pre, omega arith)

@@ -11,6 +11,7 @@ use Rattle.aftermath.proofs.Stages.{then-on}
 use Rattle.aftermath.specs.Losses.{lossChanges}
 use Rattle.aftermath.specs.Stage.{reassigned}
 use Rattle.position.specs.Laid.{Laid}
+use Rattle.position.specs.Role as Role
 use Rattle.aftermath.proofs.losses.lose.Statement.{statement}
 use Rattle.aftermath.proofs.losses.lose.Tie as tie
 
@@ -29,7 +30,7 @@ reassign-requires : tie.Need-reassign-requires
 reassign-requires c κs = (laid (c .before .before .before), omega arith)
 
 pass-on-requires : tie.Need-pass-on-requires
-pass-on-requires c κs = laid-makes (reassigned (board (c .before .before .before .before .before .before .before .destroy-all .last .0)) 1 2) (laid (c .before .before .before .before .before .before .before)) (c .before .before .before .reassign .ensures)
+pass-on-requires c κs = laid-makes (reassigned (board (c .before .before .before .before .before .before .before .destroy-all .last .0)) Role.owes Role.advances) (laid (c .before .before .before .before .before .before .before)) (c .before .before .before .reassign .ensures)
 
 same-length : tie.Need-same-length
 same-length c = search needs

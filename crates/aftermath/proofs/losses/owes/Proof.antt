@@ -4,6 +4,7 @@ use Prim.Native.Nat.{ℕ}
 use mathlib.Core.Path.{ap}
 use borrow.Author.Needs.{needs}
 use lib.Dec.{eqb}
+use Rattle.position.specs.Role as Role
 use Rattle.aftermath.specs.Losses.{owes}
 use Rattle.aftermath.proofs.losses.owes.Statement.{statement}
 use Rattle.aftermath.proofs.losses.owes.Tie as tie
@@ -13,7 +14,7 @@ role-requires c κs = search needs
 
 returns : tie.Need-returns
 unfolding owes
-returns c = ap (λ (k : ℕ). eqb k 1) (c .role .ensures .is)
+returns c = ap (λ (k : ℕ). eqb k Role.owes) (c .role .ensures .is)
 
 pub owes-spec : {M : Type 1} → statement M
 owes-spec = tie.close (tie.spec role-requires returns)

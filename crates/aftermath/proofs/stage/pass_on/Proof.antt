@@ -5,6 +5,7 @@ use mathlib.Core.Path.{sym, _∙_}
 use borrow.Author.Needs.{needs}
 use Rattle.position.proofs.Changes.{laid-make}
 use Rattle.position.specs.Change.Change.{staged}
+use Rattle.position.specs.Stage as Stage
 use Rattle.aftermath.proofs.Stages.{on-advances, on-later, on-quiet}
 use Rattle.aftermath.proofs.stage.pass_on.Statement.{statement}
 use Rattle.aftermath.proofs.stage.pass_on.Tie as tie
@@ -37,7 +38,7 @@ set-stage-requires-2 : tie.Need-set-stage-requires-2
 set-stage-requires-2 c κs = (c .before .before .before .before .before .before .before .before .pre, omega arith, omega arith, omega arith)
 
 clear-routes-requires : tie.Need-clear-routes-requires
-clear-routes-requires c κs = rw (c .before .before .before .set-stage2 .ensures) (laid-make (c .before .before .before .before .before .before .before .before .before .before .before .before .pre) (staged 0 0 0))
+clear-routes-requires c κs = rw (c .before .before .before .set-stage2 .ensures) (laid-make (c .before .before .before .before .before .before .before .before .before .before .before .before .pre) (staged Stage.quiet 0 0))
 
 same-length-3 : tie.Need-same-length-3
 same-length-3 c = search needs

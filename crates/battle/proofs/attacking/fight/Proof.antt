@@ -9,10 +9,11 @@ use Rattle.position.proofs.Shapes.{hexes-most}
 use Rattle.position.specs.Board.{board}
 use Rattle.position.specs.Change.{makes}
 use Rattle.position.specs.Layout.{strength}
+use Rattle.position.proofs.Cells.{all-clear}
 use Rattle.ruling.specs.Verdict.{turnedAll}
 use Rattle.line.specs.Line.{fightingTotal, printedTotal}
 use Rattle.battle.proofs.Asks.{all-adjacent}
-use Rattle.battle.proofs.Fights.{all-clear, all-standing, battled, decides, defence-fits, few-defend, lent-all, need-fits, sides}
+use Rattle.battle.proofs.Fights.{all-standing, battled, decides, defence-fits, few-defend, lent-all, need-fits, sides}
 use Rattle.results.proofs.Upshots.{upshot-fits}
 use Rattle.results.specs.Participants.{participants}
 use Rattle.results.specs.Results.{battleChanges, needOf}

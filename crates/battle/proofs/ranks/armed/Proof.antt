@@ -7,7 +7,7 @@ use borrow.Author.Needs.{needs}
 use lib.Dec.{eqb}
 use lib.ListN.{getD}
 use Rattle.position.specs.Board.{board}
-use Rattle.field.proofs.Bearings.{working-most}
+use Rattle.field.proofs.Workings.{working-most}
 use Rattle.field.specs.Scene.{scene}
 use Rattle.battle.proofs.Lines.{armed-is, map-says, map-size}
 use Rattle.battle.proofs.ranks.armed.Statement.{statement}

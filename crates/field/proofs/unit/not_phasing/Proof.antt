@@ -5,7 +5,7 @@ use mathlib.Core.Path.{sym, ap₂, _∙_}
 use mathlib.Core.Bool.{not}
 use borrow.Author.Needs.{needs}
 use lib.Dec.{eqb}
-use Rattle.field.proofs.Bearings.{phasing-destroyed, phasing-mapped}
+use Rattle.field.proofs.Workings.{phasing-destroyed, phasing-mapped}
 use Rattle.field.proofs.unit.not_phasing.Statement.{statement}
 use Rattle.field.proofs.unit.not_phasing.Tie as tie
 

@@ -5,7 +5,7 @@ use native.Mathlib.Omega.{arith}
 use borrow.Author.Needs.{needs}
 use Rattle.position.specs.Board.{board}
 use Rattle.field.specs.Working.{half}
-use Rattle.field.proofs.Bearings.{working-whole, working-half}
+use Rattle.field.proofs.Workings.{working-whole, working-half}
 use Rattle.field.proofs.unit.working.Statement.{statement}
 use Rattle.field.proofs.unit.working.Tie as tie
 

@@ -10,7 +10,7 @@ use Rattle.field.proofs.zone.holds_neutral.Tie as tie
 returns : tie.Need-returns
 returns c =
     let s = c .before .before .before in
-    sym (holds-no-neutral _ _ _ (none-neutral (s .args .p .now) (sym (s .pre .view .named) ∙ c .if1 .taken) (s .args .f)))
+    sym (holds-no-neutral _ _ _ (none-neutral (s .args .p .now) (sym (s .pre .view .players) ∙ c .if1 .taken) (s .args .f)))
 
 holds-related-requires : tie.Need-holds-related-requires
 holds-related-requires c κs = search needs

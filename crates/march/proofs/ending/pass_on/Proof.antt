@@ -6,8 +6,9 @@ use borrow.Author.Needs.{needs}
 use Rattle.position.specs.Layout.{hexes}
 use Rattle.position.specs.Board.{board}
 use Rattle.position.proofs.Changes.{laid-make, laid-makes}
+use Rattle.position.proofs.Cells.{all-clear}
 use Rattle.clock.specs.Clock.{nextClock}
-use Rattle.march.proofs.Ends.{next-bytes, all-ended, all-clear}
+use Rattle.march.proofs.Ends.{next-bytes, all-ended}
 use Rattle.march.proofs.ending.pass_on.Statement.{statement}
 use Rattle.march.proofs.ending.pass_on.Tie as tie
 

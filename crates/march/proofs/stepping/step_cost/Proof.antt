@@ -7,7 +7,7 @@ use borrow.Author.Needs.{needs}
 use Rattle.position.specs.Board.{board, ground}
 use Rattle.position.specs.Ground.{side}
 use Rattle.march.specs.Step.{sideCost, stepCost}
-use Rattle.field.proofs.Bearings.{bearing-below}
+use Rattle.position.proofs.Bearings.{bearing-below}
 use Rattle.march.proofs.stepping.step_cost.Statement.{statement}
 use Rattle.march.proofs.stepping.step_cost.Tie as tie
 

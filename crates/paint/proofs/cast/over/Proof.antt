@@ -6,7 +6,7 @@ use Rattle.position.specs.Board.{ground}
 use Rattle.position.proofs.Sides.{beside-view}
 use Rattle.paint.proofs.Adding.{adds-none, adds-as}
 use Rattle.paint.proofs.Units.{zone-stamp}
-use Rattle.paint.proofs.Casting.{near-off, near-at, covers-edge, covers-stopped, covers-sea, covers-land, reach-none, reach-only}
+use Rattle.paint.proofs.Casting.{near-off, near-at, covers-edge, covers-stopped, covers-sea, covers-land, cast-none, cast-only}
 use borrow.Author.Needs.{needs}
 use Rattle.paint.proofs.cast.over.Statement.{statement}
 use Rattle.paint.proofs.cast.over.Tie as tie
@@ -27,7 +27,7 @@ returns c =
     let m = ground (a .p .now) in
     let n = a .s .hex in
     let e = sym (beside-view (outset .pre .0 .view) n (a .d)) ∙ near-off (a .v .width) (a .v .height) n (a .d) (c .before .before .near .result) (c .before .before .near .ensures) (c .enum-told .given .1) in
-    adds-none (λ k h i. reach-none m n (a .d) k h (covers-edge m n (a .d) h e))
+    adds-none (λ k h i. cast-none m n (a .d) k h (covers-edge m n (a .d) h e))
 
 between-requires : tie.Need-between-requires
 between-requires c κs =
@@ -44,7 +44,7 @@ returns-2 c =
     let a = c .before .before .before .before .before .before .before .before .args in
     let m = ground (a .p .now) in
     let n = a .s .hex in
-    adds-none (λ k h i. reach-none m n (a .d) k h (covers-stopped m n (a .d) h (omega (arith, c .before .between .ensures .is))))
+    adds-none (λ k h i. cast-none m n (a .d) k h (covers-stopped m n (a .d) h (omega (arith, c .before .between .ensures .is))))
 
 surface-requires : tie.Need-surface-requires
 surface-requires c κs = search needs
@@ -57,7 +57,7 @@ returns-3 c =
     let n = a .s .hex in
     let t = near-at (outset .args .v .width) (outset .args .v .height) (outset .args .s .hex) (outset .args .d) (c .before .before .before .before .before .before .before .near .result) (c .before .before .before .before .before .before .before .near .ensures) (c .before .before .before .before .before .t .given .1) in
     let e = sym (beside-view (outset .pre .0 .view) n (a .d)) ∙ t .0 in
-    adds-none (λ k h i. reach-none m n (a .d) k h (covers-sea m n (a .d) _ e h (omega (arith, c .before .surface .ensures .is))))
+    adds-none (λ k h i. cast-none m n (a .d) k h (covers-sea m n (a .d) _ e h (omega (arith, c .before .surface .ensures .is))))
 
 stamp-requires : tie.Need-stamp-requires
 stamp-requires c κs =
@@ -76,7 +76,7 @@ returns-4 c =
     let t = near-at (outset .args .v .width) (outset .args .v .height) (outset .args .s .hex) (outset .args .d) (c .before .before .before .before .before .before .before .before .before .before .before .near .result) (c .before .before .before .before .before .before .before .before .before .before .before .near .ensures) (c .before .before .before .before .before .before .before .before .before .t .given .1) in
     let e = sym (beside-view (outset .pre .0 .view) n (a .d)) ∙ t .0 in
     adds-as (c .before .before .stamp .ensures)
-    (λ k h i. reach-only m n (a .d) k h _ (covers-land m n (a .d) _ e h (omega (arith, c .before .before .before .before .before .before .before .between .ensures .is)) (λ z. omega (arith, c .before .before .before .before .before .surface .ensures .is, z))))
+    (λ k h i. cast-only m n (a .d) k h _ (covers-land m n (a .d) _ e h (omega (arith, c .before .before .before .before .before .before .before .between .ensures .is)) (λ z. omega (arith, c .before .before .before .before .before .surface .ensures .is, z))))
 
 pub over-spec : {M : Type 1} → statement M
 over-spec =

@@ -1,76 +1,18 @@
--- `ground::joined` meets its contract. The loop's invariant: no direction passed leads there.
--- The measure is how many directions are left.
+-- `ground::joined` meets its contract: hexes are joined exactly if one has a bearing from the other.
 -- Assumes nothing.
-use Prim.Native.Nat.{_-_, _≤_}
-use mathlib.Core.Path.{_≡_, sym, ap, _∙_}
-use mathlib.Core.Bool.{false}
-use native.Mathlib.Omega.{arith}
+use mathlib.Core.Path.{ap, _∙_}
+use Prim.Native.Nat.{ℕ}
 use borrow.Author.Needs.{needs}
-use Rattle.grid.specs.declared.Beside.{Beside}
-use Rattle.position.specs.Tally.{any}
-use Rattle.position.specs.Board.{ground}
-use Rattle.position.specs.Ground.{isAt}
-use Rattle.position.proofs.Tallies.{any-zero, any-true, any-miss}
-use Rattle.position.proofs.Sides.{reaches, joined-is}
+use lib.Dec.{ltb}
+use Rattle.position.proofs.Bearings.{bearing-joined}
 use Rattle.position.proofs.ground.joined.Statement.{statement}
 use Rattle.position.proofs.ground.joined.Tie as tie
 
-abbrev Inv-loop : tie.InvT-loop
-Inv-loop p v h x d₀ d = (d ≤ 6) × (any (reaches (ground p) h x) d ≡ false)
+bearing-requires : tie.Need-bearing-requires
+bearing-requires c κs = search needs
 
-abbrev μ-loop : tie.MeasureT-loop
-μ-loop p v h x d₀ d = 6 - d
-
--- whether the step at hand leads there
-led : (c : tie.After-is-at Inv-loop μ-loop) →
-    let a = c .before .before .before .before .before .args in
-    reaches (ground (a .p .now)) (a .h) (a .x) (c .before .before .before .loop .d) ≡ c .is-at .result
-unfolding reaches
-led c =
-    let a = c .before .before .before .before .before .args in
-    sym (c .is-at .ensures ∙ ap (λ (b : Beside). isAt b (a .x)) (c .before .next .ensures))
-
-loop-holds : tie.Need-loop-holds Inv-loop μ-loop
-loop-holds c = (omega arith, any-zero _)
-
-next-requires : tie.Need-next-requires Inv-loop μ-loop
-next-requires c κs = search needs
-
-is-at-requires : tie.Need-is-at-requires Inv-loop μ-loop
-is-at-requires c κs = search needs
-
-returns : tie.Need-returns Inv-loop μ-loop
-returns c =
-    let a = c .before .before .before .before .before .before .args in
-    sym (joined-is (ground (a .p .now)) (a .h) (a .x) ∙ any-true _ 6 _ (omega arith) (led (c .before) ∙ c .if1 .taken))
-
-add-d : tie.Need-add-d Inv-loop μ-loop
-add-d c = search needs
-
-loop-less : tie.Need-loop-less Inv-loop μ-loop
-loop-less c = search needs
-
-loop-again : tie.Need-loop-again Inv-loop μ-loop
-loop-again c =
-    (omega arith, any-miss _ _ (led (c .before) ∙ c .if1 .left) ∙ c .before .before .before .before .loop .inv .1)
-
-returns-2 : tie.Need-returns-2 Inv-loop μ-loop
-returns-2 c =
-    let a = c .before .before .before .args in
-    let m = ground (a .p .now) in
-    sym (joined-is m (a .h) (a .x) ∙ ap (any (reaches m (a .h) (a .x))) (omega arith) ∙ c .before .loop .inv .1)
+returns : tie.Need-returns
+returns c = ap (λ (k : ℕ). ltb k 6) (c .bearing .ensures .is) ∙ bearing-joined _ _ _
 
 pub joined-spec : {M : Type 1} → statement M
-joined-spec =
-    tie.close
-    (tie.spec
-    Inv-loop
-    μ-loop
-    loop-holds
-    next-requires
-    is-at-requires
-    returns
-    add-d
-    loop-less
-    loop-again
-    returns-2)
+joined-spec = tie.close (tie.spec bearing-requires returns)

@@ -8,7 +8,7 @@ use Rattle.position.proofs.read.player.Statement.{statement}
 use Rattle.position.proofs.read.player.Tie as tie
 
 returns : tie.Need-returns
-returns c = sym (player-out _ _ (omega (arith, c .if1 .taken, c .before .before .before .pre .view .named)))
+returns c = sym (player-out _ _ (omega (arith, c .if1 .taken, c .before .before .before .pre .view .players)))
 
 add-desk-byte : tie.Need-add-desk-byte
 add-desk-byte c = search needs
@@ -18,7 +18,7 @@ desk-byte-requires c κs = search needs
 
 returns-2 : tie.Need-returns-2
 returns-2 c =
-    c .desk-byte .ensures .is ∙ sym (player-in _ _ (omega (arith, c .before .if1 .left, c .before .before .before .before .pre .view .named)))
+    c .desk-byte .ensures .is ∙ sym (player-in _ _ (omega (arith, c .before .if1 .left, c .before .before .before .before .pre .view .players)))
 
 pub player-spec : {M : Type 1} → statement M
 player-spec = tie.close (tie.spec returns add-desk-byte desk-byte-requires returns-2)

@@ -64,14 +64,14 @@ add-desk c = search needs
 add-desk-2 : tie.Need-add-desk-2
 add-desk-2 c = search needs
 
-named-requires : tie.Need-named-requires
-named-requires c κs = search needs
+players-named-requires : tie.Need-players-named-requires
+players-named-requires c κs = search needs
 
 add-if3 : tie.Need-add-if3
 add-if3 c = search needs
 
 add-if3-2 : tie.Need-add-if3-2
-add-if3-2 c = omega (arith, named-most _ (c .named .ensures))
+add-if3-2 c = omega (arith, named-most _ (c .players-named .ensures))
 
 returns-3 : tie.Need-returns-3
 unfolding mapAt unitsAt deskAt
@@ -97,7 +97,7 @@ returns-4 c =
         count = n;
         units = omega arith;
         desk = omega arith;
-        named = c .before .named .ensures;
+        players = c .before .players-named .ensures;
       };
       fits = record {
         units = omega arith;
@@ -106,7 +106,7 @@ returns-4 c =
         columns = omega arith;
         hexes = z .1;
         count = omega arith;
-        named = named-most _ (c .before .named .ensures);
+        players = named-most _ (c .before .players-named .ensures);
       };
     }
 
@@ -128,7 +128,7 @@ with-units-spec =
     add-desk
     mul-desk
     add-desk-2
-    named-requires
+    players-named-requires
     add-if3
     add-if3-2
     returns-3

@@ -7,7 +7,8 @@ use native.Mathlib.Omega.{arith}
 use borrow.Author.Needs.{needs}
 use Rattle.position.specs.Change.{makes}
 use Rattle.position.specs.Laid.{Laid}
-use Rattle.results.proofs.Settles.{all-behind, all-long, all-settled, laid-then, likened-refl, turned-over}
+use Rattle.position.proofs.Changes.{laid-makes}
+use Rattle.results.proofs.Settles.{all-behind, all-long, all-settled, likened-refl, turned-over}
 use Rattle.results.specs.Results.{suffers}
 use Rattle.results.proofs.settling.settle.Statement.{statement}
 use Rattle.results.proofs.settling.settle.Tie as tie
@@ -17,16 +18,16 @@ laid-1 : (c : tie.After-turn-all) → Laid (c .turn-all .last .0) (c .before .be
 laid-1 c = rw (c .turn-all .ensures) (turned-over (c .before .before .before .before .before .pre .0) (c .before .before .before .before .before .args .all .now) .laid)
 
 laid-2 : (c : tie.After-mark-all) → Laid (c .mark-all .last .0) (c .before .before .before .before .before .before .before .before .before .args .v)
-laid-2 c = laid-then _ (laid-1 (c .before .before .before .before)) (c .mark-all .ensures .made _ (likened-refl _))
+laid-2 c = laid-makes _ (laid-1 (c .before .before .before .before)) (c .mark-all .ensures .made _ (likened-refl _))
 
 laid-3 : (c : tie.After-write-routes) → Laid (c .write-routes .last .0) (c .before .before .before .before .before .before .before .before .before .before .before .before .before .args .v)
-laid-3 c = laid-then _ (laid-2 (c .before .before .before .before)) (c .write-routes .ensures)
+laid-3 c = laid-makes _ (laid-2 (c .before .before .before .before)) (c .write-routes .ensures)
 
 laid-4 : (c : tie.After-suffer) → Laid (c .suffer .last .0) (c .before .before .before .before .before .before .before .before .before .before .before .before .before .before .before .before .before .args .v)
-laid-4 c = laid-then _ (laid-3 (c .before .before .before .before)) (c .suffer .ensures)
+laid-4 c = laid-makes _ (laid-3 (c .before .before .before .before)) (c .suffer .ensures)
 
 laid-5 : (c : tie.After-suffer2) → Laid (c .suffer2 .last .0) (c .before .before .before .before .before .before .before .before .before .before .before .before .before .before .before .before .before .before .before .before .before .before .args .v)
-laid-5 c = laid-then _ (laid-4 (c .before .before .before .before .before)) (c .suffer2 .ensures)
+laid-5 c = laid-makes _ (laid-4 (c .before .before .before .before .before)) (c .suffer2 .ensures)
 
 turn-all-requires : tie.Need-turn-all-requires
 turn-all-requires c κs = c .before .before .before .before .pre .0

@@ -13,10 +13,10 @@ use Rattle.routes.proofs.friends.any_friendly.Statement.{statement}
 use Rattle.routes.proofs.friends.any_friendly.Tie as tie
 
 abbrev Inv-loop : tie.InvT-loop
-Inv-loop shown found₀ i₀ found i = (i ≤ 49) × (found ≡ any (friendlyAt shown) i)
+Inv-loop painted found₀ i₀ found i = (i ≤ 49) × (found ≡ any (friendlyAt painted) i)
 
 abbrev μ-loop : tie.MeasureT-loop
-μ-loop shown found₀ i₀ found i = 49 - i
+μ-loop painted found₀ i₀ found i = 49 - i
 
 loop-holds : tie.Need-loop-holds Inv-loop μ-loop
 loop-holds c = (omega arith, sym (any-zero _))
@@ -40,7 +40,7 @@ loop-again : tie.Need-loop-again Inv-loop μ-loop
 unfolding friendlyAt
 loop-again c =
     let l = c .before .before .before .before .before in
-    let t = friendlyAt (l .before .before .args .shown .now) in
+    let t = friendlyAt (l .before .before .args .painted .now) in
     let e = sym (ap friendly (c .before .before .wide .ensures .is)) ∙ sym (c .before .friendly .ensures) in (
       omega arith,
       ⊎-elim
@@ -51,7 +51,7 @@ loop-again c =
 
 returns : tie.Need-returns Inv-loop μ-loop
 returns c =
-    c .before .loop .inv .1 ∙ ap (any (friendlyAt (c .before .before .before .args .shown .now))) (omega arith)
+    c .before .loop .inv .1 ∙ ap (any (friendlyAt (c .before .before .before .args .painted .now))) (omega arith)
 
 pub any-friendly-spec : {M : Type 1} → statement M
 any-friendly-spec =

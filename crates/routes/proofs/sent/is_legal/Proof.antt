@@ -13,10 +13,10 @@ use Rattle.routes.proofs.sent.is_legal.Statement.{statement}
 use Rattle.routes.proofs.sent.is_legal.Tie as tie
 
 abbrev Inv-loop : tie.InvT-loop
-Inv-loop p v at shown f start n route a₀ i₀ a i = (i ≤ n) × Still (legal (board p) f start n route) (board p) f start i a route
+Inv-loop p v at painted f start n route a₀ i₀ a i = (i ≤ n) × Still (legal (board p) f start n route) (board p) f start i a route
 
 abbrev μ-loop : tie.MeasureT-loop
-μ-loop p v at shown f start n route a₀ i₀ a i = n - i
+μ-loop p v at painted f start n route a₀ i₀ a i = n - i
 
 returns : tie.Need-returns Inv-loop μ-loop
 returns c = sym (wrong-length _ _ _ _ _ (c .if1 .taken))

@@ -12,26 +12,26 @@ use Rattle.routes.proofs.window.search.Statement.{statement}
 use Rattle.routes.proofs.window.search.Tie as tie
 
 abbrev Inv-loop2 : tie.InvT-loop2
-Inv-loop2 p v at shown f start n found₀ d1 a d2 b d3₀ found d3 =
+Inv-loop2 p v at painted f start n found₀ d1 a d2 b d3₀ found d3 =
     let k = from (board p) f start n in
     Ahead found (firstRoute (board p) f start n) (further (further k a) b) d3 (rest (further k a) d2 (rest k d1 Nothing))
 
 abbrev μ-loop2 : tie.MeasureT-loop2
-μ-loop2 p v at shown f start n found₀ d1 a d2 b d3₀ found d3 = 6 - d3
+μ-loop2 p v at painted f start n found₀ d1 a d2 b d3₀ found d3 = 6 - d3
 
 abbrev Inv-loop : tie.InvT-loop
-Inv-loop p v at shown f start n found₀ d1 a d2₀ found d2 =
+Inv-loop p v at painted f start n found₀ d1 a d2₀ found d2 =
     let k = from (board p) f start n in
     Ahead found (firstRoute (board p) f start n) (further k a) d2 (rest k d1 Nothing)
 
 abbrev μ-loop : tie.MeasureT-loop
-μ-loop p v at shown f start n found₀ d1 a d2₀ found d2 = 6 - d2
+μ-loop p v at painted f start n found₀ d1 a d2₀ found d2 = 6 - d2
 
 abbrev Inv-search : tie.InvT-search
-Inv-search p v at shown f start n found₀ d1₀ found d1 = Ahead found (firstRoute (board p) f start n) (from (board p) f start n) d1 Nothing
+Inv-search p v at painted f start n found₀ d1₀ found d1 = Ahead found (firstRoute (board p) f start n) (from (board p) f start n) d1 Nothing
 
 abbrev μ-search : tie.MeasureT-search
-μ-search p v at shown f start n found₀ d1₀ found d1 = 6 - d1
+μ-search p v at painted f start n found₀ d1₀ found d1 = 6 - d1
 
 search-holds : tie.Need-search-holds Inv-loop2 μ-loop2 Inv-loop μ-loop Inv-search μ-search
 search-holds c = begins _ _ _ _ (omega arith)

@@ -7,8 +7,8 @@ use borrow.Author.Needs.{needs}
 use Rattle.routes.proofs.window.step.Statement.{statement}
 use Rattle.routes.proofs.window.step.Tie as tie
 
-leads-requires : tie.Need-leads-requires
-leads-requires c κs = search needs
+next-requires : tie.Need-next-requires
+next-requires c κs = search needs
 
 enum-known-x : tie.Need-enum-known-x
 enum-known-x c = search needs
@@ -17,24 +17,24 @@ enum-told : tie.Need-enum-told
 enum-told c = search needs
 
 returns : tie.Need-returns
-returns c = step-off _ _ _ _ _ _ (c .before .before .leads .ensures) (c .enum-told .given .1)
+returns c = step-off _ _ _ _ _ _ (c .before .before .next .ensures) (c .enum-told .given .1)
 
 enters-requires : tie.Need-enters-requires
 enters-requires c κs =
     let s = c .before .before .before .before .before .before .pre in
-    (s .0, s .4, s .1, next-in (s .0 .view) _ _ _ (sym (c .before .before .before .leads .ensures) ∙ c .before .x .given .1), s .2)
+    (s .0, s .4, s .1, next-in (s .0 .view) _ _ _ (sym (c .before .before .before .next .ensures) ∙ c .before .x .given .1), s .2)
 
 returns-2 : tie.Need-returns-2
 returns-2 c =
     let x = c .before .before .before in
-    step-lands _ _ _ _ _ _ (x .before .before .leads .ensures) (x .x .given .1) (c .before .enters .ensures) (c .if1 .taken)
+    step-lands _ _ _ _ _ _ (x .before .before .next .ensures) (x .x .given .1) (c .before .enters .ensures) (c .if1 .taken)
 
 returns-3 : tie.Need-returns-3
 returns-3 c =
     let x = c .before .before .before in
-    step-barred _ _ _ _ _ _ (x .before .before .leads .ensures) (x .x .given .1) (c .before .enters .ensures) (c .if1 .left)
+    step-barred _ _ _ _ _ _ (x .before .before .next .ensures) (x .x .given .1) (c .before .enters .ensures) (c .if1 .left)
 
 pub step-spec : {M : Type 1} → statement M
 step-spec =
     tie.close
-    (tie.spec leads-requires enum-known-x enum-told returns enters-requires returns-2 returns-3)
+    (tie.spec next-requires enum-known-x enum-told returns enters-requires returns-2 returns-3)

@@ -6,14 +6,15 @@ use borrow.Author.Needs.{needs}
 use Rattle.setting.specs.Setting.{TerrainOk}
 use Rattle.position.specs.Board.{chart}
 use Rattle.position.proofs.Answers.{said, unsaid, Passed, none-yet, one-more, all, not-all}
+use Rattle.position.specs.Layout.{chartRows}
 use Rattle.setting.proofs.chart_ok.chart_ok.Statement.{statement}
 use Rattle.setting.proofs.chart_ok.chart_ok.Tie as tie
 
 abbrev Inv-loop : tie.InvT-loop
-Inv-loop p v t₀ t = Passed (TerrainOk (chart p)) t 18
+Inv-loop p v t₀ t = Passed (TerrainOk (chart p)) t chartRows
 
 abbrev μ-loop : tie.MeasureT-loop
-μ-loop p v t₀ t = 18 - t
+μ-loop p v t₀ t = chartRows - t
 
 loop-holds : tie.Need-loop-holds Inv-loop μ-loop
 loop-holds c = none-yet

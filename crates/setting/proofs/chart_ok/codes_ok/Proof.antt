@@ -6,7 +6,7 @@ use mathlib.Core.List.{List}
 use native.Mathlib.Omega.{arith}
 use borrow.Author.Needs.{needs}
 use Rattle.position.specs.Shape.{In}
-use Rattle.position.specs.Layout.{code}
+use Rattle.position.specs.Layout.{code, dieFaces}
 use Rattle.position.proofs.Answers.{said, unsaid, carry, Passed, none-yet, one-more, all, not-all}
 use Rattle.setting.proofs.chart_ok.codes_ok.Statement.{statement}
 use Rattle.setting.proofs.chart_ok.codes_ok.Tie as tie
@@ -15,10 +15,10 @@ abbrev Coded : List ℕ → ℕ → ℕ → Type 0
 Coded p c die = In 1 (code p c (die + 1)) 10
 
 abbrev Inv-loop : tie.InvT-loop
-Inv-loop p v c die₀ die = Passed (Coded p c) die 6
+Inv-loop p v c die₀ die = Passed (Coded p c) die dieFaces
 
 abbrev μ-loop : tie.MeasureT-loop
-μ-loop p v c die₀ die = 6 - die
+μ-loop p v c die₀ die = dieFaces - die
 
 loop-holds : tie.Need-loop-holds Inv-loop μ-loop
 loop-holds c = none-yet

@@ -1,21 +1,23 @@
--- `bearing::bearing` meets its contract. The loop's invariant: no direction passed leads there.
+-- `ground::bearing` meets its contract. The loop's invariant: no direction passed leads there.
 -- The measure is how many directions are left.
 -- Assumes nothing.
-use Prim.Native.Nat.{_-_}
+use Prim.Native.Nat.{_-_, _≤_}
 use mathlib.Core.Path.{_≡_, sym, ap, _∙_}
+use mathlib.Core.Bool.{false}
 use native.Mathlib.Omega.{arith}
 use borrow.Author.Needs.{needs}
 use Rattle.grid.specs.declared.Beside.{Beside}
+use Rattle.position.specs.Tally.{any}
 use Rattle.position.specs.Board.{ground}
 use Rattle.position.specs.Ground.{isAt}
+use Rattle.position.proofs.Tallies.{any-zero, any-miss}
 use Rattle.position.proofs.Sides.{reaches}
-use Rattle.field.proofs.Zones.{None, none-yet, one-more, none-at-all}
-use Rattle.field.proofs.Bearings.{bearing-at, bearing-none}
-use Rattle.field.proofs.bearing.bearing.Statement.{statement}
-use Rattle.field.proofs.bearing.bearing.Tie as tie
+use Rattle.position.proofs.Bearings.{bearing-at, bearing-none}
+use Rattle.position.proofs.ground.bearing.Statement.{statement}
+use Rattle.position.proofs.ground.bearing.Tie as tie
 
 abbrev Inv-loop : tie.InvT-loop
-Inv-loop p v h x d₀ d = None (reaches (ground p) h x) d 6
+Inv-loop p v h x d₀ d = (d ≤ 6) × (any (reaches (ground p) h x) d ≡ false)
 
 abbrev μ-loop : tie.MeasureT-loop
 μ-loop p v h x d₀ d = 6 - d
@@ -30,7 +32,7 @@ led c =
     sym (c .is-at .ensures ∙ ap (λ (b : Beside). isAt b (a .x)) (c .before .next .ensures))
 
 loop-holds : tie.Need-loop-holds Inv-loop μ-loop
-loop-holds c = none-yet
+loop-holds c = (omega arith, any-zero _)
 
 next-requires : tie.Need-next-requires Inv-loop μ-loop
 next-requires c κs = search needs
@@ -40,7 +42,10 @@ is-at-requires c κs = search needs
 
 returns : tie.Need-returns Inv-loop μ-loop
 returns c =
-    record { is = sym (bearing-at _ _ _ _ (omega arith) (c .before .before .before .before .loop .inv .none) (led (c .before) ∙ c .if1 .taken)); small = omega arith }
+    record {
+      is = sym (bearing-at _ _ _ _ (omega arith) (c .before .before .before .before .loop .inv .1) (led (c .before) ∙ c .if1 .taken));
+      small = omega arith;
+    }
 
 add-d : tie.Need-add-d Inv-loop μ-loop
 add-d c = search needs
@@ -49,10 +54,17 @@ loop-less : tie.Need-loop-less Inv-loop μ-loop
 loop-less c = search needs
 
 loop-again : tie.Need-loop-again Inv-loop μ-loop
-loop-again c = one-more (c .before .before .before .before .loop .inv) (omega arith) (led (c .before) ∙ c .if1 .left)
+loop-again c =
+    (omega arith, any-miss _ _ (led (c .before) ∙ c .if1 .left) ∙ c .before .before .before .before .loop .inv .1)
 
 returns-2 : tie.Need-returns-2 Inv-loop μ-loop
-returns-2 c = record { is = sym (bearing-none _ _ _ (none-at-all (c .before .loop .inv) (omega arith))); small = omega arith }
+returns-2 c =
+    let a = c .before .before .before .args in
+    let m = ground (a .p .now) in
+    record {
+      is = sym (bearing-none _ _ _ (ap (any (reaches m (a .h) (a .x))) (omega arith) ∙ c .before .loop .inv .1));
+      small = omega arith;
+    }
 
 pub bearing-spec : {M : Type 1} → statement M
 bearing-spec =

@@ -1,21 +1,18 @@
--- Laws of one unit and one step: the least number that passes a test, the direction of a step, working numbers, and whose phase it is.
+-- Laws of bearings: the least number that passes a test, and the direction of a step.
 -- Assumes nothing.
-use Prim.Native.Nat.{ℕ, zero, suc, _≤_, _<_}
+use Prim.Native.Nat.{ℕ, zero, suc, _<_}
 use mathlib.Core.Path.{_≡_, refl, sym, ap, _∙_}
-use mathlib.Core.Bool.{Bool, true, false, not}
+use mathlib.Core.Bool.{Bool, true, false}
 use native.Mathlib.Omega.{arith}
 use native.Mathlib.Numerals.{add-one}
 use native.Mathlib.Decide.{ℕ-discrete}
-use lib.Dec.{eqb}
-use borrow.Author.Tests.{eq-eqb, ne-eqb}
+use lib.Dec.{ltb}
+use borrow.Author.Tests.{lt-ltb, le-ltb}
 use Rattle.position.specs.Tally.{any}
-use Rattle.position.specs.Board.{Board, Map, nowhere, forceOf}
-use Rattle.position.specs.Ground.{joined}
+use Rattle.position.specs.Board.{Map}
+use Rattle.position.specs.Ground.{least, bearing, joined}
 use Rattle.position.proofs.Tallies.{not-both, either, any-zero, any-miss, any-false, any-never, any-true}
 use Rattle.position.proofs.Sides.{reaches, joined-is}
-use Rattle.field.specs.Working.{half, working}
-use Rattle.field.specs.Bearing.{least, bearing}
-use Rattle.field.specs.Phasing.{notPhasing}
 
 module _ (t : ℕ → Bool) where
   least-zero : least t 0 ≡ 0
@@ -89,29 +86,8 @@ module _ (m : Map) (h x : ℕ) where
   pub bearing-apart : joined m h x ≡ false → bearing m h x ≡ 6
   bearing-apart e = bearing-none (sym (joined-is m h x) ∙ e)
 
--- in supply and out of it
-module _ (b : Board) (u : ℕ) (s : Bool) (n : ℕ) where
-  pub working-whole : s ≡ true → working b u s n ≡ n
-  unfolding working
-  working-whole e = simp e
-
-  pub working-half : s ≡ false → working b u s n ≡ half n
-  unfolding working
-  working-half e = simp e
-
-  half-most : half n ≤ n
-  unfolding half
-  half-most = omega arith
-
-  pub working-most : working b u s n ≤ n
-  working-most = either s (λ e. omega (arith, working-whole e)) (λ e. omega (arith, working-half e, half-most))
-
--- a destroyed unit, and one on the map
-module _ (b : Board) (u : ℕ) where
-  pub phasing-destroyed : b .units .state .hex u ≡ nowhere → notPhasing b u ≡ true
-  unfolding notPhasing
-  phasing-destroyed e = simp (eq-eqb (b .units .state .hex u) nowhere e)
-
-  pub phasing-mapped : (b .units .state .hex u ≡ nowhere → ⊥) → notPhasing b u ≡ not (eqb (forceOf b u) (b .desk .clock .force))
-  unfolding notPhasing
-  phasing-mapped e = simp (ne-eqb (b .units .state .hex u) nowhere e)
+  pub bearing-joined : ltb (bearing m h x) 6 ≡ joined m h x
+  bearing-joined =
+      either (joined m h x)
+      (λ e. lt-ltb (bearing m h x) 6 (bearing-below e) ∙ sym e)
+      (λ e. le-ltb (bearing m h x) 6 (omega (arith, bearing-apart e)) ∙ sym e)
