@@ -4,7 +4,7 @@ use mathlib.Core.Path.{_≡_}
 use native.Mathlib.Omega.{arith}
 use Rattle.position.specs.Board.{Board}
 use Rattle.position.specs.Stage as Stage
-use Rattle.acceptance.specs.Accepted.{QuietOk, RetreatsOk, LossesOk, AdvancesOk, StageOk}
+use Rattle.acceptance.specs.Accepted.{QuietOk, RetreatsOk, AdvancesOk, StageOk}
 
 module _ {b : Board} where
   pub stage-quiet : b .desk .battle .stage ≡ Stage.quiet → b .desk .battle .owed ≡ 0 → b .desk .battle .need ≡ 0 → QuietOk b → StageOk b
@@ -33,20 +33,6 @@ module _ {b : Board} where
             };
         owed = λ n. absurd (n e);
         need = λ _. x;
-      }
-
-  pub stage-losses : b .desk .battle .stage ≡ Stage.losses → b .desk .battle .owed ≡ 0 → LossesOk b → StageOk b
-  stage-losses e n o =
-      record {
-        during =
-            record {
-              quiet = λ f. absurd (omega arith);
-              retreats = λ f. absurd (omega arith);
-              losses = λ _. o;
-              advances = λ f. absurd (omega arith);
-            };
-        owed = λ _. n;
-        need = λ z. absurd (z e);
       }
 
   pub stage-advances : b .desk .battle .stage ≡ Stage.advances → b .desk .battle .owed ≡ 0 → b .desk .battle .need ≡ 0 → AdvancesOk b → StageOk b

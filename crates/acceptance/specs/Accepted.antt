@@ -7,7 +7,7 @@ use mathlib.Core.Bool.{true}
 use Rattle.position.specs.Stage as Stage
 use Rattle.position.specs.Role as Role
 use Rattle.clock.specs.Phase as Phase
-use Rattle.clock.specs.Clock.{lastForce}
+use Rattle.clock.specs.Clock.{lastForce, HasPhase}
 use Rattle.position.specs.Bits.{has, tried, marksEnd}
 use Rattle.position.specs.Kind.{home, mayBelong, mayAllow, alwaysTried}
 use Rattle.position.specs.Layout as Layout
@@ -81,7 +81,7 @@ pub record ClockOk (d : Desk) : Type 0 where
   pub turn : In 1 (d .clock .turn) 60
   pub lastTurn : In (d .clock .turn) (d .lastTurn) 60
   pub force : d .clock .force ≤ lastForce
-  pub phase : d .clock .phase ≤ Phase.last
+  pub phase : HasPhase (d .clock .force) (d .clock .phase)
   -- "Stages: 0 quiet, 1 retreats, 2 losses, 3 advances; 1 to 3 only in phase 1."
   pub stage : d .battle .stage ≤ Stage.advances
   pub combat : (d .battle .stage ≡ Stage.quiet → ⊥) → d .clock .phase ≡ Phase.combat

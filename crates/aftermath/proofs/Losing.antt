@@ -46,11 +46,6 @@ use Rattle.aftermath.specs.Losses.{
 }
 use Rattle.aftermath.specs.Stage.{reassigned}
 
--- a role, as it is asked
-pub owes-is : (b : Board) (u : ℕ) → owes b u ≡ eqb (b .units .state .role u) Role.owes
-unfolding owes
-owes-is b u = refl
-
 -- each test by its cases
 module _ (b : Board) (units : List ℕ) where
   module _ (u : ℕ) where

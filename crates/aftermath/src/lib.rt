@@ -1,4 +1,1 @@
 // Aftermath: what follows a battle. Losses, advances, their close, and how its stages pass on.
-pub mod advance;
-pub mod losses;
-pub mod stage;

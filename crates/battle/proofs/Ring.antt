@@ -1,17 +1,15 @@
 -- The hexes beside a hex: a step leads from each of them in a direction of its own, so there are at most six.
 -- Assumes nothing.
 use Prim.Native.Nat.{ℕ, _+_, _%_}
-use mathlib.Core.Path.{_≡_, refl, ap}
-use mathlib.Core.Bool.{true, false}
+use mathlib.Core.Path.{_≡_}
+use mathlib.Core.Bool.{true}
 use native.Mathlib.Omega.{arith}
 use lib.Dec.{eqb}
-use borrow.Author.Tests.{eqb-true}
-use Rattle.grid.specs.declared.Beside.{Beside}
 use Rattle.grid.specs.declared.Beside.the-variants.{At, Off}
 use Rattle.grid.proofs.Laws.{opposite, other}
 use Rattle.position.specs.Board.{Map}
 use Rattle.position.specs.Ground.{beside, side, blockedSide, next, isAt, joined}
-use Rattle.position.proofs.Tallies.{not-both, either}
+use Rattle.position.proofs.Tallies.{either}
 use Rattle.position.proofs.Sides.{reaches, is-at}
 use Rattle.position.specs.Ground.{bearing}
 use Rattle.position.proofs.Bearings.{bearing-reaches}

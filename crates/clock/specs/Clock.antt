@@ -10,6 +10,10 @@ use Rattle.clock.specs.Phase as Phase
 abbrev pub lastForce : ℕ
 lastForce = 3
 
+-- which force has which phase: "passes 0, 1, 2, then the next force", so each has all of them
+abbrev pub HasPhase : ℕ → ℕ → Type 0
+HasPhase force phase = phase ≤ Phase.last
+
 -- "passes 0, 1, 2, then the next force, and after force 3 the next turn"
 unfoldable pub nextClock : Clock → Clock
 nextClock c =
@@ -19,11 +23,11 @@ nextClock c =
     (record { turn = c .turn; force = c .force + 1; phase = Phase.first }))
     (record { turn = c .turn; force = c .force; phase = c .phase + 1 })
 
--- a clock that may be: "force 0..3", each with every phase, in a turn up to the last
+-- a clock that may be: "force 0..3", in a phase that it has and a turn up to the last
 pub record Timely (lastTurn : ℕ) (c : Clock) : Type 0 where
   pub turn : c .turn ≤ lastTurn
   pub force : c .force ≤ lastForce
-  pub phase : c .phase ≤ Phase.last
+  pub phase : HasPhase (c .force) (c .phase)
 
 -- how many phases come after this one
 unfoldable pub phasesLeft : ℕ → Clock → ℕ

@@ -10,8 +10,8 @@ use Rattle.grid.specs.declared.Beside.{Beside}
 use Rattle.grid.specs.declared.Beside.the-variants.{At, Off}
 use Rattle.position.specs.Tally.{any}
 use Rattle.position.specs.Board.{Board, forceOf, enemy, neutral, relates}
-use Rattle.position.specs.declared.forces.Relation.{Relation}
-use Rattle.position.specs.declared.forces.Relation.the-variants.{Enemy, Neutral}
+use Rattle.position.specs.declared.Relation.{Relation}
+use Rattle.position.specs.declared.Relation.the-variants.{Enemy, Neutral}
 use Rattle.position.specs.Ground.{beside, side}
 use Rattle.position.proofs.Tallies.{both-yes, not-both, either, any-zero, any-miss, any-some, any-true, any-false, any-never}
 use Rattle.field.specs.Scene.{Scene, scene, forceIn}
@@ -63,10 +63,6 @@ module _ (s : Scene) (h u : ℕ) where
 
 module _ (s : Scene) (f h u : ℕ) where
   -- a unit that stands there, and one that does not
-  pub own-off : (s .hex u ≡ h → ⊥) → ownOn s f h u ≡ false
-  unfolding ownOn
-  own-off e = simp (stands-off s h u e)
-
   pub enemy-here : s .hex u ≡ h → enemyOn s f h u ≡ s .enemy f (forceIn s u)
   unfolding enemyOn
   enemy-here e = simp (stands-here s h u e)

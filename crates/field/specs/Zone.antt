@@ -8,8 +8,8 @@ use Rattle.grid.specs.declared.Beside.the-variants.{At, Off}
 use Rattle.position.specs.Tally.{any}
 use Rattle.position.specs.Kind.{castsZone, supplyKind}
 use Rattle.position.specs.Ground.{beside, side}
-use Rattle.position.specs.declared.forces.Relation.{Relation}
-use Rattle.position.specs.declared.forces.Relation.the-variants.{Enemy, Neutral}
+use Rattle.position.specs.declared.Relation.{Relation}
+use Rattle.position.specs.declared.Relation.the-variants.{Enemy, Neutral}
 use Rattle.field.specs.Scene.{Scene, forceIn}
 
 -- unit u stands on hex h

@@ -6,7 +6,6 @@ ghost use Rattle.position.specs.Laid.{Laid, Read};
 ghost use Rattle.field.specs.Working.{working};
 ghost use Rattle.field.specs.Phasing.{notPhasing};
 use position::View;
-use position::forces;
 use position::layout;
 use position::read;
 

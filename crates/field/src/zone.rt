@@ -4,9 +4,8 @@ ghost use Rattle.position.specs.Board.{board};
 ghost use Rattle.position.specs.Laid.{Laid};
 ghost use Rattle.field.specs.Scene.{scene};
 ghost use Rattle.field.specs.Zone.{holdsEnemy, holdsNeutral, relatedOn, holdsRelated};
+use position::Relation;
 use position::View;
-use position::forces;
-use position::forces::Relation;
 use position::read;
 
 // Whether unit `u` is in relation `w` to force `f` and stands on hex `h`.

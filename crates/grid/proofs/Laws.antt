@@ -122,6 +122,3 @@ triangle o q r = distance-triangle (distance-is _ _ _ _ o q) (distance-is _ _ _ 
 module _ {w h a b c i j : ℕ} (k : Walk w h a b i) (l : Walk w h b c j) (p : Distance w h a c (i + j)) where
   pub first-part : Distance w h a b i
   first-part = record { reached = k; least = λ m k'. omega (arith, p .least (m + j) (then k' l)) }
-
-  pub last-part : Distance w h b c j
-  last-part = record { reached = l; least = λ m l'. omega (arith, p .least (i + m) (then k l')) }

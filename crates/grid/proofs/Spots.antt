@@ -62,7 +62,3 @@ module _ {w h : ℕ} {s : Spot} (o : SpotOf w h s) where
           let st = stepped w h (s .hex) d b e in
           absurd (f (b % w) (b / w) (column (st .to)) (row (st .to)) (rw (← o .column, ← o .row) at (st .goes)))
       go B.Off e = e
-
--- two spots in one column and one row are one hex
-pub spot-same : {w h : ℕ} {s t : Spot} → SpotOf w h s → SpotOf w h t → s .column ≡ t .column → s .row ≡ t .row → s .hex ≡ t .hex
-spot-same {w} o q c r = spot-number o ∙ ap₂ (λ (r c : ℕ). r * w + c) r c ∙ sym (spot-number q)

@@ -1,7 +1,4 @@
 // March: move and end phase.
-pub mod ending;
-pub mod moving;
-pub mod stepping;
 
 // The answer to a move: done, or refused with the refusal's number and its place in the path.
 pub enum Moved {

@@ -59,7 +59,7 @@ fn lines(out: &mut Output, full: usize, p: &[u8], v: View, maps: &[u8]) -> usize
 
 // The roster of `p`; a refused position prints only `refused 1`.
 pub fn roster(out: &mut Output, full: usize, p: &[u8]) -> usize {
-    let Checked::Whole(v) = acceptance::check(p) else {
+    let Checked::Whole(v) = checking::check(p) else {
         return page::text(out, full, b"refused 1\n");
     };
     let mut maps = [0u8; MAPS];

@@ -8,7 +8,6 @@ ghost use Rattle.position.specs.Laid.{Laid, Read};
 ghost use Rattle.odds.specs.Odds.{smaller, larger, sideMultiple, crossed, smallest, multipleAt, reached, column};
 ghost use Rattle.odds.specs.Adjacent.{Adjacent, AllAdjacent};
 use position::View;
-use position::ground;
 use position::layout;
 use position::read;
 

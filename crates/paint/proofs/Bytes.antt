@@ -4,20 +4,11 @@ use Prim.Native.Nat.{ℕ, _+_, _≤_, _<_}
 use mathlib.Core.Path.{_≡_, refl, sym, ap, _∙_}
 use mathlib.Core.List.{List}
 use native.Mathlib.Omega.{arith}
-use native.Mathlib.Decide.{decLt}
-use lib.ListN.{length, set, replicate, length-set, length-replicate, getD-replicate, List·getD-eq-default}
+use lib.ListN.{length, set, replicate, length-set, length-replicate, List·getD-eq-default}
 use lib.Seq.{getD-set-same, getD-set-other, ext-getD}
 use Rattle.position.specs.Layout.{byte}
 use Rattle.position.proofs.Tallies.{same-or}
 use Rattle.position.proofs.Cells.{byte-empty}
-
--- a number lies below another or not
-within-or : {A : Type 0} (k n : ℕ) → (k < n → A) → (n ≤ k → A) → A
-within-or {A} k n f g = at (decLt k n)
-  where
-    at : Dec (k < n) → A
-    at (yes l) = f l
-    at (no h) = g (omega arith)
 
 -- past its end a buffer shows 0
 pub byte-past : (l : List ℕ) (h : ℕ) → length l ≤ h → byte l h ≡ 0

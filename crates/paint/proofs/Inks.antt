@@ -5,7 +5,7 @@ use mathlib.Core.Path.{_≡_, refl, ap, subst, _∙_}
 use mathlib.Core.Bool.{true, false, _||_}
 use native.Mathlib.Omega.{arith}
 use lib.Dec.{eqb}
-use borrow.Author.Tests.{eq-eqb, ne-eqb, eqb-false}
+use borrow.Author.Tests.{eq-eqb, ne-eqb}
 use Rattle.position.specs.Bits.{has}
 use Rattle.position.proofs.Tallies.{same-or, either}
 use Rattle.position.proofs.BitLaws.{bit-off, bit-there, bit-same}
@@ -91,7 +91,7 @@ has-inked j s m = subst (λ (b : ℕ). has (bit j) (inked b m) ≡ (eqb (bit j) 
 -- it is a byte still
 pub inked-fits : {b m : ℕ} → Stamp b → has b m ≡ false → m < 256 → m + b < 256
 inked-fits {b} {m} s e l =
-    let q : m / bit (s .mark) % 2 ≡ 0 = rw (s .is) (off b m e) in
+    let q : m / bit (s .mark) % 2 ≡ 0 = rw (s .is) (bit-off b m e) in
     omega (arith, fits m (s .mark) q l, s .is)
 
 some-bit : (i : Mark) → (1 ≤ bit i) × (bit i ≤ 16)

@@ -13,8 +13,6 @@ use grid::Nearby;
 use grid::Spot;
 use grid::near;
 use position::View;
-use position::forces;
-use position::ground;
 use position::kind::Kind;
 use position::read;
 

@@ -8,7 +8,6 @@ use crate::frame;
 use crate::frame::Frame;
 use grid::Spot;
 use position::View;
-use position::forces;
 use position::kind::Kind;
 use position::read;
 

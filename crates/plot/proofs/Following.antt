@@ -14,8 +14,8 @@ use Rattle.chains.specs.declared.Stand.the-variants.{Shut, Free, Loose}
 use Rattle.chains.specs.Chain.{Stands, leads, most, after}
 use Rattle.chains.specs.Series.{Land}
 use Rattle.chains.specs.Follows.{takes, byStand, byTaken, follows}
-use Rattle.plot.specs.declared.follow.Took.{Took}
-use Rattle.plot.specs.declared.follow.Took.the-variants as T
+use Rattle.plot.specs.declared.Took.{Took}
+use Rattle.plot.specs.declared.Took.the-variants as T
 use Rattle.plot.specs.Plot.{places, wide, standIn, nextIn, landIn, shifted}
 use Rattle.plot.specs.Places.{placeFor, homeFor}
 use Rattle.plot.specs.Follow.{placesFrom, followsIn, goesOn, Stepped, PushedOut}

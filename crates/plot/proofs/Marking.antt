@@ -7,7 +7,6 @@ use mathlib.Core.List.{List}
 use native.Mathlib.Omega.{arith}
 use lib.ListN.{length, set, length-set}
 use lib.Seq.{getD-set-same, getD-set-other}
-use borrow.Author.Tests.{eq-eqb, eqb-false}
 use Rattle.position.specs.Bits.{has}
 use Rattle.position.specs.Layout.{byte}
 use Rattle.position.proofs.Tallies.{same-or}

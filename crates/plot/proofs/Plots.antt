@@ -42,10 +42,6 @@ module _ (m k : ℕ) (l : k < 4) where
   unfolding restood
   restood-low = omega arith
 
-  pub restood-small : m < 256 → restood m k < 256
-  unfolding restood
-  restood-small s = omega arith
-
   bit : (n : ℕ) → restood m k / n ≡ m / n → has n (restood m k) ≡ has n m
   unfolding has
   bit n e = ap (λ (q : ℕ). eqb (q % 2) 1) e
@@ -86,9 +82,6 @@ module _ (l : List ℕ) (i d z : ℕ) (e : nextIn l i d ≡ At z) where
 
   pub next-below : z < places
   next-below = omega (arith, stepped wide high i d z next-beside .to .below)
-
-  pub next-from : i < places
-  next-from = omega (arith, stepped wide high i d z next-beside .from .below)
 
   pub next-near : (z ≤ i + 15) × (i ≤ z + 15)
   next-near =

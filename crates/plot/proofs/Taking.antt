@@ -17,8 +17,8 @@ use Rattle.position.proofs.Tallies.{any-miss, any-true, either, same-or}
 use Rattle.chains.specs.Chain.{Ways, Stands, rests, yields, leads, hasRest, most}
 use Rattle.chains.specs.Follows.{upTo, wrong, takes, none}
 use Rattle.chains.proofs.Chains.{leads-steps}
-use Rattle.plot.specs.declared.follow.Took.{Took}
-use Rattle.plot.specs.declared.follow.Took.the-variants as T
+use Rattle.plot.specs.declared.Took.{Took}
+use Rattle.plot.specs.declared.Took.the-variants as T
 use Rattle.plot.specs.Plot.{places, standIn, nextIn, shifted}
 use Rattle.plot.specs.Places.{placeFor}
 use Rattle.plot.specs.Follow.{placesFrom, tookOf, TookIn, PushedOut}

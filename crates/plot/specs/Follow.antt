@@ -7,8 +7,8 @@ use mathlib.Core.List.{List, [], _∷_, map}
 use lib.ListN.{drop, length}
 use Rattle.chains.specs.Chain.{most}
 use Rattle.chains.specs.Follows.{Taken, upTo, wrong, takes, follows}
-use Rattle.plot.specs.declared.follow.Took.{Took}
-use Rattle.plot.specs.declared.follow.Took.the-variants as T
+use Rattle.plot.specs.declared.Took.{Took}
+use Rattle.plot.specs.declared.Took.the-variants as T
 use Rattle.plot.specs.Plot.{places, standIn, nextIn, landIn, shifted}
 use Rattle.plot.specs.Places.{placeFor, homeFor}
 

@@ -1,7 +1,5 @@
 // A plot: a small map of its own on which pushes are searched for and tested, without a byte of the position.
 pub mod chain;
-pub mod follow;
-pub mod search;
 pub mod spot;
 
 ghost use mathlib.Core.Path.{_≡_};
@@ -19,6 +17,12 @@ pub const WIDE: usize = 14;
 pub const HIGH: usize = 13;
 
 pub const PLACES: usize = 182;
+
+// What a chain takes of the pushes sent: up to its last place, and the number of the first push that it leaves.
+pub enum Took {
+    UpTo(usize, usize),
+    Wrong,
+}
 
 // What place `i` is to those who move.
 pub fn stand_in(plot: &[u8; 182], i: usize) -> Stand

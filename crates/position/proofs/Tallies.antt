@@ -115,9 +115,6 @@ module _ (t : ℕ → Bool) where
       (λ p. omega (arith, hit t n p))
       (λ p. same-or k n (λ q. not-both (t n) (ap t (sym q) ∙ e) p) (λ h. omega (arith, miss t n p, tally-pos n k (omega arith) e)))
 
-  pub tally-none : (n k : ℕ) → tally t n ≡ 0 → k < n → t k ≡ false
-  tally-none n k z l = either (t k) (λ e. absurd (omega (arith, tally-pos n k l e))) (λ e. e)
-
   pub any-some : (n : ℕ) → any t n ≡ true → Some t n
   any-some zero e = not-both (any t 0) e any-zero
   any-some (suc n) e =

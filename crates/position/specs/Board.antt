@@ -10,8 +10,8 @@ use Rattle.position.specs.Bits.{has, tried}
 use Rattle.position.specs.Kind as Kind
 use Rattle.position.specs.Layout as Layout
 pub use Rattle.position.specs.Layout.{nowhere}
-use Rattle.position.specs.declared.forces.Relation.{Relation}
-use Rattle.position.specs.declared.forces.Relation.the-variants.{Enemy, Neutral}
+use Rattle.position.specs.declared.Relation.{Relation}
+use Rattle.position.specs.declared.Relation.the-variants.{Enemy, Neutral}
 
 -- cost and defence multiple of the terrains, and behind them of the two river sides
 pub record Chart : Type 0 where

@@ -1,15 +1,10 @@
 // A position as lent bytes: how its bodies lie, and each number read and written by name.
 pub mod bits;
-pub mod crowd;
-pub mod forces;
-pub mod ground;
 pub mod kind;
 pub mod layout;
 pub mod read;
 pub mod role;
-pub mod shape;
 pub mod stage;
-pub mod write;
 
 // What is handed on of a position whose bodies lie as they should: its counts, where its units and its desk begin, and how many
 // players the desk names.
@@ -28,4 +23,10 @@ pub struct View {
 pub enum Checked {
     Whole(View),
     Broken,
+}
+
+// What another force is to a force: its player is another, or the same.
+pub enum Relation {
+    Enemy,
+    Neutral,
 }

@@ -1,5 +1,4 @@
 // The numbers of a checked position, by name. Past the end of a table every number is 0, and every hex 65535.
-ghost use mathlib.Core.Path.{_≡_};
 ghost use Prim.Native.Nat.{_<_};
 ghost use Rattle.position.specs.Layout.{
   cost,
@@ -27,7 +26,6 @@ ghost use Rattle.position.specs.Layout.{
   owed,
   need,
   route,
-  player,
 };
 ghost use Rattle.position.specs.Board.{shown};
 ghost use Rattle.position.specs.Laid.{Laid, Read};
@@ -242,15 +240,4 @@ pub fn route(p: &[u8], v: View, r: usize, j: usize) -> usize
     }
     let at = layout::ROUTES + layout::ROUTE_SIZE * r + layout::PLACE_SIZE * j;
     layout::desk_byte(p, v, at) + 256 * layout::desk_byte(p, v, at + 1)
-}
-
-// The player of force `f`: the force's own number where the desk names none.
-pub fn player(p: &[u8], v: View, f: usize) -> usize
-    requires { ⌜ Laid (now p) v ⌝ }
-    ensures { λ r. ⌜ r ≡ player (now (p .entry)) f ⌝ }
-{
-    if v.players <= f {
-        return f;
-    }
-    layout::desk_byte(p, v, layout::PLAYERS + f)
 }

@@ -12,7 +12,6 @@ use chains::Stand;
 use grid::Beside;
 use plot::spot;
 use position::View;
-use position::ground;
 
 // The number of a stand.
 fn stand_number(s: Stand) -> usize

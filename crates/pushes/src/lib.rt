@@ -8,8 +8,6 @@ ghost use lib.ListN.{length};
 ghost use Rattle.position.specs.Board.{board};
 ghost use Rattle.position.specs.Laid.{Laid};
 ghost use Rattle.pushes.specs.Pushes.{served};
-use plot::follow;
-use plot::search;
 use plot::spot;
 use position::View;
 

@@ -11,8 +11,6 @@ ghost use Rattle.chains.specs.Stand.{apart, firm, bars, stand};
 use chains::Stand;
 use position::View;
 use position::bits;
-use position::forces;
-use position::ground;
 use position::kind::Kind;
 use position::read;
 use position::role;

@@ -15,7 +15,7 @@ use wording::Call;
 
 // The right length of a buffer for the position `p`.
 fn right(p: &[u8]) -> usize {
-    let Checked::Whole(v) = acceptance::check(p) else {
+    let Checked::Whole(v) = checking::check(p) else {
         return 0;
     };
     v.hexes

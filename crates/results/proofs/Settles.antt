@@ -10,9 +10,8 @@ use lib.Dec.{eqb}
 use lib.ListN.{drop, getD, length, length-append, length-drop, take}
 use lib.Seq.{drop-append-seam, take-all}
 use Rattle.position.proofs.Answers.{all}
-use Rattle.position.proofs.Changes.{board-make, board-makes, front-makes, laid-make, laid-turned, makes-snoc, makes-then, turned-made}
+use Rattle.position.proofs.Changes.{board-make, board-makes, laid-make, laid-turned, makes-snoc, makes-then, turned-made}
 use Rattle.position.proofs.Effects.{upd-case}
-use Rattle.position.proofs.Front.{laid-kept}
 use Rattle.position.proofs.Tallies.{either, not-both}
 use Rattle.position.specs.Shape.{Shaped}
 use Rattle.position.specs.Bits.{faced, fought, tried, with}

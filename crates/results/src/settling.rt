@@ -18,7 +18,6 @@ use position::View;
 use position::bits;
 use position::layout;
 use position::read;
-use position::write;
 
 // Every unit of the list is turned over.
 fn turn_all(p: &mut [u8], v: View, us: &[u16])

@@ -17,8 +17,8 @@ use Rattle.chains.specs.Follows.{legalPushes, none}
 use Rattle.chains.specs.Serves.{pushesServe}
 use Rattle.pushes.specs.Pushes.{served}
 use Rattle.shoves.specs.Group.{groupForce}
-use Rattle.retreat.specs.declared.fate.Fate.{Fate}
-use Rattle.retreat.specs.declared.fate.Fate.the-variants.{Lost, WrongPushes, WrongRoute, Pushing, Walking}
+use Rattle.retreat.specs.declared.Fate.{Fate}
+use Rattle.retreat.specs.declared.Fate.the-variants.{Lost, WrongPushes, WrongRoute, Pushing, Walking}
 use Rattle.retreat.specs.Retreat.{doomed, hasRoute, hasSeries, isPart, notPart, notPushed, notVacant, walksFrom}
 use Rattle.retreat.specs.Fate.{fateOf, lostFate, pushFate, routeFate, servedFate}
 

@@ -48,8 +48,8 @@ use Rattle.retreat.specs.Words.{
   VacantRoute,
   answerTo,
 }
-use Rattle.retreat.specs.declared.fate.Fate.{Fate}
-use Rattle.retreat.specs.declared.fate.Fate.the-variants as F
+use Rattle.retreat.specs.declared.Fate.{Fate}
+use Rattle.retreat.specs.declared.Fate.the-variants as F
 use Rattle.retreat.proofs.Fates.{
   FateSays,
   doomed-neither,

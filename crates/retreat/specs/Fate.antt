@@ -9,8 +9,8 @@ use Rattle.chains.specs.Follows.{none, legalPushes}
 use Rattle.pushes.specs.declared.Served.{Served}
 use Rattle.pushes.specs.declared.Served.the-variants.{None, Wrong, Right}
 use Rattle.shoves.specs.Group.{groupForce}
-use Rattle.retreat.specs.declared.fate.Fate.{Fate}
-use Rattle.retreat.specs.declared.fate.Fate.the-variants.{Lost, WrongRoute, WrongPushes, Walking, Pushing}
+use Rattle.retreat.specs.declared.Fate.{Fate}
+use Rattle.retreat.specs.declared.Fate.the-variants.{Lost, WrongRoute, WrongPushes, Walking, Pushing}
 use Rattle.retreat.specs.Retreat.{hasRoute, doomed, isPart}
 
 -- where the group is destroyed: a part route and nothing else was sent, or what was sent is refused

@@ -1,19 +1,4 @@
-// Retreat: a group that owes goes off along a vacant route, pushes friends out of its road, or is destroyed where it can go no further.
-ghost use mathlib.Core.List.{[]};
-ghost use Rattle.position.specs.Board.{board};
-ghost use Rattle.position.specs.Laid.{Laid};
-ghost use Rattle.acceptance.specs.Accepted.{Accepted};
-ghost use Rattle.ruling.specs.Verdict.{Met};
-ghost use Rattle.retreat.specs.Retreat.{retreatRule};
-ghost use Rattle.retreat.specs.Answers.{retreatedAs};
-
-mod asking;
-mod fate;
-mod going;
-
-use fate::Fate;
-use position::View;
-use ruling::Tested;
+// The rule of a retreat: what it answers, what comes of a group, and the laws of both.
 
 // The answer to a retreat: where it ends, that the group is destroyed, or the refusal's number and its place in route and pushes.
 pub enum Retreated {
@@ -22,22 +7,12 @@ pub enum Retreated {
     Refused(usize, usize),
 }
 
-// The retreat on a checked position: the units that owe in `hex` go along `route`; friends in their road go where `pushes` says.
-pub fn retreat(p: &mut [u8], v: View, hex: usize, route: &[u16], pushes: &[u16]) -> Retreated
-    requires { ⌜ Laid (now p) v × Accepted (now p) ⌝ }
-    ensures { λ r. ⌜ Met (now (p .entry)) [] (retreatRule (board (now (p .entry))) hex (now (route .entry)) (now (pushes .entry))) (retreatedAs r) (now (p .exit)) [] ⌝ }
-{
-    if let Tested::Stopped(n, k) = asking::judge_group(p, v, hex, route, pushes) {
-        return Retreated::Refused(n, k);
-    }
-    match fate::decide(p, v, hex, route, pushes) {
-        Fate::Lost => {
-            going::fall(p, v, hex, route);
-            Retreated::Destroyed
-        }
-        Fate::WrongRoute => Retreated::Refused(14, 0),
-        Fate::WrongPushes => Retreated::Refused(17, 0),
-        Fate::Walking => Retreated::To(going::go_off(p, v, hex, route)),
-        Fate::Pushing => Retreated::To(going::push_off(p, v, hex, route, pushes)),
-    }
+// Lost: destroyed, with the part route that was sent. WrongRoute: refused, since a vacant route exists or a part route is due, and what was
+// sent is none. WrongPushes: refused, since only pushes serve. Walking and Pushing: it goes.
+pub enum Fate {
+    Lost,
+    WrongRoute,
+    WrongPushes,
+    Walking,
+    Pushing,
 }

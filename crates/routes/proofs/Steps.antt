@@ -8,15 +8,14 @@ use lib.Dec.{eqb}
 use borrow.Author.Tests.{eqb-true, eq-eqb}
 use Rattle.grid.specs.declared.Beside.{Beside}
 use Rattle.grid.specs.declared.Beside.the-variants.{At, Off}
-use Rattle.grid.specs.Map.{neighbourOf}
 use Rattle.grid.specs.Walk.{distanceOf}
 use Rattle.position.specs.declared.View.{View}
-use Rattle.position.specs.Layout.{ViewOf, width}
+use Rattle.position.specs.Layout.{width}
 use Rattle.position.specs.Laid.{Laid}
 use Rattle.position.specs.Board.{Board, Map, ground}
-use Rattle.position.specs.Ground.{blockedSide, isAt, joined, next, side}
-use Rattle.position.proofs.Tallies.{any-some, any-true, both-yes, not-both, same-or}
-use Rattle.position.proofs.Sides.{beside-view, joined-is, next-beside, next-blocked, next-dir, next-in, off-at, reaches, is-at, at-is}
+use Rattle.position.specs.Ground.{joined, next}
+use Rattle.position.proofs.Tallies.{any-some, any-true, both-yes}
+use Rattle.position.proofs.Sides.{joined-is, next-dir, next-in, off-at, reaches, is-at, at-is}
 use Rattle.routes.specs.Bears.{refuge}
 use Rattle.routes.specs.Run.{Step}
 use Rattle.routes.specs.Legal.{enters, stepsTo}

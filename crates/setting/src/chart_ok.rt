@@ -8,7 +8,6 @@ ghost use Rattle.position.specs.Laid.{Laid, Says};
 use position::View;
 use position::layout;
 use position::read;
-use position::shape;
 
 fn terrain_ok(p: &[u8], v: View, t: usize) -> bool
     requires { ⌜ Laid (now p) v ⌝ }

@@ -6,7 +6,6 @@ ghost use Rattle.setting.specs.Rim.{EdgesOk, RowOk, RightOk};
 ghost use Rattle.position.specs.Laid.{Laid, Says};
 use grid::Beside;
 use position::View;
-use position::ground;
 use position::read;
 
 fn hex_ok(p: &[u8], v: View, h: usize) -> bool

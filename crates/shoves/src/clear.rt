@@ -12,7 +12,6 @@ ghost use Rattle.field.specs.Zone.{standsOn, vacant};
 ghost use Rattle.shoves.specs.Shoves.{shifts, stackTo, clears, outOf, ChainEnds};
 use position::View;
 use position::read;
-use position::write;
 
 // Whether nobody stands on hex `h`.
 fn is_vacant(p: &[u8], v: View, h: usize) -> bool

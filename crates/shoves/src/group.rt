@@ -12,7 +12,6 @@ use position::View;
 use position::kind::Kind;
 use position::read;
 use position::role;
-use position::write;
 
 // Whether unit `u` owes in hex `h`.
 pub fn owes_at(p: &[u8], v: View, h: usize, u: usize) -> bool

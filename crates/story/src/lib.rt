@@ -54,7 +54,7 @@ pub const NOBODY: usize = 5;
 
 // The odds of a column of the results, counted from 1, and the name of a result code.
 pub fn battle(out: &mut Output, full: usize, p: &[u8], column: usize, code: usize) -> usize {
-    let Checked::Whole(v) = acceptance::check(p) else {
+    let Checked::Whole(v) = checking::check(p) else {
         return full;
     };
     table::battle(out, full, p, v, column, code)
@@ -62,7 +62,7 @@ pub fn battle(out: &mut Output, full: usize, p: &[u8], column: usize, code: usiz
 
 // Turn, force and phase.
 pub fn clock(out: &mut Output, full: usize, p: &[u8]) -> usize {
-    let Checked::Whole(v) = acceptance::check(p) else {
+    let Checked::Whole(v) = checking::check(p) else {
         return full;
     };
     table::clock(out, full, p, v)
@@ -94,7 +94,7 @@ fn drawn(out: &mut Output, full: usize, p: &[u8], v: View, nationality: usize) -
 
 // The position as a map of text, its units and its desk. The hexes that are supplied for the nationality are marked.
 pub fn map(out: &mut Output, full: usize, p: &[u8], nationality: usize) -> usize {
-    let Checked::Whole(v) = acceptance::check(p) else {
+    let Checked::Whole(v) = checking::check(p) else {
         return page::text(out, full, b"no map: the position is not accepted\n");
     };
     drawn(out, full, p, v, nationality)

@@ -151,10 +151,10 @@ fn players(out: &mut Output, full: usize, p: &[u8], v: View) -> usize
     if v.players == 0 {
         return full;
     }
-    let f = seat(out, full, b"players: ", 0, read::player(p, v, 0));
-    let h = seat(out, f, b", ", 1, read::player(p, v, 1));
-    let k = seat(out, h, b", ", 2, read::player(p, v, 2));
-    let m = seat(out, k, b", ", 3, read::player(p, v, 3));
+    let f = seat(out, full, b"players: ", 0, forces::player(p, v, 0));
+    let h = seat(out, f, b", ", 1, forces::player(p, v, 1));
+    let k = seat(out, h, b", ", 2, forces::player(p, v, 2));
+    let m = seat(out, k, b", ", 3, forces::player(p, v, 3));
     page::line(out, m)
 }
 

@@ -6,7 +6,6 @@ use crate::Tile;
 use page::Output;
 use position::View;
 use position::bits;
-use position::crowd;
 use position::read;
 use wording::names;
 

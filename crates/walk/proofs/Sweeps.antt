@@ -8,7 +8,6 @@ use mathlib.Core.List.{List}
 use mathlib.Core.Logic.{inl, inr, _↔_}
 use native.Mathlib.Omega.{arith}
 use lib.ListN.{length, set, length-set}
-use lib.Dec.{eqb}
 use borrow.Author.Tests.{ltb-true, lt-ltb, eq-eqb, ne-eqb, eqb-true, eqb-false, not-true}
 use Rattle.grid.specs.declared.Beside.{Beside}
 use Rattle.grid.specs.declared.Beside.the-variants.{At, Off}
@@ -17,7 +16,7 @@ use Rattle.walk.specs.Chain.{mark, Chain, OneIf, Reached}
 use Rattle.walk.specs.Chain.Chain.{source, beside}
 use Rattle.walk.specs.Sweep.{sourceAt, joins, touch, sweep, sweeps, chained, tab, reach}
 use Rattle.position.proofs.Sides.{off-at}
-use Rattle.walk.proofs.Marks.{le-or, mark-set, mark-in, tab-length, tab-at, tab-mark, tab-only, weigh, weigh-less, weigh-most}
+use Rattle.walk.proofs.Marks.{le-or, mark-set, mark-in, tab-mark, tab-only, weigh, weigh-less, weigh-most}
 
 record Found (l : List ℕ) (r : Beside) : Type 0 where
   hex : ℕ
@@ -204,9 +203,6 @@ module _ (next : ℕ → ℕ → Beside) where
         let t = sweeps-end n l (omega (arith, weigh-most dull dull-most l)) in
         eq-eqb (mark (sweeps next n l) a) 2 (still-source (sweeps next n l) t (sweeps-alike n l .to s))
 
-    pub chained-iff : (l : List ℕ) (a : ℕ) → (chained next l a ≡ true) ↔ Chain next (mark l) a
-    chained-iff l a = (true-chain l a, chain-true l a)
-
     pub chain-false : (l : List ℕ) (a : ℕ) → (Chain next (mark l) a → ⊥) → chained next l a ≡ false
     chain-false l a n = either (chained next l a) (λ e. absurd (n (true-chain l a e))) (λ e. e)
 
@@ -225,24 +221,6 @@ module _ (next : ℕ → ℕ → Beside) where
           go (inl x) = rw (chain-true l k (x .1)) (x .0)
           go (inr x) = rw (chain-false l k (x .1)) (x .0)
 
-      pub reached-is : (k : ℕ) → k < length out → eqb (mark out k) 1 ≡ chained next l k
-      reached-is k p =
-          let e = told k (omega (arith, t .same)) in
-          either (chained next l k)
-          (λ c. rw (e, c) refl)
-          (λ c. rw (e, c) refl)
-
       pub reached-tab : out ≡ reach next l
       unfolding reach
       reached-tab = tab-only (length l) (λ k. cond (chained next l k) 1 0) out (t .same) told
-
-    pub reached-only : {l out out′ : List ℕ} → Reached next l out → Reached next l out′ → out ≡ out′
-    reached-only s t = reached-tab s ∙ sym (reached-tab t)
-
-    pub reach-reached : (l : List ℕ) → Reached next l (reach next l)
-    unfolding reach
-    reach-reached l = record { same = tab-length (length l) _; each = λ k p. each k (chained next l k) refl (tab-at (length l) _ k p) }
-      where
-        each : (k : ℕ) (b : Bool) → chained next l k ≡ b → {m : ℕ} → m ≡ cond (chained next l k) 1 0 → OneIf (Chain next (mark l) k) m
-        each k true e q = inl (q ∙ ap (λ (c : Bool). cond c 1 0) e, true-chain l k e)
-        each k false e q = inr (q ∙ ap (λ (c : Bool). cond c 1 0) e, λ s. not-both _ (chain-true l k s) e)

@@ -12,7 +12,6 @@ use grid::Nearby;
 use grid::Spot;
 use grid::near;
 use position::View;
-use position::ground;
 
 // Whether a step from spot `s` in direction `dir`, where `b` lies, enters a hex: an open one that was not entered yet. Its mark is looked
 // at first, as most are of no use.

@@ -6,12 +6,12 @@ use std::collections::HashMap;
 /// How often a function that calls itself is in one chain at most. Its contract says so, and the prover holds it to that.
 const TURNS: [(&str, usize); 4] = [
     // `2 ≤ k` and `k + i ≤ 3`, with one step fewer at each turn
-    ("plot::search::serves", 2),
+    ("search::serves", 2),
     // `2 ≤ left` and `TrailOk`, which says `left ≤ 3`, with one stack fewer at each turn
     ("plot::chain::can_end", 2),
     ("plot::chain::gather", 2),
     // `1 ≤ left`, and the same
-    ("plot::follow::take", 3),
+    ("follow::take", 3),
 ];
 
 /// The C library's functions, and what each is counted with: a return address and 256 bytes of its own. glibc's use none.

@@ -4,12 +4,6 @@ use mathlib.Core.Path.{sym, ap₂, _∙_}
 use borrow.Author.Needs.{needs}
 use Rattle.plot.proofs.next_in.Statement.{statement}
 use Rattle.plot.proofs.next_in.Tie as tie
-use Rattle.plot.proofs.next_in.Reads as reads
-use Rattle.plot.proofs.next_in.Lts as lts
-use Rattle.grid.proofs.neighbour.Reads as neighbour-reads
-use Rattle.position.proofs.bits.has.Reads as has-reads
-use Rattle.position.proofs.layout.wide.Reads as wide-reads
-use Rattle.plot.proofs.side_bit.Reads as side-bit-reads
 
 -- src/lib.rt:58:18
 side-bit-requires : tie.Need-side-bit-requires

@@ -4,8 +4,6 @@ use native.Mathlib.Omega.{arith}
 use borrow.Author.Needs.{needs}
 use Rattle.plot.proofs.restood.Statement.{statement}
 use Rattle.plot.proofs.restood.Tie as tie
-use Rattle.plot.proofs.restood.Reads as reads
-use Rattle.plot.proofs.restood.Lts as lts
 
 -- src/lib.rt:69:5
 sub-result : tie.Need-sub-result

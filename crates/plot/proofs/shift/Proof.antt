@@ -5,10 +5,6 @@ use Rattle.plot.proofs.Plots.{shift-is}
 use borrow.Author.Needs.{needs}
 use Rattle.plot.proofs.shift.Statement.{statement}
 use Rattle.plot.proofs.shift.Tie as tie
-use Rattle.plot.proofs.shift.Reads as reads
-use Rattle.plot.proofs.shift.Lts as lts
-use Rattle.position.proofs.layout.wide.Reads as wide-reads
-use Rattle.plot.proofs.restood.Reads as restood-reads
 
 -- src/lib.rt:77:37
 element-copy-out-wide : tie.Need-element-copy-out-wide

@@ -3,8 +3,6 @@ use native.Mathlib.Omega.{arith}
 use borrow.Author.Needs.{needs}
 use Rattle.plot.proofs.side_bit.Statement.{statement}
 use Rattle.plot.proofs.side_bit.Tie as tie
-use Rattle.plot.proofs.side_bit.Reads as reads
-use Rattle.plot.proofs.side_bit.Lts as lts
 
 -- src/lib.rt:39:1
 returns : tie.Need-returns

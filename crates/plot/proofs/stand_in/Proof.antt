@@ -5,9 +5,6 @@ use native.Mathlib.Omega.{arith}
 use borrow.Author.Needs.{needs}
 use Rattle.plot.proofs.stand_in.Statement.{statement}
 use Rattle.plot.proofs.stand_in.Tie as tie
-use Rattle.plot.proofs.stand_in.Reads as reads
-use Rattle.plot.proofs.stand_in.Lts as lts
-use Rattle.position.proofs.layout.wide.Reads as wide-reads
 
 -- src/lib.rt:28:26
 element-copy-out-wide : tie.Need-element-copy-out-wide

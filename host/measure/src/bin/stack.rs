@@ -97,7 +97,7 @@ mod tests {
     fn an_exported_function_that_is_not_measured_is_named() {
         let library =
             |names: &[&str]| functions(&names.iter().map(|name| format!("00 <{name}>:\n")).collect::<String>());
-        assert_eq!(unmeasured(&library(&["acceptance::check", "ia_close"])), None);
-        assert_eq!(unmeasured(&library(&["acceptance::check", "ia_close", "ia_new"])), Some("ia_new"));
+        assert_eq!(unmeasured(&library(&["checking::check", "ia_close"])), None);
+        assert_eq!(unmeasured(&library(&["checking::check", "ia_close", "ia_new"])), Some("ia_new"));
     }
 }

@@ -4,9 +4,6 @@ use native.Mathlib.Omega.{arith}
 use borrow.Author.Needs.{needs}
 use Rattle.plot.proofs.chain.ends_in.Statement.{statement}
 use Rattle.plot.proofs.chain.ends_in.Tie as tie
-use Rattle.plot.proofs.chain.ends_in.Reads as reads
-use Rattle.plot.proofs.chain.ends_in.Lts as lts
-use Rattle.position.proofs.layout.wide.Reads as wide-reads
 
 -- src/chain.rt:143:8
 add-if1 : tie.Need-add-if1

@@ -12,10 +12,6 @@ use borrow.Author.Needs.{needs}
 use native.Mathlib.Omega.{arith}
 use Rattle.plot.proofs.chain.has_rest.Statement.{statement}
 use Rattle.plot.proofs.chain.has_rest.Tie as tie
-use Rattle.plot.proofs.chain.has_rest.Reads as reads
-use Rattle.plot.proofs.chain.has_rest.Lts as lts
-use Rattle.plot.proofs.chain.rests.Reads as rests-reads
-use Rattle.plot.proofs.next_in.Reads as next-in-reads
 
 abbrev Inv-loop : tie.InvT-loop
 Inv-loop plot t h d₀ d = (d ≤ 6) × (any (restWay (nextIn plot) (standIn plot) (h ∷ trailOf t) h) d ≡ false)

@@ -11,10 +11,6 @@ use borrow.Author.Needs.{needs}
 use native.Mathlib.Omega.{arith}
 use Rattle.plot.proofs.chain.mark_rests.Statement.{statement}
 use Rattle.plot.proofs.chain.mark_rests.Tie as tie
-use Rattle.plot.proofs.chain.mark_rests.Reads as reads
-use Rattle.plot.proofs.chain.mark_rests.Lts as lts
-use Rattle.plot.proofs.chain.rests.Reads as rests-reads
-use Rattle.plot.proofs.next_in.Reads as next-in-reads
 
 abbrev Inv-loop : tie.InvT-loop
 Inv-loop plot ends₀ x t h d₀ ends d = (d ≤ 6) × Marks x (upTo (restAt (nextIn plot) (standIn plot) (h ∷ trailOf t) h) d) ends₀ ends

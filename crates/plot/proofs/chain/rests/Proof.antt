@@ -5,10 +5,6 @@ use mathlib.Core.Path.{sym, ap, _∙_}
 use borrow.Author.Needs.{needs}
 use Rattle.plot.proofs.chain.rests.Statement.{statement}
 use Rattle.plot.proofs.chain.rests.Tie as tie
-use Rattle.plot.proofs.chain.rests.Reads as reads
-use Rattle.plot.proofs.chain.rests.Lts as lts
-use Rattle.plot.proofs.chain.on_trail.Reads as on-trail-reads
-use Rattle.plot.proofs.stand_in.Reads as stand-in-reads
 
 -- src/chain.rt:60:23
 stand-in-requires : tie.Need-stand-in-requires

@@ -5,10 +5,6 @@ use mathlib.Core.Path.{sym, ap, _∙_}
 use borrow.Author.Needs.{needs}
 use Rattle.plot.proofs.chain.yields.Statement.{statement}
 use Rattle.plot.proofs.chain.yields.Tie as tie
-use Rattle.plot.proofs.chain.yields.Reads as reads
-use Rattle.plot.proofs.chain.yields.Lts as lts
-use Rattle.plot.proofs.chain.on_trail.Reads as on-trail-reads
-use Rattle.plot.proofs.stand_in.Reads as stand-in-reads
 
 -- src/chain.rt:74:24
 stand-in-requires : tie.Need-stand-in-requires

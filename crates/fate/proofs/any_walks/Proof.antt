@@ -1,0 +1,48 @@
+-- `fate::any_walks` meets its contract. The loop's invariant: no unit passed owes there, but for supply units.
+-- The measure is how many are left.
+-- Assumes nothing.
+use Prim.Native.Nat.{_-_}
+use mathlib.Core.Path.{_∙_, ap, sym}
+use native.Mathlib.Omega.{arith}
+use borrow.Author.Needs.{needs}
+use Rattle.position.proofs.Tallies.{any-true}
+use Rattle.position.specs.Board.{board}
+use Rattle.position.specs.Tally.{any}
+use Rattle.retreat.specs.Retreat.{walksFrom}
+use Rattle.field.proofs.Zones.{None, none-at-all, none-yet, one-more}
+use Rattle.fate.proofs.any_walks.Statement.{statement}
+use Rattle.fate.proofs.any_walks.Tie as tie
+
+abbrev Inv-loop : tie.InvT-loop
+Inv-loop p v h count u₀ u = None (walksFrom (board p) h) u count
+
+abbrev μ-loop : tie.MeasureT-loop
+μ-loop p v h count u₀ u = count - u
+
+loop-holds : tie.Need-loop-holds Inv-loop μ-loop
+loop-holds c = none-yet
+
+walks-from-requires : tie.Need-walks-from-requires Inv-loop μ-loop
+walks-from-requires c κs = search needs
+
+returns : tie.Need-returns Inv-loop μ-loop
+returns c = sym (any-true _ _ (c .before .before .before .loop .u) (omega arith) (sym (c .before .walks-from .ensures) ∙ c .if1 .taken))
+
+add-u : tie.Need-add-u Inv-loop μ-loop
+add-u c = search needs
+
+loop-less : tie.Need-loop-less Inv-loop μ-loop
+loop-less c = search needs
+
+loop-again : tie.Need-loop-again Inv-loop μ-loop
+loop-again c = one-more (c .before .before .before .loop .inv) (omega arith) (sym (c .before .walks-from .ensures) ∙ c .if1 .left)
+
+returns-2 : tie.Need-returns-2 Inv-loop μ-loop
+returns-2 c =
+    let s = c .before .before .before in
+    sym
+    (ap (any (walksFrom (board (s .args .p .now)) (s .args .h))) (sym (s .pre .view .count))
+    ∙ none-at-all (c .before .loop .inv) (omega arith))
+
+pub any-walks-spec : {M : Type 1} → statement M
+any-walks-spec = tie.close (tie.spec Inv-loop μ-loop loop-holds walks-from-requires returns add-u loop-less loop-again returns-2)
