@@ -63,6 +63,10 @@ module _ (s : Scene) (h u : ℕ) where
 
 module _ (s : Scene) (f h u : ℕ) where
   -- a unit that stands there, and one that does not
+  pub own-off : (s .hex u ≡ h → ⊥) → ownOn s f h u ≡ false
+  unfolding ownOn
+  own-off e = simp (stands-off s h u e)
+
   pub enemy-here : s .hex u ≡ h → enemyOn s f h u ≡ s .enemy f (forceIn s u)
   unfolding enemyOn
   enemy-here e = simp (stands-here s h u e)

@@ -14,12 +14,12 @@ use Rattle.position.specs.Layout.{byte, hex}
 use Rattle.position.specs.Laid.{Laid, Says}
 use Rattle.position.specs.Board.{Board, board, forceOf, enemy}
 use Rattle.position.specs.Ground.{beside, isAt}
-use Rattle.position.proofs.Tallies.{not-both, either, any-zero, any-step, any-same}
+use Rattle.position.proofs.Tallies.{not-both, either, any-zero, any-step, any-same, any-never}
 use Rattle.position.proofs.Sides.{is-at}
 use Rattle.position.proofs.Cells.{byte-empty}
 use Rattle.field.specs.Scene.{Scene, scene, forceIn}
 use Rattle.field.specs.Zone.{standsOn, vacant, ownOn, holds, supplyUnitOn, enemyOn, holdsEnemy, enemyZone}
-use Rattle.field.proofs.Zones.{force-in}
+use Rattle.field.proofs.Zones.{force-in, stands-off, own-off, enemy-off}
 use Rattle.paint.specs.declared.frame.Frame.{Frame}
 use Rattle.paint.specs.Frame.{Inside, placeOf, Away}
 use Rattle.paint.specs.Paint.{
@@ -185,6 +185,14 @@ module _ (s : Scene) (f u : ℕ) where
         either (isAt (beside (s .map) (s .hex u) d) h)
         (λ e. absurd (a .apart h d i (is-at (beside (s .map) (s .hex u) d) h e)))
         (λ e. simp e)
+
+    pub away-says : (k : Mark) → says s f u k h ≡ false
+    unfolding says markBy zoneBy supplyUnitOn
+    away-says inZone = simp (any-never (covers (s .map) (s .hex u) h) 6 (λ d l. uncovered d), and-false)
+    away-says byEnemy = enemy-off s f h u (a .other h i)
+    away-says byOwn = own-off s f h u (a .other h i)
+    away-says byDepot = simp (own-off s f h u (a .other h i))
+    away-says byAny = stands-off s h u (a .other h i)
 
 -- the same by the view's width and height
 pub unit-away :
