@@ -1,6 +1,8 @@
 // The ground: sides between hexes, steps over unblocked sides, and where a unit may stand.
 ghost use mathlib.Core.Path.{_≡_};
+ghost use mathlib.Core.Bool.{cond};
 ghost use Prim.Native.Nat.{_<_};
+ghost use lib.Dec.{ltb};
 ghost use Rattle.grid.specs.declared.Beside.the-variants.{At};
 ghost use Rattle.position.specs.Board.{board, ground};
 ghost use Rattle.position.specs.Ground.{beside, stored, side, next, isAt, bearing, joined, standable};
@@ -46,15 +48,22 @@ pub fn side(p: &[u8], v: View, h: usize, d: usize) -> usize
     stored(p, v, n, d - 3)
 }
 
+// The hex that keeps the side between hex `h` and its neighbour `n` in direction `d`.
+fn keeper(h: usize, n: usize, d: usize) -> usize
+    ensures { λ r. ⌜ r ≡ cond (ltb d 3) h n ⌝ }
+{
+    if d < 3 {
+        return h;
+    }
+    n
+}
+
 // The side between hex `h` and its neighbour `n` in direction `d`, for one who knows the neighbour.
 pub fn between(p: &[u8], v: View, h: usize, n: usize, d: usize) -> usize
     requires { ⌜ Laid (now p) v × (d < 6) × (beside (ground (now p)) h d ≡ At n) ⌝ }
     ensures { λ r. ⌜ Read (side (ground (now (p .entry))) h d) 4 r ⌝ }
 {
-    if d < 3 {
-        return stored(p, v, h, d);
-    }
-    stored(p, v, n, d - 3)
+    stored(p, v, keeper(h, n, d), d % 3)
 }
 
 // Where a step from hex `h` in direction `d` leads, if the side is not blocked. The neighbour is looked up once, for itself and its side.

@@ -3,10 +3,10 @@
 use Prim.Native.Nat.{ℕ, zero, suc, _+_, _-_, _*_, _/_, _%_, _≤_, _<_}
 use mathlib.Core.Path.{_≡_, refl, sym, ap, ap₂, _∙_}
 use mathlib.Core.List.{List}
-use mathlib.Core.Bool.{Bool, true, false, not, and-false}
+use mathlib.Core.Bool.{Bool, true, false, not, cond, and-false}
 use native.Mathlib.Omega.{arith}
 use native.Mathlib.Decide.{decLt}
-use lib.Dec.{eqb}
+use lib.Dec.{ltb, eqb}
 use borrow.Author.Tests.{lt-ltb, le-ltb, le-leb, lt-leb, eqb-true, eq-eqb, ne-eqb}
 use Rattle.grid.specs.declared.Beside.{Beside}
 use Rattle.grid.specs.declared.Beside.the-variants.{At, Off}
@@ -54,6 +54,14 @@ module _ (m : Map) (h : ℕ) where
     pub side-beyond : (n : ℕ) → 3 ≤ d → beside m h d ≡ At n → side m h d ≡ stored m n (d - 3)
     unfolding storedAt
     side-beyond n l e = side-other l ∙ ap (λ (b : Beside). storedAt m b d) e
+
+    -- kept by one of the two hexes, in one of three directions
+    pub side-kept : (n : ℕ) → d < 6 → beside m h d ≡ At n → stored m (cond (ltb d 3) h n) (d % 3) ≡ side m h d
+    side-kept n l e = at (decLt d 3)
+      where
+        at : Dec (d < 3) → stored m (cond (ltb d 3) h n) (d % 3) ≡ side m h d
+        at (yes k) = let q : d % 3 ≡ d = omega arith in rw (lt-ltb d 3 k, q) (sym (side-own k))
+        at (no k) = let q : d % 3 ≡ d - 3 = omega arith in rw (le-ltb d 3 (omega arith), q) (sym (side-beyond n (omega arith) e))
 
     pub side-edge : 3 ≤ d → beside m h d ≡ Off → side m h d ≡ 0
     unfolding storedAt
