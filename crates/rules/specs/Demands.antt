@@ -20,7 +20,8 @@ use Rattle.rules.specs.Order.{Order, ruleOf, repliesOf, verdict, step}
 use Rattle.rules.specs.Order.Order.{supply}
 
 -- demand 1: "Every call takes every position, order, list and roll, bad ones included, ends, and answers with a ruling or a refusal by
--- number.": for all bytes, orders and buffers there is an outcome that meets the call's promise
+-- number.": for all bytes, orders and buffers there is an outcome that meets the call's promise. This holds of any rules, by the shape of
+-- a verdict; that the code ends, and answers so, is what the contracts of the eight calls in src/lib.rt say, which ask for nothing
 abbrev pub Total : Type 0
 Total =
     (p : List ℕ) (c : Sent Order)

@@ -4,6 +4,9 @@ pub mod Rulings
 pub mod Referee
 pub mod Trials
 pub mod Useless
+pub mod Greying
+pub mod Supplied
+pub mod Turned
 pub mod Onward
 pub mod Examples
 pub mod Certain
