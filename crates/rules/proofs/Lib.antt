@@ -1,4 +1,5 @@
 pub mod Demands
+pub mod Supplied
 pub mod Rulings
 pub mod Referees
 pub mod Useless
