@@ -30,7 +30,7 @@ use Rattle.field.proofs.Workings.{working-whole, working-half}
 use Rattle.supply.specs.Supply as Supply
 use Rattle.supply.proofs.Supplies.{supplied-right}
 use Rattle.march.specs.EndPhase.{rested, restAll, judgedMarks, mappedOf, judgeAll, judgeForce, supplyChanges, endChanges, endRule}
-use Rattle.battle.specs.Line.{strengthOf}
+use Rattle.battle.specs.Line.{fighter, strengthOf}
 use Rattle.rules.specs.Order.{ruleOf, verdict, step}
 use Rattle.rules.specs.Order.Order.{endPhase}
 use Rattle.rules.specs.Supplied.{InSupply, Mapped, MarkedRight, HalvedRight, InSupplyRight}
@@ -179,9 +179,8 @@ marked-right p l u a i j there e =
     (λ x. r .0 (sym t ∙ x), λ x. t ∙ r .1 x)
 
 halved-right : HalvedRight
-unfolding strengthOf
-halved-right p u printed a there =
-    let b = board p in
+unfolding fighter strengthOf
+halved-right b u printed =
     let r = unit-right b u in
     record {
       whole = λ s. working-whole b u (suppliedAt b u) printed (r .1 s);

@@ -7,6 +7,7 @@ use Rattle.rules.specs.Order.{step}
 use Rattle.rules.specs.Demands.{Total, NumbersRight, OneResult, RefusalsLeaveAll, SupplyRight, StaysAccepted, OldDesksRight, Secrecy}
 use Rattle.rules.specs.Referee.{Meets, Agree}
 use Rattle.rules.specs.Useless.{FourUseless}
+use Rattle.rules.specs.Supplied.{InSupplyRight}
 use Rattle.rules.specs.Rulings.{SmallRulings}
 use Rattle.rules.specs.Onward.{NeverStuck}
 
@@ -19,7 +20,7 @@ pub record DemandOne : Type 0 where
   pub leaves : RefusalsLeaveAll
 
 -- 2. The rulings of the rules keep every promise, and a referee that keeps every promise gives no others. A unit is in supply exactly if an
--- unblocked line of hexes to a source exists; a beaten group is trapped exactly if neither a vacant route of the owed length nor a series
+-- unblocked line of hexes to a source exists, by the supply call's bytes, by its mark and by how it fights; a beaten group is trapped exactly if neither a vacant route of the owed length nor a series
 -- of pushes exists, or only supply units owe, and then it is eliminated exactly if it was sent as long a road as it has, which is written;
 -- else what was sent is accepted exactly if it is legal, a vacant route first; and legal are the pushes that can be played on the board,
 -- each step done before the next. Accepted positions stay accepted. Positions
@@ -28,6 +29,7 @@ pub record DemandTwo : Type 0 where
   pub right : Meets step
   pub agree : Agree
   pub supply : SupplyRight
+  pub inSupply : InSupplyRight
   pub group : GroupRight
   pub destroyed : DestroyedRight
   pub trapped : TrappedRight

@@ -14,7 +14,7 @@ use Rattle.ruling.specs.Answers.{IsAccepted}
 use Rattle.field.specs.Scene.{scene}
 use Rattle.field.specs.Working.{half}
 use Rattle.supply.specs.Supply.{Supplied}
-use Rattle.battle.specs.Line.{strengthOf}
+use Rattle.battle.specs.Line.{fighter}
 use Rattle.rules.specs.Order.{step}
 use Rattle.rules.specs.Order.Order.{endPhase}
 
@@ -37,11 +37,11 @@ MarkedRight =
 
 -- "Each strength out of supply at that instant is halved, fractions up, unit by unit."
 pub record Fights (b : Board) (u printed : ℕ) : Type 0 where
-  pub whole : InSupply b u → strengthOf b u printed ≡ printed
-  pub halved : (InSupply b u → ⊥) → strengthOf b u printed ≡ half printed
+  pub whole : InSupply b u → fighter b u printed .fighting ≡ printed
+  pub halved : (InSupply b u → ⊥) → fighter b u printed .fighting ≡ half printed
 
 abbrev pub HalvedRight : Type 0
-HalvedRight = (p : List ℕ) (u printed : ℕ) → Accepted p → Mapped (board p) u → Fights (board p) u printed
+HalvedRight = (b : Board) (u printed : ℕ) → Fights b u printed
 
 pub record InSupplyRight : Type 0 where
   pub marked : MarkedRight
