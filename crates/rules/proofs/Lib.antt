@@ -1,5 +1,6 @@
 pub mod Demands
 pub mod Supplied
+pub mod Turned
 pub mod Rulings
 pub mod Referees
 pub mod Useless
