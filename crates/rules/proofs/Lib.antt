@@ -1,5 +1,6 @@
 pub mod Demands
 pub mod Supplied
+pub mod FaceDown
 pub mod Turned
 pub mod Rulings
 pub mod Referees

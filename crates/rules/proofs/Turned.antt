@@ -1,11 +1,11 @@
 -- Demand 3 by the marks that are seen: a call moves no strength, hides no counter, and leaves face up what it turns over.
 -- Assumes nothing.
 use Prim.Native.Nat.{ℕ, _<_}
-use mathlib.Core.Path.{_≡_, refl, sym, subst, _∙_}
+use mathlib.Core.Path.{_≡_, refl, sym, ap, subst, _∙_}
 use mathlib.Core.Bool.{Bool, true, false, cond}
 use mathlib.Core.List.{List, [], _∷_}
 use native.Mathlib.Omega.{arith}
-use native.Mathlib.Decide.{decLt}
+use native.Mathlib.Decide.{decLt, ℕ-discrete}
 use lib.Dec.{ltb}
 use Rattle.position.specs.Bits.{has, tried}
 use Rattle.position.specs.Layout.{count, marks, strength}
@@ -25,8 +25,10 @@ use Rattle.ruling.specs.Verdict.Verdict.{refuseIf, judge}
 use Rattle.ruling.specs.Secret.{Each, Sent, RunsAlike, verdictOn}
 use Rattle.ruling.proofs.Secrets.{each-by}
 use Rattle.rules.specs.Order.{Order, ruleOf, step}
-use Rattle.rules.specs.Turned.{TurnsOver, BeganAlike, SecrecyByMarks}
+use Rattle.rules.specs.Turned.{TurnsOver, BeganAlike, SecrecyByMarks, Exhibited}
+use Rattle.rules.specs.TrialsOfTurning.{fighting, facing, facingToo, attacking}
 use Rattle.rules.proofs.Demands.{secrecy}
+use Rattle.rules.proofs.FaceDown.{whole-accepted, strength-else, alike-down}
 
 -- unit w lies face up on the board
 abbrev Up : Board → ℕ → Type 0
@@ -138,3 +140,42 @@ module _ (p q : List ℕ) where
 
 pub secrecy-by-marks : SecrecyByMarks
 secrecy-by-marks p q cs a h = runs-on p q p q cs a (λ w. refl) (λ w. refl) h
+
+-- the two positions look alike, and are not equal
+facing-alike : Alike facing facingToo
+unfolding fighting
+facing-alike = alike-down facing 2 4 (whole-accepted facing refl) refl (record { low = omega arith; high = omega arith })
+
+facing-apart : facing ≡ facingToo → ⊥
+unfolding fighting
+facing-apart e = let z : _≡_ {A = ℕ} 5 4 = ap (λ (p : List ℕ). strength p 2) e in omega arith
+
+-- the attack turns unit 0 over, and unit 2 stays face down
+first-turned : TurnsOver facing (step facing attacking .position) 0
+unfolding fighting
+first-turned = (refl, refl)
+
+third-down : has tried (marks (step facing attacking .position) 2) ≡ false
+unfolding fighting
+third-down = refl
+
+-- so whatever it turns over has one strength in both
+began : (u : ℕ) → TurnsOver facing (step facing attacking .position) u → strength facing u ≡ strength facingToo u
+began u t = at (ℕ-discrete u 2)
+  where
+    at : Dec (u ≡ 2) → strength facing u ≡ strength facingToo u
+    at (yes e) = let z : _≡_ {A = ℕ} 0 1 = cc third-down in absurd (omega arith)
+    at (no n) = sym (strength-else facing 2 4 u n)
+
+pub exhibited : Exhibited
+exhibited =
+    record {
+      first = facing;
+      second = facingToo;
+      call = attacking;
+      alike = facing-alike;
+      apart = facing-apart;
+      unit = 0;
+      turned = first-turned;
+      began = (began, tt);
+    }
