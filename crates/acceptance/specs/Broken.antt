@@ -4,6 +4,7 @@ use Prim.Native.Nat.{ℕ, _+_}
 use mathlib.Core.Path.{_≡_}
 use mathlib.Core.List.{List}
 use mathlib.Core.Bool.{Bool, true, false}
+use native.Mathlib.Omega.{arith}
 use native.Mathlib.Decide.{decLe, decLt, ℕ-discrete}
 use lib.ListN.{length}
 use Rattle.position.specs.Stage as Stage
@@ -236,3 +237,10 @@ broken-true {p} n = says-no (accepted? p) n
 pub broken-false : {p : List ℕ} → Accepted p → broken p ≡ false
 unfolding broken
 broken-false {p} a = says-yes (accepted? p) a
+
+pub unbroken : (p : List ℕ) → broken p ≡ false → Accepted p
+unbroken p e = at (accepted? p)
+  where
+    at : Dec (Accepted p) → Accepted p
+    at (yes a) = a
+    at (no n) = let z : _≡_ {A = ℕ} 0 1 = cc (broken-true n) in absurd (omega arith)

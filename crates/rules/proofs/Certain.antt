@@ -6,8 +6,10 @@ use Rattle.retreat.proofs.Road.{road-right}
 use Rattle.retreat.proofs.Words.{group-right, destroyed-right, trapped-right, retreated-right, pushed-right}
 use Rattle.rules.specs.Order.{step}
 use Rattle.rules.specs.Referee.{Meets}
-use Rattle.rules.specs.Certain.{DemandOne, DemandTwo, Certain}
+use Rattle.rules.specs.Certain.{DemandOne, DemandTwo, DemandThree, Certain}
 use Rattle.rules.proofs.Demands.{total, one-result, numbers-right, refusals-leave-all, supply-right, stays-accepted, old-desks-right, secrecy}
+use Rattle.rules.proofs.Supplied.{in-supply-right}
+use Rattle.rules.proofs.Turned.{secrecy-by-marks, exhibited}
 use Rattle.rules.proofs.Referees.{agree}
 use Rattle.rules.proofs.Rulings.{small-rulings}
 use Rattle.rules.proofs.Useless.{four-useless}
@@ -25,6 +27,7 @@ demand-two =
       right = rules-meet;
       agree = agree;
       supply = supply-right;
+      inSupply = in-supply-right;
       group = group-right;
       destroyed = destroyed-right;
       trapped = trapped-right;
@@ -38,5 +41,8 @@ demand-two =
       useless = four-useless;
     }
 
+demand-three : DemandThree
+demand-three = record { seen = secrecy-by-marks; turned = secrecy; exhibited = exhibited }
+
 pub certain : Certain
-certain = record { one = demand-one; two = demand-two; three = secrecy; onward = never-stuck }
+certain = record { one = demand-one; two = demand-two; three = demand-three; onward = never-stuck }

@@ -1,4 +1,4 @@
--- How two positions that look alike are made: one that breaks no line, and the same with another strength under a counter face down.
+-- How two positions that look alike are made: an accepted one, and the same with another strength under a counter face down.
 -- Assumes nothing.
 use Prim.Native.Nat.{ℕ, _<_}
 use mathlib.Core.Path.{_≡_}
@@ -12,17 +12,8 @@ use Rattle.position.specs.Shape.{In}
 use Rattle.position.proofs.Front.{shaped-kept, count-kept}
 use Rattle.position.proofs.Writes.{behind-unit, front-unit, byte-unit, unit-unit, unit-same}
 use Rattle.acceptance.specs.Accepted.{StrengthsOk, Accepted}
-use Rattle.acceptance.specs.Broken.{accepted?, broken, broken-true}
 use Rattle.acceptance.specs.Alike.{Same, Alike}
 use Rattle.acceptance.proofs.Alikes.{board-alike}
-
--- what breaks no line is accepted
-pub whole-accepted : (p : List ℕ) → broken p ≡ false → Accepted p
-whole-accepted p e = at (accepted? p)
-  where
-    at : Dec (Accepted p) → Accepted p
-    at (yes a) = a
-    at (no n) = let z : _≡_ {A = ℕ} 0 1 = cc (broken-true n) in absurd (omega arith)
 
 module _ (p : List ℕ) (u x : ℕ) where
   -- the position with strength x under unit u

@@ -16,6 +16,7 @@ use Rattle.position.specs.Change.Change.{placed, destroyed, marked, assigned, t
 use Rattle.position.specs.Effect.{withHex, withUnits, change}
 use Rattle.position.proofs.Front.{Front, front-refl, front-trans, shaped-kept, count-kept}
 use Rattle.position.proofs.Changes.{Made, made, turned-made}
+use Rattle.acceptance.specs.Broken.{unbroken}
 use Rattle.acceptance.specs.Alike.{Same, Alike}
 use Rattle.acceptance.proofs.Alikes.{strength-alike}
 use Rattle.acceptance.proofs.Stills.{turned-still, turned-tried, marked-still}
@@ -28,7 +29,7 @@ use Rattle.rules.specs.Order.{Order, ruleOf, step}
 use Rattle.rules.specs.Turned.{TurnsOver, BeganAlike, SecrecyByMarks, Exhibited}
 use Rattle.rules.specs.TrialsOfTurning.{fighting, facing, facingToo, attacking}
 use Rattle.rules.proofs.Demands.{secrecy}
-use Rattle.rules.proofs.FaceDown.{whole-accepted, strength-else, alike-down}
+use Rattle.rules.proofs.FaceDown.{strength-else, alike-down}
 
 -- unit w lies face up on the board
 abbrev Up : Board → ℕ → Type 0
@@ -144,7 +145,7 @@ secrecy-by-marks p q cs a h = runs-on p q p q cs a (λ w. refl) (λ w. refl) h
 -- the two positions look alike, and are not equal
 facing-alike : Alike facing facingToo
 unfolding fighting
-facing-alike = alike-down facing 2 4 (whole-accepted facing refl) refl (record { low = omega arith; high = omega arith })
+facing-alike = alike-down facing 2 4 (unbroken facing refl) refl (record { low = omega arith; high = omega arith })
 
 facing-apart : facing ≡ facingToo → ⊥
 unfolding fighting

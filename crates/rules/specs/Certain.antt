@@ -8,6 +8,7 @@ use Rattle.rules.specs.Demands.{Total, NumbersRight, OneResult, Refusals
 use Rattle.rules.specs.Referee.{Meets, Agree}
 use Rattle.rules.specs.Useless.{FourUseless}
 use Rattle.rules.specs.Supplied.{InSupplyRight}
+use Rattle.rules.specs.Turned.{SecrecyByMarks, Exhibited}
 use Rattle.rules.specs.Rulings.{SmallRulings}
 use Rattle.rules.specs.Onward.{NeverStuck}
 
@@ -43,10 +44,16 @@ pub record DemandTwo : Type 0 where
   pub useless : FourUseless
 
 -- 3. Two accepted positions that differ only in face-down strengths are ruled on alike, as long as what is turned over is equal: of the
--- rulings of 2, "never alone".
+-- rulings of 2, "never alone". What is turned over is told by the marks that are seen, or by the moment at which it is turned; and there are
+-- such positions.
+pub record DemandThree : Type 0 where
+  pub seen : SecrecyByMarks
+  pub turned : Secrecy
+  pub exhibited : Exhibited
+
 pub record Certain : Type 0 where
   pub one : DemandOne
   pub two : DemandTwo
-  pub three : Secrecy
+  pub three : DemandThree
   -- and no game gets stuck before its end
   pub onward : NeverStuck
