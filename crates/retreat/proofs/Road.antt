@@ -24,7 +24,7 @@ use Rattle.retreat.proofs.KeepGroup.{Owes}
 use Rattle.retreat.proofs.KeepRetreat.{doom, is-run}
 use Rattle.retreat.proofs.KeepRoute.{routes-room}
 use Rattle.retreat.proofs.Rulings.{ends-doomed}
-use Rattle.retreat.proofs.Words.{destroyed-right, lost-any, parts-right, passes-due}
+use Rattle.retreat.proofs.Words.{destroyed-right, lost-any, on-due, parts-right, passes-due}
 
 -- the four numbers of a route are the start and the route's own
 four :
@@ -78,8 +78,9 @@ module _ {p : List ℕ} {h : ℕ} {route pushes : List ℕ} (d : Due p h route p
 pub road-right : RoadRight
 road-right p h route pushes d a n =
     let b = board p in
+    let o = on-due d in
     let q = destroyed-right p h route pushes d .0 a in
-    let g = falls-by b h route pushes (lost-any b h (q .0)) (parts-right b h route pushes .1 (q .1, q .2)) in
+    let g = falls-by b h route pushes (lost-any b h o (q .0)) (parts-right b h o route pushes .1 (q .1, q .2)) in
     let e = after d g in
     record {
       longest = q .1;

@@ -15,8 +15,7 @@ use Rattle.ruling.specs.Verdict.{Ruling, afterCheck, outcome}
 use Rattle.ruling.specs.Verdict.Ruling.{refused}
 use Rattle.ruling.specs.Answers.{AnswersDestroyed, AnswersRetreated}
 use Rattle.field.specs.Listed.{Charted}
-use Rattle.routes.specs.Run.{LegalRoute, RouteExists}
-use Rattle.routes.specs.Part.{PartRoute}
+use Rattle.routes.specs.Words.{Worded}
 use Rattle.chains.specs.Series.{LegalSeries, SeriesExists}
 use Rattle.shoves.specs.Group.{groupForce}
 use Rattle.retreat.specs.Retreat.{endOf, retreatRule}
@@ -39,12 +38,13 @@ pub record Due (p : List ℕ) (h : ℕ) (route pushes : List ℕ) : Type 0 where
 abbrev pub OnlySupply : Board → ℕ → Type 0
 OnlySupply b h = (u : ℕ) → u < b .units .count → owesAt b h u ≡ true → b .units .counter .kind u ≡ supplyKind
 
--- a route is legal for the group in hex h, and a vacant route exists
+-- a route is legal for the group in hex h: "n steps over unblocked sides, into vacant unprohibited land or coast outside Enemy zones, ending
+-- at distance n", which is the fewest steps over map hexes; and a vacant route exists
 abbrev pub LegalFor : Board → ℕ → List ℕ → Type 0
-LegalFor b h route = LegalRoute b (groupForce b h) h (b .desk .battle .owed) route
+LegalFor b h route = Worded b (groupForce b h) h (b .desk .battle .owed) route
 
 abbrev pub VacantRoute : Board → ℕ → Type 0
-VacantRoute b h = RouteExists b (groupForce b h) h (b .desk .battle .owed)
+VacantRoute b h = (route : List ℕ) × LegalFor b h route
 
 -- route and pushes are legal together, and "such a series of pushes exists"
 abbrev pub LegalWith : Board → ℕ → List ℕ → List ℕ → Type 0
@@ -75,9 +75,14 @@ GroupRight =
 abbrev pub Trapped : Board → ℕ → Type 0
 Trapped b h = Neither b h ⊎ OnlySupply b h
 
+-- "the longest run of steps that each keep a legal route's rules": so many steps that end at that distance, and no others are more
+pub record LongestRoad (b : Board) (f start : ℕ) (route : List ℕ) : Type 0 where
+  pub steps : Worded b f start (length route) route
+  pub most : (other : List ℕ) → Worded b f start (length other) other → length other ≤ length route
+
 -- "the part route .. must be as long as the longest run .., and is empty where only supply units owe"
 pub record PartFor (b : Board) (h : ℕ) (route : List ℕ) : Type 0 where
-  pub others : (OnlySupply b h → ⊥) → PartRoute b (groupForce b h) h route
+  pub others : (OnlySupply b h → ⊥) → LongestRoad b (groupForce b h) h route
   pub supply : OnlySupply b h → route ≡ []
 
 -- a group is destroyed exactly if it is trapped and was sent its part route and no pushes
