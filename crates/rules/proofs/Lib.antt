@@ -5,6 +5,7 @@ pub mod Turned
 pub mod Rulings
 pub mod Referees
 pub mod Useless
+pub mod Greying
 pub mod OnwardCall
 pub mod OnwardStage
 pub mod OnwardEnd

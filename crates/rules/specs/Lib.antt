@@ -3,6 +3,7 @@ pub mod Demands
 pub mod Rulings
 pub mod Referee
 pub mod Trials
+pub mod TrialsOfBattle
 pub mod Useless
 pub mod Greying
 pub mod Supplied
