@@ -1,6 +1,7 @@
 -- Everything that is certain of this referee holds.
 -- Assumes nothing.
 use mathlib.Core.Path.{refl}
+use Rattle.grid.proofs.Walks.{distance-is}
 use Rattle.shoves.proofs.Played.{legal-played-right}
 use Rattle.retreat.proofs.Road.{road-right}
 use Rattle.retreat.proofs.Words.{group-right, destroyed-right, trapped-right, retreated-right, pushed-right}
@@ -8,6 +9,7 @@ use Rattle.rules.specs.Order.{step}
 use Rattle.rules.specs.Referee.{Meets}
 use Rattle.rules.specs.Certain.{DemandOne, DemandTwo, DemandThree, Certain}
 use Rattle.rules.proofs.Demands.{total, one-result, numbers-right, refusals-leave-all, supply-right, stays-accepted, old-desks-right, secrecy}
+use Rattle.rules.proofs.Greying.{greying-out}
 use Rattle.rules.proofs.Supplied.{in-supply-right}
 use Rattle.rules.proofs.Turned.{secrecy-by-marks, exhibited}
 use Rattle.rules.proofs.Referees.{agree}
@@ -28,6 +30,7 @@ demand-two =
       agree = agree;
       supply = supply-right;
       inSupply = in-supply-right;
+      distance = distance-is;
       group = group-right;
       destroyed = destroyed-right;
       trapped = trapped-right;
@@ -39,6 +42,7 @@ demand-two =
       old = old-desks-right;
       small = small-rulings;
       useless = four-useless;
+      greying = greying-out;
     }
 
 demand-three : DemandThree

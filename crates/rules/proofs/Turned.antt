@@ -27,7 +27,7 @@ use Rattle.ruling.specs.Secret.{Each, Sent, RunsAlike, verdictOn}
 use Rattle.ruling.proofs.Secrets.{each-by}
 use Rattle.rules.specs.Order.{Order, ruleOf, step}
 use Rattle.rules.specs.Turned.{TurnsOver, BeganAlike, SecrecyByMarks, Exhibited}
-use Rattle.rules.specs.TrialsOfTurning.{fighting, facing, facingToo, attacking}
+use Rattle.rules.specs.TrialsOfBattle.{fighting, facing, facingToo, attacking}
 use Rattle.rules.proofs.Demands.{secrecy}
 use Rattle.rules.proofs.FaceDown.{strength-else, alike-down}
 

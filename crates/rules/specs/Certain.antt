@@ -4,9 +4,10 @@
 use Rattle.shoves.specs.Played.{LegalPlayedRight}
 use Rattle.retreat.specs.Words.{GroupRight, DestroyedRight, TrappedRight, RoadRight, RetreatedRight, PushedRight}
 use Rattle.rules.specs.Order.{step}
-use Rattle.rules.specs.Demands.{Total, NumbersRight, OneResult, RefusalsLeaveAll, SupplyRight, StaysAccepted, OldDesksRight, Secrecy}
+use Rattle.rules.specs.Demands.{Total, NumbersRight, OneResult, RefusalsLeaveAll, SupplyRight, DistanceRight, StaysAccepted, OldDesksRight, Secrecy}
 use Rattle.rules.specs.Referee.{Meets, Agree}
 use Rattle.rules.specs.Useless.{FourUseless}
+use Rattle.rules.specs.Greying.{GreyingOut}
 use Rattle.rules.specs.Supplied.{InSupplyRight}
 use Rattle.rules.specs.Turned.{SecrecyByMarks, Exhibited}
 use Rattle.rules.specs.Rulings.{SmallRulings}
@@ -25,12 +26,14 @@ pub record DemandOne : Type 0 where
 -- of pushes exists, or only supply units owe, and then it is eliminated exactly if it was sent as long a road as it has, which is written;
 -- else what was sent is accepted exactly if it is legal, a vacant route first; and legal are the pushes that can be played on the board,
 -- each step done before the next. Accepted positions stay accepted. Positions
--- that name no players are ruled on as with four.
+-- that name no players are ruled on as with four. Useless referees are shut out, and so is the one that greys out a hopeless attack, which
+-- breaks demand 3 too.
 pub record DemandTwo : Type 0 where
   pub right : Meets step
   pub agree : Agree
   pub supply : SupplyRight
   pub inSupply : InSupplyRight
+  pub distance : DistanceRight
   pub group : GroupRight
   pub destroyed : DestroyedRight
   pub trapped : TrappedRight
@@ -42,6 +45,7 @@ pub record DemandTwo : Type 0 where
   pub old : OldDesksRight
   pub small : SmallRulings
   pub useless : FourUseless
+  pub greying : GreyingOut
 
 -- 3. Two accepted positions that differ only in face-down strengths are ruled on alike, as long as what is turned over is equal: of the
 -- rulings of 2, "never alone". What is turned over is told by the marks that are seen, or by the moment at which it is turned; and there are

@@ -6,6 +6,8 @@ use mathlib.Core.Bool.{not, false}
 use mathlib.Core.List.{List}
 use lib.ListN.{length}
 use lib.Dec.{eqb}
+use Rattle.grid.specs.Map.{On}
+use Rattle.grid.specs.Walk.{Distance, distanceOf}
 use Rattle.position.specs.Board.{board, enemy, neutral}
 use Rattle.acceptance.specs.Accepted.{Accepted}
 use Rattle.ruling.specs.Verdict.{Ruling, Outcome, Met}
@@ -38,6 +40,10 @@ abbrev pub SupplyRight : Type 0
 SupplyRight =
     (p l : List ℕ) (n h : ℕ) → Accepted p → length l ≡ board p .map .hexes → n ≤ 4 → h < board p .map .hexes
     → OneIf (Supplied (scene (board p)) n h) (mark (step p (record { order = supply n; lent = l }) .lent) h)
+
+-- "Distance is the fewest steps over map hexes, terrain ignored.": so is what the closed form says, by which pushes are judged
+abbrev pub DistanceRight : Type 0
+DistanceRight = (w h a b : ℕ) → On w h a → On w h b → Distance w h a b (distanceOf w a b)
 
 -- an accepted position stays accepted after every call
 abbrev pub StaysAccepted : Type 0

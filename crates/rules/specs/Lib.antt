@@ -8,7 +8,6 @@ pub mod Useless
 pub mod Greying
 pub mod Supplied
 pub mod Turned
-pub mod TrialsOfTurning
 pub mod Onward
 pub mod Examples
 pub mod Certain
