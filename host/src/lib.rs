@@ -8,6 +8,7 @@ pub mod acceptance;
 pub mod advance;
 pub mod attack;
 pub mod battle;
+pub mod believed;
 pub mod checks;
 pub mod clock;
 pub mod close;

@@ -1,3 +1,4 @@
+-- Beside what is certain: vocabulary of contracts and proofs.
 -- How `check` asks for the lines on units in time that grows with their number: each unit alone, then the stacks, then the roles.
 -- Together these are `UnitsOk` (proofs/Asking.antt).
 -- Assumes nothing.

@@ -1,3 +1,4 @@
+-- Beside what is certain: vocabulary of contracts and proofs.
 -- What `check` answers.
 -- Assumes nothing.
 use Prim.Native.Nat.{ℕ}

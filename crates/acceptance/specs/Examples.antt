@@ -1,3 +1,4 @@
+-- Beside what is certain: examples.
 -- `broken` tried on the roster's position and on positions that break one line each.
 -- Assumes nothing.
 use Prim.Native.Nat.{ℕ}

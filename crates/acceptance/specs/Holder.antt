@@ -1,3 +1,4 @@
+-- Beside what is certain: vocabulary of contracts and proofs.
 -- The first unit that has a role, and how many hexes hold units that owe, counted up to seven.
 -- Assumes nothing.
 use Prim.Native.Nat.{ℕ, _≤_, _<_}

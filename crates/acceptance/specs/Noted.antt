@@ -1,3 +1,4 @@
+-- Beside what is certain: vocabulary of contracts and proofs.
 -- The hexes of units that owe, noted in a list in one pass over the units.
 -- Assumes nothing.
 use Prim.Native.Nat.{ℕ, _+_, _<_}

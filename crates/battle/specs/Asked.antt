@@ -1,3 +1,4 @@
+-- Beside what is certain: vocabulary of contracts and proofs.
 -- What is known of an attack once its questions are passed.
 -- Assumes nothing.
 use Prim.Native.Nat.{ℕ, _≤_, _<_}

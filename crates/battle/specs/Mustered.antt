@@ -1,3 +1,4 @@
+-- Beside what is certain: vocabulary of contracts and proofs.
 -- What the arrays that the battle line is drawn up from hold: units, printed strengths and fighting strengths. Each has 21 places, of
 -- which the first n count.
 -- Assumes nothing.

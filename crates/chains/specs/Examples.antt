@@ -1,3 +1,4 @@
+-- Beside what is certain: examples.
 -- Chains, series and the search, computed along a road of hexes and on a small board.
 -- Assumes nothing.
 use Prim.Native.Nat.{ℕ, zero, suc}

@@ -1,3 +1,4 @@
+-- Beside what is certain: vocabulary of contracts and proofs.
 -- The same series on a smaller copy of the land around a start. At most three steps are taken, and a chain pushes at most three stacks,
 -- so nothing beyond six steps is looked at.
 -- Assumes nothing.

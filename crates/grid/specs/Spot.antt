@@ -1,3 +1,4 @@
+-- Beside what is certain: vocabulary of contracts and proofs.
 -- A hex of the map with its column and its row, and its neighbours so: what a walk carries along to need no division.
 -- Assumes nothing.
 use Prim.Native.Nat.{ℕ, _/_, _%_}

@@ -1,3 +1,4 @@
+-- Beside what is certain: vocabulary of contracts and proofs.
 -- What the parts of the end of a phase leave. Each is stated for the board b as it was when the call began: since then only marks
 -- and the clock have changed.
 -- Assumes nothing.

@@ -1,3 +1,4 @@
+-- Beside what is certain: examples.
 -- Refusals 8 and 18, computed: a step onto a hex that another force holds.
 -- Assumes nothing.
 use mathlib.Core.Path.{_≡_, refl}

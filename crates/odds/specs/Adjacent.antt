@@ -1,3 +1,4 @@
+-- Beside what is certain: vocabulary of contracts and proofs.
 -- What the odds take for granted of an attacker.
 -- Assumes nothing.
 use Prim.Native.Nat.{ℕ, _<_}

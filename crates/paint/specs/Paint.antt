@@ -1,3 +1,4 @@
+-- Beside what is certain: vocabulary of contracts and proofs.
 -- What a buffer shows of a part of the map: who stands where, and where the Enemy zones lie.
 -- Assumes nothing.
 use Prim.Native.Nat.{ℕ, _+_}

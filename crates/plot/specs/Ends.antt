@@ -1,3 +1,4 @@
+-- Beside what is certain: vocabulary of contracts and proofs.
 -- In which places a chain may end: a bit for each place up to 45 before and after that of the first stack, since a step leads to a place
 -- at most 15 off.
 -- Assumes nothing.

@@ -1,3 +1,4 @@
+-- Beside what is certain: vocabulary of contracts and proofs.
 -- The test of an order on a plot: its hexes by their places.
 -- Assumes nothing.
 use Prim.Native.Nat.{ℕ, suc, _≤_, _<_}

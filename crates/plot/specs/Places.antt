@@ -1,3 +1,4 @@
+-- Beside what is certain: vocabulary of contracts and proofs.
 -- Where the hexes round the start of a retreat have their places on the plot.
 -- Assumes nothing.
 use Prim.Native.Nat.{ℕ, _+_, _-_, _*_, _/_, _%_}

@@ -1,3 +1,4 @@
+-- Beside what is certain: vocabulary of contracts and proofs.
 -- A plot: a small map of its own, a byte for each place, on which pushes are searched for. A byte has what the place is to those who move,
 -- 0 shut, 1 free, 2 loose, and 4, 8, 16, 32, 64 and 128 for the directions that a step may take.
 -- Assumes nothing.

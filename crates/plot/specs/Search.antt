@@ -1,3 +1,4 @@
+-- Beside what is certain: vocabulary of contracts and proofs.
 -- The search on a plot.
 -- Assumes nothing.
 use Prim.Native.Nat.{ℕ, suc}

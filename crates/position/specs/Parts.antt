@@ -1,3 +1,4 @@
+-- Beside what is certain: examples.
 -- A position made from its parts, so that an example says by name what it changes. A part is a list of rows (the terrains, the columns, the
 -- hexes, the units ..), and a row a list of numbers, in the order of the format. What the format gains has its name and its plain value here.
 -- Assumes nothing.

@@ -1,3 +1,4 @@
+-- Beside what is certain: vocabulary of contracts and proofs.
 -- What comes of an order where no vacant route exists.
 -- Assumes nothing.
 use Prim.Native.Nat.{ℕ}

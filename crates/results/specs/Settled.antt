@@ -1,3 +1,4 @@
+-- Beside what is certain: vocabulary of contracts and proofs.
 -- What the writing parts of a battle leave.
 -- Assumes nothing.
 use Prim.Native.Nat.{ℕ, _+_, _/_, _<_}

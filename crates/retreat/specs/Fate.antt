@@ -1,3 +1,4 @@
+-- Beside what is certain: vocabulary of contracts and proofs.
 -- What comes of a group, once it is known that it owes.
 -- Assumes nothing.
 use Prim.Native.Nat.{ℕ}

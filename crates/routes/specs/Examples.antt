@@ -1,3 +1,4 @@
+-- Beside what is certain: examples.
 -- A small board on which zones and the search are computed.
 -- Assumes nothing.
 use Prim.Native.Nat.{ℕ, zero, suc}

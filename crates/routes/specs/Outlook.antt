@@ -1,3 +1,4 @@
+-- Beside what is certain: vocabulary of contracts and proofs.
 -- What the outlook of a retreating group is: a legal route, friends near who might be pushed, or neither.
 -- Assumes nothing.
 use Prim.Native.Nat.{ℕ, _≤_, _<_}

@@ -1,3 +1,4 @@
+-- Beside what is certain: examples.
 -- The order onward tried on the roster's position and on one of each stage.
 -- Assumes nothing.
 use Prim.Native.Nat.{ℕ}

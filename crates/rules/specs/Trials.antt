@@ -1,3 +1,4 @@
+-- Beside what is certain: examples.
 -- Small positions on which whole calls are computed.
 -- Assumes nothing.
 use Prim.Native.Nat.{ℕ}

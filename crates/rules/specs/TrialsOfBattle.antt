@@ -1,3 +1,4 @@
+-- Beside what is certain: examples.
 -- Small battles: one beside which a counter stays face down, and a hopeless one.
 -- Assumes nothing.
 use Prim.Native.Nat.{ℕ}

@@ -1,3 +1,4 @@
+-- Beside what is certain: vocabulary of contracts and proofs.
 -- What the judging functions answer: they go on to whatever follows, or stop with a refusal.
 -- Assumes nothing.
 use Prim.Native.Nat.{ℕ}

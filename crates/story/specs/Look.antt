@@ -1,3 +1,4 @@
+-- Beside what is certain: vocabulary of contracts and proofs.
 -- What the text of a map is written from: numbers of the board, which has no strength that is face down.
 -- Assumes nothing.
 use Prim.Native.Nat.{ℕ}

@@ -1,3 +1,4 @@
+-- Beside what is certain: examples.
 -- Document 01's roster, computed: "`0 2 O`, `1 1 O`. With unit 1 destroyed: `0 2 S`."
 -- Assumes nothing.
 use Prim.Native.Nat.{ℕ}

@@ -1,3 +1,4 @@
+-- Beside what is certain: vocabulary of contracts and proofs.
 -- What supply asks of a hex, asked of the hex's marks, and the grades in their place.
 -- Assumes nothing.
 use Prim.Native.Nat.{ℕ, _<_}

@@ -1,3 +1,4 @@
+-- Beside what is certain: examples.
 -- Small maps on which the test is computed.
 -- Assumes nothing.
 use Prim.Native.Nat.{ℕ}
