@@ -51,7 +51,7 @@ shaped? p =
     (both (in? 1 (Layout.width p) 64)
     (both (in? 1 (Layout.height p) 64)
     (both (entry? p Layout.unitsBody (Layout.unitsAt p) (Layout.unitsLength p))
-    (both (decLe (Layout.count p) 400)
+    (both (decLe (Layout.count p) Layout.unitsMost)
     (both (entry? p Layout.deskBody (Layout.deskAt p) (Layout.deskLength p))
     (ℕ-discrete (length p) (Layout.deskAt p + Layout.deskLength p)))))))))))
 

@@ -2,6 +2,7 @@
 ghost use mathlib.Core.Path.{_≡_};
 ghost use mathlib.Core.List.{[]};
 ghost use Prim.Native.Nat.{_≤_, _<_};
+ghost use Rattle.position.specs.Layout.{routeHexes};
 ghost use Rattle.position.specs.Tally.{any};
 ghost use Rattle.position.specs.Board.{board};
 ghost use Rattle.position.specs.Change.{makes};
@@ -25,6 +26,7 @@ ghost use Rattle.aftermath.specs.Advance.{
 use field::zone;
 use position::View;
 use position::kind::Kind;
+use position::layout;
 use position::read;
 use position::role;
 use ruling::Answer;
@@ -52,7 +54,7 @@ fn held_at(p: &[u8], v: View, u: usize, r: usize, i: usize) -> bool
 
 // Whether one of the first `n` numbers of route `r` is shut to unit `u`.
 fn held_along(p: &[u8], v: View, u: usize, r: usize, n: usize) -> bool
-    requires { ⌜ Laid (now p) v × (n ≤ 4) ⌝ }
+    requires { ⌜ Laid (now p) v × (n ≤ routeHexes) ⌝ }
     ensures { λ b. ⌜ b ≡ any (heldAt (board (now (p .entry))) u r) n ⌝ }
 {
     let mut i = 0;
@@ -67,7 +69,7 @@ fn held_along(p: &[u8], v: View, u: usize, r: usize, n: usize) -> bool
 
 // Whether number `j` of route `r` is the hex, with nothing shut from its start to there.
 fn clear_to(p: &[u8], v: View, u: usize, hex: usize, r: usize, j: usize) -> bool
-    requires { ⌜ Laid (now p) v × (j < 4) ⌝ }
+    requires { ⌜ Laid (now p) v × (j < routeHexes) ⌝ }
     ensures { λ b. ⌜ b ≡ clearTo (board (now (p .entry))) u hex r j ⌝ }
 {
     if read::route(p, v, r, j) != hex {
@@ -79,10 +81,10 @@ fn clear_to(p: &[u8], v: View, u: usize, hex: usize, r: usize, j: usize) -> bool
 // Whether route `r` leads unit `u` to the hex.
 fn leads_to(p: &[u8], v: View, u: usize, hex: usize, r: usize) -> bool
     requires { ⌜ Laid (now p) v ⌝ }
-    ensures { λ b. ⌜ b ≡ any (clearTo (board (now (p .entry))) u hex r) 4 ⌝ }
+    ensures { λ b. ⌜ b ≡ any (clearTo (board (now (p .entry))) u hex r) routeHexes ⌝ }
 {
     let mut j = 0;
-    while j < 4 {
+    while j < layout::ROUTE_HEXES {
         if clear_to(p, v, u, hex, r, j) {
             return true;
         }
@@ -108,7 +110,7 @@ fn no_route(p: &[u8], v: View, u: usize, hex: usize) -> bool
     ensures { λ b. ⌜ b ≡ noRoute (board (now (p .entry))) u hex ⌝ }
 {
     let mut r = 0;
-    while r < 6 {
+    while r < layout::ROUTE_COUNT {
         if can_follow(p, v, u, hex, r) {
             return false;
         }

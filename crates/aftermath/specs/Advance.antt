@@ -4,6 +4,7 @@ use Prim.Native.Nat.{ℕ, _+_}
 use mathlib.Core.Bool.{Bool, not, _&&_, _||_}
 use mathlib.Core.List.{List, [], _∷_, map}
 use lib.Dec.{leb, eqb}
+use Rattle.position.specs.Layout.{routeCount, routeHexes}
 use Rattle.position.specs.Role as Role
 use Rattle.position.specs.Stage as Stage
 use Rattle.position.specs.Tally.{any}
@@ -40,11 +41,11 @@ clearTo b u hex r j = eqb (b .desk .route r j) hex && not (any (heldAt b u r) (j
 
 -- "Some route must start beside the unit over an unblocked side and contain the hex": route r serves
 unfoldable pub canFollow : Board → ℕ → ℕ → ℕ → Bool
-canFollow b u hex r = joined (b .map) (b .units .state .hex u) (b .desk .route r 0) && any (clearTo b u hex r) 4
+canFollow b u hex r = joined (b .map) (b .units .state .hex u) (b .desk .route r 0) && any (clearTo b u hex r) routeHexes
 
 -- "no route for an advance"
 unfoldable pub noRoute : Board → ℕ → ℕ → Bool
-noRoute b u hex = not (any (canFollow b u hex) 6)
+noRoute b u hex = not (any (canFollow b u hex) routeCount)
 
 -- "The unit then stands there, role 0."
 unfoldable pub advanceChanges : Board → ℕ → ℕ → List Change

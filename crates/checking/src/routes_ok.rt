@@ -1,5 +1,6 @@
 // Whether the routes keep their lines of document 01.
 ghost use Prim.Native.Nat.{ℕ, _<_};
+ghost use Rattle.position.specs.Layout.{routeCount, routeHexes};
 ghost use Rattle.position.specs.Board.{board};
 ghost use Rattle.acceptance.specs.Accepted.{PlaceOk, LinkOk, RouteOk, RoutesOk};
 ghost use Rattle.position.specs.Laid.{Laid, Says};
@@ -9,7 +10,7 @@ use position::read;
 
 // A filled number follows a filled one, over an unblocked side.
 fn link_ok(p: &[u8], v: View, r: usize, j: usize) -> bool
-    requires { ⌜ Laid (now p) v × (j < 4) ⌝ }
+    requires { ⌜ Laid (now p) v × (j < routeHexes) ⌝ }
     ensures { λ x. ⌜ Says x (LinkOk (board (now (p .entry))) r j) ⌝ }
 {
     let here = read::route(p, v, r, j);
@@ -27,7 +28,7 @@ fn link_ok(p: &[u8], v: View, r: usize, j: usize) -> bool
 }
 
 fn place_ok(p: &[u8], v: View, r: usize, j: usize) -> bool
-    requires { ⌜ Laid (now p) v × (j < 4) ⌝ }
+    requires { ⌜ Laid (now p) v × (j < routeHexes) ⌝ }
     ensures { λ x. ⌜ Says x (PlaceOk (board (now (p .entry))) r j) ⌝ }
 {
     if !link_ok(p, v, r, j) {
@@ -45,7 +46,7 @@ fn place_ok(p: &[u8], v: View, r: usize, j: usize) -> bool
 
 fn places_ok(p: &[u8], v: View, r: usize) -> bool
     requires { ⌜ Laid (now p) v ⌝ }
-    ensures { λ x. ⌜ Says x ((j : ℕ) → j < 4 → PlaceOk (board (now (p .entry))) r j) ⌝ }
+    ensures { λ x. ⌜ Says x ((j : ℕ) → j < routeHexes → PlaceOk (board (now (p .entry))) r j) ⌝ }
 {
     for j in 0..4 {
         if !place_ok(p, v, r, j) {
@@ -56,7 +57,7 @@ fn places_ok(p: &[u8], v: View, r: usize) -> bool
 }
 
 fn route_ok(p: &[u8], v: View, r: usize) -> bool
-    requires { ⌜ Laid (now p) v × (r < 6) ⌝ }
+    requires { ⌜ Laid (now p) v × (r < routeCount) ⌝ }
     ensures { λ x. ⌜ Says x (RouteOk (board (now (p .entry))) r) ⌝ }
 {
     if !places_ok(p, v, r) {

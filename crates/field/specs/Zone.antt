@@ -5,6 +5,7 @@ use mathlib.Core.Bool.{Bool, false, not, _&&_}
 use lib.Dec.{ltb, eqb}
 use Rattle.grid.specs.declared.Beside.{Beside}
 use Rattle.grid.specs.declared.Beside.the-variants.{At, Off}
+use Rattle.position.specs.Layout.{forces}
 use Rattle.position.specs.Tally.{any}
 use Rattle.position.specs.Kind.{castsZone, supplyKind}
 use Rattle.position.specs.Ground.{beside, side}
@@ -81,4 +82,4 @@ enemyCasts s f h g = s .enemy f g && casts s g h
 
 -- hex h lies in an Enemy zone of force f
 unfoldable pub enemyZone : Scene → ℕ → ℕ → Bool
-enemyZone s f h = any (enemyCasts s f h) 4
+enemyZone s f h = any (enemyCasts s f h) forces

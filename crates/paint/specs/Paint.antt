@@ -9,7 +9,7 @@ use lib.Dec.{ltb, eqb}
 use lib.ListN.{length}
 use Rattle.position.specs.Tally.{any}
 use Rattle.position.specs.Bits.{has}
-use Rattle.position.specs.Layout.{byte}
+use Rattle.position.specs.Layout.{byte, forces}
 use Rattle.position.specs.Board.{Map}
 use Rattle.position.specs.Kind.{castsZone}
 use Rattle.position.specs.Ground.{beside, side, isAt}
@@ -66,7 +66,7 @@ pub record Shows (s : Scene) (f : ℕ) (at : Frame) (l : List ℕ) : Type 0 wher
 
 -- unit u casts a zone against force f
 unfoldable pub castsAgainst : Scene → ℕ → ℕ → Bool
-castsAgainst s f u = ltb (forceIn s u) 4 && (s .enemy f (forceIn s u) && castsZone (s .kind u))
+castsAgainst s f u = ltb (forceIn s u) forces && (s .enemy f (forceIn s u) && castsZone (s .kind u))
 
 -- "A zone covers the adjacent hexes, but not across blocked or major river sides nor into all-sea": that of a caster on hex n covers
 -- hex h in direction d

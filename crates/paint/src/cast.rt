@@ -14,9 +14,8 @@ use grid::Spot;
 use grid::near;
 use position::View;
 use position::kind::Kind;
+use position::layout;
 use position::read;
-
-const FORCES: usize = 4;
 
 const ALL_SEA: usize = 2;
 
@@ -53,7 +52,7 @@ fn casts_against(p: &[u8], v: View, f: usize, u: usize) -> bool
     ensures { λ r. ⌜ r ≡ castsAgainst (scene (board (now (p .entry)))) f u ⌝ }
 {
     let g = forces::force_of(p, v, u);
-    if FORCES <= g {
+    if layout::FORCES <= g {
         return false;
     }
     if forces::enemy(p, v, f, g) {

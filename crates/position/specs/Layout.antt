@@ -120,12 +120,15 @@ countryField = 3
 abbrev pub sidesField : ℕ
 sidesField = 4
 
--- what stands before the units; how long a unit is, and its fields
+-- what stands before the units; how long a unit is, how many there may be, and its fields
 abbrev pub unitsHead : ℕ
 unitsHead = 2
 
 abbrev pub unitSize : ℕ
 unitSize = 8
+
+abbrev pub unitsMost : ℕ
+unitsMost = 400
 
 abbrev pub nationalityField : ℕ
 nationalityField = 0
@@ -415,5 +418,5 @@ pub record Fits (long : ℕ) (v : View) : Type 0 where
   pub whole : long ≡ v .desk + playersField + v .players
   pub columns : v .columns ≤ 12
   pub hexes : v .hexes ≤ 4096
-  pub count : v .count ≤ 400
+  pub count : v .count ≤ unitsMost
   pub players : v .players ≤ forces

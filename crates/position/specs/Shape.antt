@@ -29,7 +29,7 @@ pub record Shaped (p : List ℕ) : Type 0 where
   pub height : In 1 (Layout.height p) 64
   -- "Units: 16-bit count 0..400; per unit" eight bytes
   pub units : Entry p Layout.unitsBody (Layout.unitsAt p) (Layout.unitsLength p)
-  pub count : Layout.count p ≤ 400
+  pub count : Layout.count p ≤ Layout.unitsMost
   -- "Desk, 56 bytes", and four more if it names the players
   pub desk : Entry p Layout.deskBody (Layout.deskAt p) (Layout.deskLength p)
   pub whole : length p ≡ Layout.deskAt p + Layout.deskLength p

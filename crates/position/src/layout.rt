@@ -34,7 +34,7 @@ pub const CHART_LENGTH: usize = 36;
 
 pub const RESULTS: usize = 56;
 
-// What stands before the records of a body, and how long a record is.
+// What stands before the records of a body, how long a record is, and how many units there may be.
 pub const RESULTS_HEAD: usize = 1;
 
 pub const MAP_HEAD: usize = 2;
@@ -50,6 +50,8 @@ pub const COLUMN_SIZE: usize = 8;
 pub const HEX_SIZE: usize = 5;
 
 pub const UNIT_SIZE: usize = 8;
+
+pub const MOST_UNITS: usize = 400;
 
 // How many routes the desk keeps and how many hexes are in one; how long a route is, and a number of it.
 pub const ROUTE_COUNT: usize = 6;

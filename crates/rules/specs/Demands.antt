@@ -8,6 +8,7 @@ use lib.ListN.{length}
 use lib.Dec.{eqb}
 use Rattle.grid.specs.Map.{On}
 use Rattle.grid.specs.Walk.{Distance, distanceOf}
+use Rattle.position.specs.Kind.{canada}
 use Rattle.position.specs.Board.{board, enemy, neutral}
 use Rattle.acceptance.specs.Accepted.{Accepted}
 use Rattle.ruling.specs.Verdict.{Ruling, Outcome, Met}
@@ -38,7 +39,7 @@ NumbersRight = (p : List ℕ) (c : Sent Order) → Packs (repliesOf (c .order)) 
 -- the chain exists, and 0 if it does not
 abbrev pub SupplyRight : Type 0
 SupplyRight =
-    (p l : List ℕ) (n h : ℕ) → Accepted p → length l ≡ board p .map .hexes → n ≤ 4 → h < board p .map .hexes
+    (p l : List ℕ) (n h : ℕ) → Accepted p → length l ≡ board p .map .hexes → n ≤ canada → h < board p .map .hexes
     → OneIf (Supplied (scene (board p)) n h) (mark (step p (record { order = supply n; lent = l }) .lent) h)
 
 -- "Distance is the fewest steps over map hexes, terrain ignored.": so is what the closed form says, by which pushes are judged

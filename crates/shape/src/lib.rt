@@ -26,7 +26,7 @@ fn with_units(p: &[u8], cols: usize, wide: usize, high: usize) -> Checked
         return Checked::Broken;
     }
     let count = layout::word(p, units);
-    if 400 < count {
+    if layout::MOST_UNITS < count {
         return Checked::Broken;
     }
     let desk = units + layout::UNITS_HEAD + layout::UNIT_SIZE * count;

@@ -2,7 +2,7 @@
 ghost use mathlib.Core.Path.{_≡_};
 ghost use Prim.Native.Nat.{ℕ, _+_, _<_};
 ghost use lib.ListN.{length};
-ghost use Rattle.position.specs.Layout.{count};
+ghost use Rattle.position.specs.Layout.{count, forces};
 ghost use Rattle.position.specs.Board.{board, forceOf};
 ghost use Rattle.position.specs.Laid.{Laid, Says};
 ghost use Rattle.acceptance.specs.Asked.{AloneOk, StacksIn, StacksOk};
@@ -18,7 +18,7 @@ const TABLE: usize = 256;
 
 // What a unit of force `f` adds to a seat that says `x`; nothing if the hex is full or holds another force.
 fn adds(x: usize, f: usize) -> usize
-    requires { ⌜ f < 4 ⌝ }
+    requires { ⌜ f < forces ⌝ }
     ensures { λ r. ⌜ AddsTo x f r ⌝ }
 {
     if x == 0 {
@@ -35,7 +35,7 @@ fn adds(x: usize, f: usize) -> usize
 
 // Unit `u` takes its seat in the table of the block that begins at `base`, if it stands there; false if the hex is full or holds another force.
 fn seat(p: &[u8], v: View, seats: &mut [u8], base: usize, u: usize) -> bool
-    requires { ⌜ Laid (now p) v × (u < v .count) × (forceOf (board (now p)) u < 4) × (length (now seats) ≡ table) ⌝ }
+    requires { ⌜ Laid (now p) v × (u < v .count) × (forceOf (board (now p)) u < forces) × (length (now seats) ≡ table) ⌝ }
     ensures { λ r. ⌜ SeatedOf (board (now (p .entry))) base u (now (seats .entry)) (now (seats .exit)) r ⌝ }
 {
     let h = read::hex(p, v, u);
@@ -62,7 +62,7 @@ fn seat(p: &[u8], v: View, seats: &mut [u8], base: usize, u: usize) -> bool
 
 // The stacks on the block of hexes that begins at `base`, by a table that is empty yet.
 fn seat_all(p: &[u8], v: View, seats: &mut [u8], base: usize) -> bool
-    requires { ⌜ Laid (now p) v × ((u : ℕ) → u < count (now p) → forceOf (board (now p)) u < 4) × Empty (now seats) ⌝ }
+    requires { ⌜ Laid (now p) v × ((u : ℕ) → u < count (now p) → forceOf (board (now p)) u < forces) × Empty (now seats) ⌝ }
     ensures { λ r. ⌜ Says r (StacksIn (board (now (p .entry))) base (base + block)) ⌝ }
 {
     let count = v.count;
@@ -76,7 +76,7 @@ fn seat_all(p: &[u8], v: View, seats: &mut [u8], base: usize) -> bool
 
 // The same with a table of its own.
 fn block_ok(p: &[u8], v: View, base: usize) -> bool
-    requires { ⌜ Laid (now p) v × ((u : ℕ) → u < count (now p) → forceOf (board (now p)) u < 4) ⌝ }
+    requires { ⌜ Laid (now p) v × ((u : ℕ) → u < count (now p) → forceOf (board (now p)) u < forces) ⌝ }
     ensures { λ r. ⌜ Says r (StacksIn (board (now (p .entry))) base (base + block)) ⌝ }
 {
     let mut seats = [0u8; 256];
