@@ -9,3 +9,5 @@ pub mod Rulings
 pub mod Words
 pub mod Road
 pub mod Bounds
+pub mod Dealt
+pub mod Units

@@ -66,7 +66,7 @@ module _ {p : List ℕ} {h : ℕ} {route pushes : List ℕ} (d : Due p h route p
       (λ _ _ _. shown)
       (λ _ _. shown)
 
-  after : boardAfter p h route pushes ≡ changes fallen (passesOn fallen)
+  pub after : boardAfter p h route pushes ≡ changes fallen (passesOn fallen)
   unfolding thenOn
   after =
       let b = board p in
