@@ -10,4 +10,5 @@ pub mod Words
 pub mod Road
 pub mod Bounds
 pub mod Dealt
+pub mod Carried
 pub mod Units
