@@ -11,4 +11,5 @@ pub mod Road
 pub mod Bounds
 pub mod Dealt
 pub mod Carried
+pub mod Noted
 pub mod Units
