@@ -12,4 +12,5 @@ pub mod Bounds
 pub mod Dealt
 pub mod Carried
 pub mod Noted
+pub mod Marched
 pub mod Units
