@@ -40,7 +40,7 @@ pub record Moved (b c : Board) (h z w : ℕ) : Type 0 where
   pub marks : c .units .state .marks w ≡ b .units .state .marks w
 
 -- unit w is in hex z, its marks as they were
-abbrev Put : ℕ → ℕ → Board → Board → Type 0
+abbrev pub Put : ℕ → ℕ → Board → Board → Type 0
 Put z w b c = (c .units .state .hex w ≡ z) × (c .units .state .marks w ≡ b .units .state .marks w)
 
 lasts-put : (z w : ℕ) → Lasts w (Put z w)
@@ -51,12 +51,12 @@ lasts-put z w =
       again = λ x y. (y .0, y .1 ∙ x .1);
     }
 
-placed-put : (c : Board) (u z : ℕ) → u < c .units .count → z < c .map .hexes → Put z u c (changes c (shifts z u))
-unfolding change changes shifts
+pub placed-put : (c : Board) (u z : ℕ) → u < c .units .count → z < c .map .hexes → Put z u c (change c (placed u z))
+unfolding change
 placed-put c u z l m = simp (lt-ltb z (c .map .hexes) m) (upd-there (c .units .count) (c .units .state .hex) u z l, refl)
 
 pub stack-moved : (b : Board) (h z w : ℕ) → w < b .units .count → z < b .map .hexes → Moved b (changes b (stackTo b h z)) h z w
-unfolding stackTo stack standsOn
+unfolding stackTo stack standsOn changes shifts
 stack-moved b h z w l m =
     let t = standsOn (scene b) h in
     let n = b .units .count in

@@ -3,7 +3,7 @@
 use Prim.Native.Nat.{ℕ, _+_, _-_, _≤_, _<_}
 use mathlib.Core.Path.{_≡_, refl, sym, ap, fun-ext, _∙_}
 use mathlib.Core.Bool.{false, true, not, _&&_}
-use mathlib.Core.List.{List}
+use mathlib.Core.List.{List, []}
 use native.Mathlib.Omega.{arith}
 use lib.Dec.{eqb, leb, ltb}
 use lib.ListN.{getD, length}
@@ -100,7 +100,7 @@ module _ (b : Board) (h x y z : ℕ) where
   unfolding change vacant standsOn
   noted-vacant w = refl
 
-  noted-stand : (f : ℕ) → stand noted f h ≡ stand b f h
+  pub noted-stand : (f : ℕ) → stand noted f h ≡ stand b f h
   unfolding change
   noted-stand f =
       let k = fixed-change b (routed (routes b) h x y z) in
@@ -108,7 +108,7 @@ module _ (b : Board) (h x y z : ℕ) where
       (λ w.
       stand-same f h h w k (bears-same f k (λ u l n. refl) w) (λ u l. apart-same b noted h w u refl refl) (λ u l e. refl))
 
-  noted-own : (f : ℕ) → OwnGroup b f h → OwnGroup noted f h
+  pub noted-own : (f : ℕ) → OwnGroup b f h → OwnGroup noted f h
   unfolding change forceOf
   noted-own f o w l e = o w l (sym (noted-owes w) ∙ e)
 
@@ -125,7 +125,7 @@ holds-some b n =
     owing-some b (s .at) (s .below) (eqb-true (b .units .state .role (s .at)) 1 (s .passes))
 
 -- a retreat starts at no distance
-far-start : (b : Board) (h : ℕ) → landOf b h .far h ≡ 0
+pub far-start : (b : Board) (h : ℕ) → landOf b h .far h ≡ 0
 unfolding landOf
 far-start b h = same-zero (b .map .width) h
 
@@ -139,7 +139,7 @@ module _ {b : Board} (l : Lawful b) (most : b .map .hexes ≤ nowhere) (e : b .d
   stands : standable b h ≡ true
   stands = start-stands l h u m
 
-  real : h ≡ nowhere → ⊥
+  pub real : h ≡ nowhere → ⊥
   real = standable-where b h most stands
 
   -- the group is gone and its route is written: the retreats go on, or the stage passes on
@@ -217,6 +217,13 @@ module _ {b : Board} (l : Lawful b) (most : b .map .hexes ≤ nowhere) (e : b .d
 
   -- or pushes
   module _ (f : ℕ) (own : OwnGroup b f h) (route pushes : List ℕ) (r : LegalSeries b f h (b .desk .battle .owed) route pushes) where
+    pub pushed-since : Since b (noted b h (getD route 0 nowhere) (getD route 1 nowhere) (getD route 2 nowhere))
+    pushed-since =
+        let k =
+        series-follows h most (λ w n. bears-stands b f w (not-shut b f h w n)) real (r .series)
+        in
+        since-written l most e h (getD route 0 nowhere) (getD route 1 nowhere) (getD route 2 nowhere) stands (k 0) (k 1) (k 2)
+
     pushed :
         Left b (noted b h (getD route 0 nowhere) (getD route 1 nowhere) (getD route 2 nowhere)) h (changes b (pushChanges b h route pushes))
     unfolding pushChanges noteOf changes
@@ -224,11 +231,7 @@ module _ {b : Board} (l : Lawful b) (most : b .map .hexes ≤ nowhere) (e : b .d
         let x = getD route 0 nowhere in
         let y = getD route 1 nowhere in
         let z = getD route 2 nowhere in
-        let k =
-        series-follows h most (λ w n. bears-stands b f w (not-shut b f h w n)) real (r .series)
-        in
-        series-left f most (since-written l most e h x y z stands (k 0) (k 1) (k 2)) real (noted-own b h x y z f own)
-        (far-start b h) (r .series) (noted-stand b h x y z f)
+        series-left f most pushed-since real (noted-own b h x y z f own) (far-start b h) (r .series) (noted-stand b h x y z f)
 
   -- what is not refused by 14 or 17 is a part route, and so a run, or legal
   pub is-run : (route pushes : List ℕ) → notPart b h route pushes ≡ false → doomed b h ≡ true
@@ -242,15 +245,16 @@ module _ {b : Board} (l : Lawful b) (most : b .map .hexes ≤ nowhere) (e : b .d
       (λ w. let r = part-right b (groupForce b h) h route .0 (sym (part-walks b h route w) ∙ z) .run in (r .last, r .run))
       (λ w. rw (none-nil route (sym (part-supply b h route w) ∙ z)) (h, stay))
 
-  is-legal : (route pushes : List ℕ) → notVacant b h route pushes ≡ false → doomed b h ≡ false → hasRoute b h ≡ true
-      → LegalRoute b (groupForce b h) h (b .desk .battle .owed) route
+  pub is-legal : (route pushes : List ℕ) → notVacant b h route pushes ≡ false → doomed b h ≡ false → hasRoute b h ≡ true
+      → LegalRoute b (groupForce b h) h (b .desk .battle .owed) route × (pushes ≡ [])
   unfolding notVacant
   is-legal route pushes n d s =
       let t = legal b (groupForce b h) h (b .desk .battle .owed) route in
       let q : not (t && none pushes) ≡ false = simp (d, s) at n in
-      legal-right b (groupForce b h) h (b .desk .battle .owed) route .0 (both-yes t (none pushes) (not-false (t && none pushes) q) .0)
+      let z = both-yes t (none pushes) (not-false (t && none pushes) q) in
+      (legal-right b (groupForce b h) h (b .desk .battle .owed) route .0 (z .0), none-nil pushes (z .1))
 
-  is-pushed : (route pushes : List ℕ) → notPushed b h route pushes ≡ false → doomed b h ≡ false → hasRoute b h ≡ false
+  pub is-pushed : (route pushes : List ℕ) → notPushed b h route pushes ≡ false → doomed b h ≡ false → hasRoute b h ≡ false
       → LegalSeries b (groupForce b h) h (b .desk .battle .owed) route pushes
   unfolding notPushed
   is-pushed route pushes n d s =
@@ -280,7 +284,7 @@ module _ {b : Board} (l : Lawful b) (most : b .map .hexes ≤ nowhere) (e : b .d
         simp d (k (changes b (doomChanges b h route)) (doom (groupForce b h) route (is-run route pushes part14 d .1))))
         (λ d.
         either (hasRoute b h)
-        (λ s. simp (d, s) (k (changes b (retreatChanges b h route)) (off (groupForce b h) route (is-legal route pushes vacant14 d s))))
+        (λ s. simp (d, s) (k (changes b (retreatChanges b h route)) (off (groupForce b h) route (is-legal route pushes vacant14 d s .0))))
         (λ s.
         simp (d, s)
         (k (changes b (pushChanges b h route pushes)) (pushed (groupForce b h) (group-own l h) route pushes (is-pushed route pushes pushed17 d s)))))
