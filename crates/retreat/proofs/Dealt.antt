@@ -89,6 +89,9 @@ arrived-same x s = record { there = s .hex ∙ x .there; role = s .role ∙ x .r
 pub lasts-eliminated : (w : ℕ) → Lasts w (λ b c. Eliminated b c w)
 lasts-eliminated w = record { before = same-eliminated; after = eliminated-same; again = eliminated-twice }
 
+pub lasts-arrived : (w x : ℕ) → Lasts w (λ b c. Arrived c w x)
+lasts-arrived w x = record { before = λ s y. y; after = arrived-same; again = λ y z. z }
+
 pub destroyed-eliminated : (b : Board) (u : ℕ) → u < b .units .count → Eliminated b (change b (destroyed u)) u
 unfolding change
 destroyed-eliminated b u l =

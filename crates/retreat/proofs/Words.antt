@@ -218,24 +218,24 @@ place (accepted vs) = vs .hex
 
 -- which way a group goes that retreats, and where to
 module _ {p : List ℕ} {h end : ℕ} {route pushes : List ℕ} (d : Due p h route pushes) (a : AnswersRetreated (answerTo p h route pushes) end) where
-  ways : (f : Fate) → FateSays (board p) h route pushes f → ((r : Bool) × Goes (board p) h route pushes r) × (end ≡ endOf (board p) route)
-  ways f e =
-      let told : sort (answerOf (endOf (board p) route) f) ≡ 3 = ap sort (sym (answers d f e) ∙ a .accepts) ∙ ap rank (a .manner) in
-      let there : end ≡ place (answerOf (endOf (board p) route) f) = sym (a .hex) ∙ ap place (sym (a .accepts) ∙ answers d f e) in
-      by f e told there
-    where
-      by :
-          (f : Fate) → FateSays (board p) h route pushes f → sort (answerOf (endOf (board p) route) f) ≡ 3
-          → end ≡ place (answerOf (endOf (board p) route) f)
-          → ((r : Bool) × Goes (board p) h route pushes r) × (end ≡ endOf (board p) route)
-      by F.Lost e s t = absurd (omega arith)
-      by F.WrongRoute e s t = absurd (omega arith)
-      by F.WrongPushes e s t = absurd (omega arith)
-      by F.Walking g s t = ((true, g), t)
-      by F.Pushing g s t = ((false, g), t)
+  abbrev pub Way : Type 0
+  Way = ((r : Bool) × Goes (board p) h route pushes r) × (end ≡ endOf (board p) route)
 
-  pub goes-by : ((r : Bool) × Goes (board p) h route pushes r) × (end ≡ endOf (board p) route)
-  goes-by = ways (fateOf (board p) h route pushes) (fate-says (board p) h route pushes)
+  way :
+      (f : Fate) → FateSays (board p) h route pushes f → sort (answerOf (endOf (board p) route) f) ≡ 3
+      → end ≡ place (answerOf (endOf (board p) route) f) → Way
+  way F.Lost e s t = absurd (omega arith)
+  way F.WrongRoute e s t = absurd (omega arith)
+  way F.WrongPushes e s t = absurd (omega arith)
+  way F.Walking g s t = ((true, g), t)
+  way F.Pushing g s t = ((false, g), t)
+
+  pub goes-by : Way
+  goes-by =
+      let f = fateOf (board p) h route pushes in
+      let g = fate-says (board p) h route pushes in
+      let e = answers d f g in
+      way f g (ap sort (sym e ∙ a .accepts) ∙ ap rank (a .manner)) (sym (a .hex) ∙ ap place (sym (a .accepts) ∙ e))
 
 -- where the answer hangs on one test, a group retreats exactly if it holds, and what was sent is refused exactly if it does not
 module _ {P : Type 0} {t : Bool} {x : Ruling} {n k : ℕ} (r : (t ≡ true) ↔ P) (no : t ≡ false → x ≡ refused n k) where
