@@ -1,18 +1,17 @@
 -- Where a chain of pushes carries each unit: a unit of a hex that is cleared goes to the next hex of the chain, and all others stay.
 -- Assumes nothing.
 use Prim.Native.Nat.{ℕ, _≤_, _<_}
-use mathlib.Core.Path.{_≡_, refl, sym, ap, subst, _∙_}
+use mathlib.Core.Path.{_≡_, refl, sym, ap, _∙_}
 use mathlib.Core.Bool.{true, false}
 use mathlib.Core.List.{List, [], _∷_, _++_}
 use native.Mathlib.Omega.{arith}
 use borrow.Author.Tests.{eq-eqb, eqb-true, lt-ltb, ne-eqb}
 use Rattle.position.specs.Board.{Board, nowhere}
-use Rattle.position.specs.Ground.{standable}
 use Rattle.position.specs.Change.Change.{placed}
 use Rattle.position.specs.Effect.{change, changes}
 use Rattle.position.proofs.Effects.{upd-there}
 use Rattle.position.proofs.Tallies.{either, not-both, same-or}
-use Rattle.acceptance.proofs.Carries.{Fixed, changes-then}
+use Rattle.acceptance.proofs.Carries.{changes-then}
 use Rattle.acceptance.proofs.Lawfuls.{standable-on}
 use Rattle.acceptance.proofs.Stills.{fixed-changes, fixed-refl}
 use Rattle.field.specs.Listed.{named}

@@ -8,7 +8,7 @@ use native.Mathlib.Omega.{arith}
 use Rattle.position.specs.Bits.{faced}
 use Rattle.position.specs.Board.{Board, Units, nowhere}
 use Rattle.position.specs.Change.{Change}
-use Rattle.position.specs.Change.Change.{assigned, destroyed, placed}
+use Rattle.position.specs.Change.Change.{destroyed}
 use Rattle.position.specs.Effect.{change, changes}
 use Rattle.position.specs.Role as Role
 use Rattle.position.proofs.Effects.{upd-there}

@@ -217,6 +217,7 @@ module _ {b : Board} (l : Lawful b) (most : b .map .hexes ≤ nowhere) (e : b .d
 
   -- or pushes
   module _ (f : ℕ) (own : OwnGroup b f h) (route pushes : List ℕ) (r : LegalSeries b f h (b .desk .battle .owed) route pushes) where
+    -- the board on which the route is written
     pub pushed-since : Since b (noted b h (getD route 0 nowhere) (getD route 1 nowhere) (getD route 2 nowhere))
     pushed-since =
         let k =
@@ -233,7 +234,7 @@ module _ {b : Board} (l : Lawful b) (most : b .map .hexes ≤ nowhere) (e : b .d
         let z = getD route 2 nowhere in
         series-left f most pushed-since real (noted-own b h x y z f own) (far-start b h) (r .series) (noted-stand b h x y z f)
 
-  -- what is not refused by 14 or 17 is a part route, and so a run, or legal
+  -- what is not refused by 14 or 17 is a part route, and so a run, or legal; a vacant route comes without pushes
   pub is-run : (route pushes : List ℕ) → notPart b h route pushes ≡ false → doomed b h ≡ true
       → (last : ℕ) × Run b (groupForce b h) h 0 h route last
   unfolding notPart

@@ -13,4 +13,5 @@ pub mod Dealt
 pub mod Carried
 pub mod Noted
 pub mod Marched
-pub mod Units
+pub mod UnitsLost
+pub mod UnitsGone

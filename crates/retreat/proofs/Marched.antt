@@ -1,7 +1,7 @@
 -- What a march does to each unit: the group arrives, its supply units are eliminated, and everybody else is where the pushes bring him.
 -- Assumes nothing.
 use Prim.Native.Nat.{ℕ, _≤_, _<_}
-use mathlib.Core.Path.{_≡_, refl, sym, ap, ap₂, subst, _∙_}
+use mathlib.Core.Path.{_≡_, refl, sym, ap, subst, _∙_}
 use mathlib.Core.Bool.{true, false}
 use mathlib.Core.List.{List, [], _∷_, _++_}
 use native.Mathlib.Omega.{arith}
@@ -12,11 +12,11 @@ use Rattle.position.specs.Crowd.{owesAt}
 use Rattle.position.specs.Kind.{supplyKind}
 use Rattle.position.specs.Effect.{changes}
 use Rattle.position.proofs.Tallies.{either}
-use Rattle.acceptance.proofs.Carries.{Fixed, changes-then, force-by, kind-by}
+use Rattle.acceptance.proofs.Carries.{changes-then, force-by, kind-by}
 use Rattle.acceptance.proofs.Fates.{Freed, Same, assigned-none, same-trans}
 use Rattle.acceptance.proofs.Owings.{owes-hex, owes-role}
 use Rattle.acceptance.proofs.Since.{Since}
-use Rattle.acceptance.proofs.Stills.{fixed-changes, fixed-refl}
+use Rattle.acceptance.proofs.Stills.{fixed-refl}
 use Rattle.field.specs.Scene.{scene}
 use Rattle.field.specs.Zone.{vacant}
 use Rattle.field.proofs.Named.{named-here, sieve-names}
@@ -235,6 +235,7 @@ series-marched {o} {b} {g} {s} {i} {a} f small k real mine z (shove {x = x} {y =
     let bear = free-is b' f a x free .bear in
     let own = own-pushed a u mine in
     let c = stepped (u .since) small f a x real own (q .shifted .empty) bear in
-    marched-on small f a x real u own (q .shifted .empty) bear (chain-shoved b (rw (k .fixed .map) small) f a h' first here ps) refl (q .left-over)
+    let w = chain-shoved b (rw (k .fixed .map) small) f a h' first here ps in
+    marched-on small f a x real u own (q .shifted .empty) bear w refl (q .left-over)
     (series-marched f small (c .since) (real-hex (u .since) small f a x (bears-stands b' f x bear)) (c .own) (t .away) n
     (c .stands ∙ q .shifted .stands ∙ ap (λ (p : Stands). after p x y) e))

@@ -1,10 +1,9 @@
 -- What is on the desk does not matter to a march: with another desk every unit is brought to the same hex.
 -- Assumes nothing.
 use Prim.Native.Nat.{ℕ}
-use mathlib.Core.Path.{_≡_, refl, sym, ap, fun-ext, _∙_}
-use mathlib.Core.Bool.{cond}
+use mathlib.Core.Path.{_≡_, refl, ap, fun-ext, _∙_}
 use mathlib.Core.List.{List, [], _∷_}
-use lib.Dec.{eqb, ltb}
+use lib.Dec.{ltb}
 use Rattle.position.specs.Board.{Board, Desk}
 use Rattle.position.specs.Crowd.{owesAt}
 use Rattle.position.specs.Change.{Change}
@@ -66,7 +65,9 @@ module _ (b : Board) (d : Desk) where
   carried-desk [] x y = refl
   carried-desk (z ∷ ps) x y = rw (desk-vacant b d x, carried-desk ps z y) refl
 
-brought-desk : (route : List ℕ) (b : Board) (d : Desk) (a : ℕ) (ps : List ℕ) (y : ℕ) → broughtTo (withDesk b d) a route ps y ≡ broughtTo b a route ps y
+brought-desk :
+    (route : List ℕ) (b : Board) (d : Desk) (a : ℕ) (ps : List ℕ) (y : ℕ)
+    → broughtTo (withDesk b d) a route ps y ≡ broughtTo b a route ps y
 unfolding broughtTo
 brought-desk [] b d a ps y = refl
 brought-desk (x ∷ route) b d a ps y =

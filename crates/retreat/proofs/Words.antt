@@ -212,6 +212,7 @@ abbrev sort : Ruling → ℕ
 sort (refused n k) = 0
 sort (accepted vs) = rank (vs .manner)
 
+-- the hex that is answered
 abbrev place : Ruling → ℕ
 place (refused n k) = 0
 place (accepted vs) = vs .hex

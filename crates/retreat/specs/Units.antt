@@ -1,4 +1,4 @@
--- What becomes of the units of a beaten group, and of everybody else. Proved in proofs/Units.antt.
+-- What becomes of the units of a beaten group, and of everybody else. Proved in proofs/UnitsLost.antt and proofs/UnitsGone.antt.
 -- Assumes nothing.
 use Prim.Native.Nat.{ℕ, _<_}
 use mathlib.Core.Path.{_≡_}

@@ -1,4 +1,4 @@
--- What becomes of the units of a beaten group, and of everybody else: destroyed, or retreated along a vacant route or with pushes.
+-- The units of a group that retreats arrive or are eliminated, and everybody else is where the pushes bring him.
 -- Assumes nothing.
 use Prim.Native.Nat.{ℕ, _-_, _≤_, _<_}
 use mathlib.Core.Path.{_≡_, refl, sym, ap, subst, _∙_}
@@ -15,7 +15,6 @@ use Rattle.position.specs.Change.Change.{placed}
 use Rattle.position.specs.Effect.{change, changes}
 use Rattle.position.proofs.Changes.{board-makes}
 use Rattle.position.proofs.Shapes.{hexes-most}
-use Rattle.position.proofs.Tallies.{either}
 use Rattle.acceptance.proofs.Carries.{Fixed, changes-then, fixed-change}
 use Rattle.acceptance.proofs.Fates.{Same, assigned-none}
 use Rattle.acceptance.proofs.Lawfuls.{standable-on}
@@ -26,9 +25,8 @@ use Rattle.routes.specs.Run.{LegalRoute}
 use Rattle.chains.specs.Series.{LegalSeries}
 use Rattle.shoves.specs.Group.{gather, group, groupForce}
 use Rattle.aftermath.specs.Stage.{passesOn, thenOn}
-use Rattle.aftermath.proofs.KeepStage.{passed-by}
-use Rattle.retreat.specs.Retreat.{doomChanges, endOf, goesOff, leaves, noteOf, pushChanges, retreatChanges}
-use Rattle.retreat.specs.Units.{AllGone, Arrived, Eliminated, GoneRight, LostRight, Member}
+use Rattle.retreat.specs.Retreat.{endOf, goesOff, leaves, noteOf, pushChanges, retreatChanges}
+use Rattle.retreat.specs.Units.{AllGone, Arrived, Eliminated, GoneRight}
 use Rattle.retreat.specs.Words.{Due, boardAfter}
 use Rattle.retreat.proofs.Carried.{placed-put}
 use Rattle.retreat.proofs.Dealt.{
@@ -41,88 +39,18 @@ use Rattle.retreat.proofs.Dealt.{
   lasts-eliminated,
   missed,
   same-eliminated,
-  same-refl,
   sieve-not,
 }
-use Rattle.retreat.proofs.Fates.{Goes, falls-by}
+use Rattle.retreat.proofs.Fates.{Goes}
 use Rattle.retreat.proofs.KeepGroup.{Owes, group-own}
 use Rattle.retreat.proofs.KeepRetreat.{far-start, is-legal, is-pushed, noted-own, noted-stand, pushed-since, real}
 use Rattle.retreat.proofs.KeepRoute.{refuge-stands, run-refuge}
-use Rattle.retreat.proofs.Leaving.{falls, gather-falls, gather-leaves, own-falls, own-leaves}
+use Rattle.retreat.proofs.Leaving.{gather-leaves, own-leaves}
 use Rattle.retreat.proofs.Marched.{Marched, series-marched}
 use Rattle.retreat.proofs.Noted.{brought-none, brought-noted}
-use Rattle.retreat.proofs.Road.{after}
 use Rattle.retreat.proofs.Rulings.{ends-going}
-use Rattle.retreat.proofs.Words.{destroyed-right, goes-by, lost-any, on-due, parts-right, passes-due}
-
--- a stage that passes on changes no unit
-passed-units : (c : Board) → changes c (passesOn c) .units ≡ c .units
-unfolding change
-passed-units c = passed-by (λ d. d .units ≡ c .units) c (λ _ _. refl) (λ _ _. refl) (λ _. refl)
-
-passed-same : (c : Board) (w : ℕ) → Same (c .units) (changes c (passesOn c) .units) w
-passed-same c w = rw (passed-units c) (same-refl (c .units) w)
-
--- who is not of the group does not owe there
-not-member : (b : Board) (h w : ℕ) → w < b .units .count → (Member b h w → ⊥) → owesAt b h w ≡ false
-not-member b h w l n = either (owesAt b h w) (λ y. absurd (n (record { counted = l; owes = y }))) (λ y. y)
-
--- the route is noted, and the group is destroyed
-module _ (b : Board) (h : ℕ) (route : List ℕ) where
-  abbrev noted : Board
-  noted = change b (noteOf b h route)
-
-  abbrev fallen : Board
-  fallen = changes b (doomChanges b h route)
-
-  -- a note on the desk changes no unit
-  noted-same : (w : ℕ) → Same (b .units) (noted .units) w
-  unfolding change noteOf
-  noted-same w = same-refl (b .units) w
-
-  noted-count : noted .units .count ≡ b .units .count
-  unfolding change noteOf
-  noted-count = refl
-
-  noted-map : noted .map ≡ b .map
-  unfolding change noteOf
-  noted-map = refl
-
-  falls-all : fallen ≡ changes noted (gather falls (group b h))
-  unfolding doomChanges changes
-  falls-all = ap (changes noted) (sym (gather-falls (group b h)))
-
-  falls-group : (u : ℕ) → u < b .units .count → owesAt b h u ≡ true → Eliminated noted fallen u
-  unfolding group changes
-  falls-group u l e =
-      rw falls-all
-      (dealt falls own-falls u (lasts-eliminated u)
-      (λ c f. destroyed-eliminated c u (omega (arith, f .count, noted-count)))
-      (group b h)
-      noted
-      (fixed-refl noted)
-      (sieve-names (owesAt b h) (b .units .count) u l e))
-
-  falls-others : (w : ℕ) → owesAt b h w ≡ false → Same (noted .units) (fallen .units) w
-  unfolding group
-  falls-others w e = rw falls-all (missed falls own-falls w (group b h) noted (sieve-not (owesAt b h) (b .units .count) w e))
-
-pub lost-right : LostRight
-lost-right p h route pushes d a =
-    let b = board p in
-    let o = on-due d in
-    let q = destroyed-right p h route pushes d .0 a in
-    let e = after d (falls-by b h route pushes (lost-any b h o (q .0)) (parts-right b h o route pushes .1 (q .1, q .2))) in
-    let c = fallen b h route in
-    rw e
-    (record {
-      group =
-          λ u m.
-          eliminated-same (same-eliminated (noted-same b h route u) (falls-group b h route u (m .counted) (m .owes))) (passed-same c u);
-      others =
-          λ w l n.
-          passed-same c w .hex ∙ falls-others b h route w (not-member b h w l n) .hex ∙ noted-same b h route w .hex;
-    })
+use Rattle.retreat.proofs.Words.{goes-by, passes-due}
+use Rattle.retreat.proofs.UnitsLost.{not-member, noted, noted-count, noted-map, noted-same, passed-same}
 
 -- the group goes along a vacant route to hex `end`
 module _ (b : Board) (h : ℕ) (route : List ℕ) (end : ℕ) (i : end ≡ endOf b route) where
@@ -153,7 +81,8 @@ module _ (b : Board) (h : ℕ) (route : List ℕ) (end : ℕ) (i : end ≡ endOf
       simp (ne-eqb (b .units .counter .kind u) supplyKind k)
       (record { there = y .hex ∙ placed-put c u end l m .0; role = y .role })
 
-  leaves-supply : (c : Board) (u : ℕ) → b .units .counter .kind u ≡ supplyKind → u < c .units .count → Eliminated c (changes c (leaves b end u)) u
+  leaves-supply :
+      (c : Board) (u : ℕ) → b .units .counter .kind u ≡ supplyKind → u < c .units .count → Eliminated c (changes c (leaves b end u)) u
   unfolding leaves changes
   leaves-supply c u k l = simp (eq-eqb (b .units .counter .kind u) supplyKind k) (destroyed-eliminated c u l)
 
@@ -191,7 +120,8 @@ module _ (p : List ℕ) (h end : ℕ) (route : List ℕ) (i : end ≡ endOf (boa
       }
 
 -- the last hex of a route that is not empty
-last-hex : (h : ℕ) (route : List ℕ) (n : ℕ) → length route ≡ n → 1 ≤ n → getD (h ∷ route) (length route) nowhere ≡ getD route (n - 1) nowhere
+last-hex :
+    (h : ℕ) (route : List ℕ) (n : ℕ) → length route ≡ n → 1 ≤ n → getD (h ∷ route) (length route) nowhere ≡ getD route (n - 1) nowhere
 last-hex h [] n e l = absurd (omega arith)
 last-hex h (x ∷ xs) n e l = let z : length xs ≡ n - 1 = omega arith in ap (λ (k : ℕ). getD (x ∷ xs) k nowhere) z
 
@@ -214,7 +144,8 @@ module _ (p : List ℕ) (h : ℕ) (route pushes : List ℕ) where
       }
 
 -- and then the stage passes on
-passed-gone : (p : List ℕ) (h end : ℕ) (route pushes : List ℕ) (c : Board) → AllGone p h end route pushes c
+passed-gone :
+    (p : List ℕ) (h end : ℕ) (route pushes : List ℕ) (c : Board) → AllGone p h end route pushes c
     → AllGone p h end route pushes (changes c (passesOn c))
 passed-gone p h end route pushes c x =
     record {
@@ -259,7 +190,8 @@ module _ {p : List ℕ} {h : ℕ} {route pushes : List ℕ} (d : Due p h route p
       (real l most (d .stage) h (d .unit) here) (noted-own b h x y z f own) (far-start b h) (r .series) (noted-stand b h x y z f)
 
   -- however the group goes
-  gone : (r : Bool) → Goes (board p) h route pushes r
+  gone :
+      (r : Bool) → Goes (board p) h route pushes r
       → AllGone p h (endOf (board p) route) route pushes
       (changes (board p) (cond r (retreatChanges (board p) h route) (pushChanges (board p) h route pushes)))
   unfolding endOf
@@ -273,8 +205,10 @@ module _ {p : List ℕ} {h : ℕ} {route pushes : List ℕ} (d : Due p h route p
       let b = board p in
       let n = b .desk .battle .owed in
       let r = is-pushed (d .whole .lawful) most (d .stage) h (d .unit) here route pushes (g .pushed) (g .spared) (g .way) in
-      pushes-gone p h route pushes (endOf b route) (sym (last-hex h route n (r .long) (owed .low))) (omega (arith, r .long, owed .low)) (marched r)
+      pushes-gone p h route pushes (endOf b route) (sym (last-hex h route n (r .long) (owed .low))) (omega (arith, r .long, owed .low))
+      (marched r)
 
+  -- the board that an accepted retreat leaves
   after-gone :
       (r : Bool) → Goes (board p) h route pushes r
       → boardAfter p h route pushes
