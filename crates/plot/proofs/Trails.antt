@@ -2,14 +2,14 @@
 -- Assumes nothing.
 use Prim.Native.Nat.{ℕ, _+_, _-_, _*_, _/_, _%_, _≤_, _<_}
 use mathlib.Core.Path.{_≡_, refl, sym, ap, ap₂, _∙_}
-use mathlib.Core.Bool.{true, false, not, and-false}
+use mathlib.Core.Bool.{Bool, true, false, not, and-false}
 use mathlib.Core.List.{List, [], _∷_}
 use native.Mathlib.Omega.{arith}
 use types.Run.{OneOf, miss}
 use denote.Enum.Declared.{tagOf}
 use lib.Dec.{eqb}
 use borrow.Author.Tests.{eq-eqb, ne-eqb}
-use Rattle.position.proofs.Tallies.{same-or}
+use Rattle.position.proofs.Tallies.{same-or, not-both, both-yes, but, but-other, tally-but-hit, tally-le}
 use Rattle.field.specs.Listed.{named}
 use Rattle.field.proofs.Named.{named-here, named-past}
 use Rattle.field.proofs.Lists.{named-nil}
@@ -19,7 +19,7 @@ use Rattle.chains.specs.declared.Stand.the-variants.{Shut, Free, Loose}
 use Rattle.chains.specs.Stand.{isFree, isLoose}
 use Rattle.chains.specs.Chain.{Stands, rests, yields}
 use Rattle.plot.specs.Plot.{places}
-use Rattle.plot.specs.Trail.{before, trailOf, TrailOk}
+use Rattle.plot.specs.Trail.{before, trailOf, unused, TrailOk}
 
 -- where two stacks may still be pushed, one may
 pub one-left : {left : ℕ} → 2 ≤ left → 1 ≤ left
@@ -143,3 +143,25 @@ module _ (s : Stands) (h : ℕ) (used : List ℕ) (z : ℕ) where
   pub yields-past : s z ≡ Loose → (h ≡ z → ⊥) → yields s (h ∷ used) z ≡ not (named used z)
   unfolding yields
   yields-past e n = simp (e, named-past h used z n)
+
+-- a place that was not used is used: one fewer is not
+unused-falls : (used : List ℕ) (z : ℕ) → z < places → not (named used z) ≡ true → unused (z ∷ used) < unused used
+unfolding unused
+unused-falls used z l n =
+    let t : ℕ → Bool = λ k. not (named used k) in
+    let fewer =
+    tally-le (λ k. not (named (z ∷ used) k)) (but t z) places
+    (λ k _ e.
+    same-or z k
+    (λ q. not-both (not (named (z ∷ used) k)) e (ap not (named-here z used k q)))
+    (λ d. but-other t z k (λ q. d (sym q)) ∙ ap not (sym (named-past z used k d)) ∙ e))
+    in
+    omega (arith, tally-but-hit t z places l n)
+
+-- so a push takes the chain to a place more
+pub push-uses :
+    (s : Stands) {used more : List ℕ} (z : ℕ) → more ≡ used → z < places → yields s used z ≡ true → unused (z ∷ more) < unused used
+unfolding yields
+push-uses s {used} {more} z e l y =
+    let u = ap (λ (us : List ℕ). unused (z ∷ us)) e in
+    omega (arith, unused-falls used z l (both-yes (isLoose (s z)) (not (named used z)) y .1))

@@ -1,12 +1,15 @@
--- The proof of the cycle of calls {take}. The measure is how many stacks may still be pushed.
+-- The proof of the cycle of calls {take}. The measure is how many places of the plot the chain up to the stack at hand has not used.
 -- Assumes nothing.
 use Prim.Native.Nat.{ℕ, _<_}
 use mathlib.Core.Path.{sym, _∙_}
+use mathlib.Core.List.{_∷_}
 use native.Mathlib.Omega.{arith}
 use borrow.Author.Needs.{needs}
 use borrow.Author.Tests.{not-false, not-true}
 use borrow.Fn.Kinds.{In}
 use borrow.Fn.PlainCycle.{Measures, is, falls, and}
+use Rattle.plot.specs.Trail.{trailOf, unused}
+use Rattle.plot.proofs.Trails.{push-uses}
 use Rattle.plot.proofs.Taking.{led-below, took-apart, took-firm, took-last, took-none, took-on, took-rest, took-shy}
 use Rattle.follow.proofs.take.Reads as take
 use Rattle.follow.proofs.take.Kinds as take-kinds
@@ -21,7 +24,7 @@ use Rattle.follow.proofs.+take.{statement}
 use Rattle.follow.proofs.+take.Tie.{close}
 
 abbrev μ-take : Measures 2 take-kinds.ps ℕ
-μ-take κs a = a .1 .1 .1 .1 .0
+μ-take κs a = unused (a .1 .1 .1 .1 .1 .0 ∷ trailOf (a .1 .1 .1 .0))
 
 -- what `take` is given at the measure t, and what a call of it asks below t
 abbrev take-at : ℕ → In 2 take-kinds.ps
@@ -122,19 +125,14 @@ take-longer-requires t c κs = (
 )
 
 take-take-requires : (t : ℕ) → take-lts.Need-take-requires (take-claims t) (take-at t) take.Post
-take-take-requires t c κs = let p = c .before .before .before .before .before .before .before .before .before .before .before .before .before .before .pre .1 in (
-  omega arith,
-  (
-    p .0,
-    p .1,
-    p .2,
-    c .longer .ensures .1,
-    omega arith,
-    led-below _ _ _ (sym (c .before .before .before .before .before .before .before .before .before .leads .ensures)
-        ∙ not-false _ (c .before .before .before .before .before .before .before .before .if2 .left)),
-    omega arith,
-  ),
-)
+take-take-requires t c κs =
+    let p = c .before .before .before .before .before .before .before .before .before .before .before .before .before .before .pre in
+    let q = p .1 in
+    let used = c .longer .ensures in
+    let below = led-below _ _ _ (sym (c .before .before .before .before .before .before .before .before .before .leads .ensures)
+    ∙ not-false _ (c .before .before .before .before .before .before .before .before .if2 .left)) in
+    let pushed = push-uses _ _ (used .0) below (sym (c .before .before .yields .ensures) ∙ not-false _ (c .before .if6 .left)) in
+    (omega (arith, p .0, pushed), (q .0, q .1, q .2, used .1, omega arith, below, omega arith))
 
 take-returns-7 : (t : ℕ) → take-lts.Need-returns-7 (take-claims t) (take-at t) take.Post
 take-returns-7 t c = took-on (omega arith) (c .before .before .before .before .before .before .before .before .before .before .before

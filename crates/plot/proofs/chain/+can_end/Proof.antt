@@ -1,15 +1,16 @@
--- The proof of the cycle of calls {can_end}. The measure is how many stacks may still be pushed.
+-- The proof of the cycle of calls {can_end}. The measure is how many places of the plot the chain up to the stack at hand has not used.
 -- Assumes nothing.
 use Prim.Native.Nat.{ℕ, _-_, _<_}
 use mathlib.Core.Path.{sym, _∙_}
+use mathlib.Core.List.{_∷_}
 use native.Mathlib.Omega.{arith}
 use borrow.Author.Needs.{needs}
 use borrow.Author.Tests.{not-false, not-true}
 use borrow.Fn.Kinds.{In}
 use borrow.Fn.PlainCycle.{Measures, is, falls, and}
-use Rattle.plot.specs.Trail.{trailOf}
+use Rattle.plot.specs.Trail.{trailOf, unused}
 use Rattle.plot.proofs.Plots.{next-below}
-use Rattle.plot.proofs.Trails.{one-left}
+use Rattle.plot.proofs.Trails.{one-left, push-uses}
 use Rattle.plot.proofs.Ending.{Endless, can-none, can-rest, can-via, endless, endless-first, endless-held, endless-off, endless-via}
 use Rattle.plot.proofs.chain.can_end.Reads as can-end
 use Rattle.plot.proofs.chain.can_end.Kinds as can-end-kinds
@@ -22,7 +23,7 @@ use Rattle.plot.proofs.chain.+can_end.{statement}
 use Rattle.plot.proofs.chain.+can_end.Tie.{close}
 
 abbrev μ-can-end : Measures 1 can-end-kinds.ps ℕ
-μ-can-end κs a = a .1 .1 .0
+μ-can-end κs a = unused (a .1 .1 .1 .0 ∷ trailOf (a .1 .0))
 
 -- what `can_end` is given at the measure t, and what a call of it asks below t
 abbrev can-end-at : ℕ → In 1 can-end-kinds.ps
@@ -104,19 +105,13 @@ can-end-loop-again-3 t c = endless-via (c .before .before .before .before .befor
 
 can-end-can-end-requires : (t : ℕ) → can-end-lts.Need-can-end-requires (can-end-claims t) (can-end-at t) can-end.Post can-end-Inv-loop
     can-end-μ-loop
-can-end-can-end-requires t c κs = let p = c .before .before .before .before .before .before .before .before .before .before .before .before .pre .1 in (
-  omega (
-    arith,
-    c .before .before .before .before .before .before .before .before .before .before .before .before .pre .0,
-  ),
-  (
-    p .0,
-    omega arith,
-    c .before .before .before .before .before .before .before .before .before .longer
-        .ensures .1,
-    next-below _ _ _ _ (sym (c .before .before .before .before .before .before .next-in .ensures) ∙ c .before .before .before .before .z .given .1),
-  ),
-)
+can-end-can-end-requires t c κs =
+    let p = c .before .before .before .before .before .before .before .before .before .before .before .before .pre in
+    let used = c .before .before .before .before .before .before .before .before .before .longer .ensures in
+    let below = next-below _ _ _ _ (sym (c .before .before .before .before .before .before .next-in .ensures)
+    ∙ c .before .before .before .before .z .given .1) in
+    let pushed = push-uses _ _ (used .0) below (sym (c .before .before .yields .ensures) ∙ not-false _ (c .before .if2 .left)) in
+    (omega (arith, p .0, pushed), (p .1 .0, omega arith, used .1, below))
 
 can-end-returns-3 : (t : ℕ) → can-end-lts.Need-returns-3 (can-end-claims t) (can-end-at t) can-end.Post can-end-Inv-loop can-end-μ-loop
 can-end-returns-3 t c = sym (can-via _ _ _ _ (one-left (c .before .before .before .before .before .before .before .before .before .before .before .before .before .before .pre .1 .1)) _ _ (omega arith) (sym (c .before .before .before .before .before .before .before .before .next-in .ensures) ∙ c .before .before .before .before .before .before .z .given .1) (sym (c .before .before .before .before .before .before .before .before .before .before .before .before .before .has-rest .ensures) ∙ c .before .before .before .before .before .before .before .before .before .before .before .before .if1 .left) (sym (c .before .before .before .before .yields

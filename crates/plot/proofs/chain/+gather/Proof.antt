@@ -1,4 +1,4 @@
--- The proof of the cycle of calls {gather}. The measure is how many stacks may still be pushed.
+-- The proof of the cycle of calls {gather}. The measure is how many places of the plot the chain up to the stack at hand has not used.
 -- Assumes nothing.
 use Prim.Native.Nat.{ℕ, _-_, _≤_, _<_}
 use mathlib.Core.Path.{refl, sym, _∙_}
@@ -9,10 +9,10 @@ use borrow.Author.Tests.{not-false, not-true}
 use borrow.Fn.Kinds.{In}
 use borrow.Fn.PlainCycle.{Measures, is, falls, and}
 use Rattle.plot.specs.Ends.{Marks}
-use Rattle.plot.specs.Trail.{trailOf}
+use Rattle.plot.specs.Trail.{trailOf, unused}
 use Rattle.plot.specs.Plot.{standIn, nextIn}
 use Rattle.plot.proofs.Plots.{next-below}
-use Rattle.plot.proofs.Trails.{one-left}
+use Rattle.plot.proofs.Trails.{one-left, push-uses}
 use Rattle.plot.proofs.Ends.{close-more, close-step, endVia, ends-rest, ends-via, marks-as, marks-left}
 use Rattle.plot.proofs.Ends.{upTo, upto-all, upto-ends, upto-held, upto-none, upto-skip, via-off}
 use Rattle.plot.proofs.chain.gather.Reads as gather
@@ -28,7 +28,7 @@ use Rattle.plot.proofs.chain.+gather.{statement}
 use Rattle.plot.proofs.chain.+gather.Tie.{close}
 
 abbrev μ-gather : Measures 2 gather-kinds.ps ℕ
-μ-gather κs a = a .1 .1 .1 .1 .0
+μ-gather κs a = unused (a .1 .1 .1 .1 .1 .0 ∷ trailOf (a .1 .1 .1 .0))
 
 -- what `gather` is given at the measure t, and what a call of it asks below t
 abbrev gather-at : ℕ → In 2 gather-kinds.ps
@@ -135,20 +135,17 @@ gather-loop-again-3 t c = (
 
 gather-gather-requires : (t : ℕ) → gather-lts.Need-gather-requires (gather-claims t) (gather-at t) gather.Post gather-Inv-loop
     gather-μ-loop
-gather-gather-requires t c κs = let p = c .before .before .before .before .before .before .before .before .before .before .before .before .before .pre .1 in (
-  omega (
-    arith,
-    c .before .before .before .before .before .before .before .before .before .before .before .before .before .pre .0,
-  ),
-  (
-    p .0,
-    c .before .before .before .before .before .before .before .before .before .loop .inv .1 .long ∙ p .1,
-    p .2,
-    omega arith,
-    c .before .before .before .before .before .before .before .before .before .before .longer .ensures .1,
-    close-more _ (omega (arith, p .4 .few)) (close-step _ _ _ _ (sym (c .before .before .before .before .before .before .before .next-in .ensures) ∙ c .before .before .before .before .before .z .given .1) (p .5)),
-  ),
-)
+gather-gather-requires t c κs =
+    let p = c .before .before .before .before .before .before .before .before .before .before .before .before .before .pre in
+    let q = p .1 in
+    let used = c .before .before .before .before .before .before .before .before .before .before .longer .ensures in
+    let step = sym (c .before .before .before .before .before .before .before .next-in .ensures)
+    ∙ c .before .before .before .before .before .z .given .1 in
+    let loose = sym (c .before .before .before .yields .ensures) ∙ not-false _ (c .before .before .if2 .left) in
+    let pushed = push-uses _ _ (used .0) (next-below _ _ _ _ step) loose in
+    let long = c .before .before .before .before .before .before .before .before .before .loop .inv .1 .long in
+    let close = close-step _ _ _ _ step (q .5) in
+    (omega (arith, p .0, pushed), (q .0, long ∙ q .1, q .2, omega arith, used .1, close-more _ (omega (arith, q .4 .few)) close))
 
 gather-loop-again-4 : (t : ℕ) → gather-lts.Need-loop-again-4 (gather-claims t) (gather-at t) gather.Post gather-Inv-loop gather-μ-loop
 gather-loop-again-4 t c = (
