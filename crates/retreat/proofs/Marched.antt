@@ -12,7 +12,7 @@ use Rattle.position.specs.Crowd.{owesAt}
 use Rattle.position.specs.Kind.{supplyKind}
 use Rattle.position.specs.Effect.{changes}
 use Rattle.position.proofs.Tallies.{either}
-use Rattle.acceptance.proofs.Carries.{changes-then, force-by, kind-by}
+use Rattle.acceptance.proofs.Carries.{kind-by}
 use Rattle.acceptance.proofs.Fates.{Freed, Same, assigned-none, same-trans}
 use Rattle.acceptance.proofs.Owings.{owes-hex, owes-role}
 use Rattle.acceptance.proofs.Since.{Since}
@@ -29,7 +29,7 @@ use Rattle.shoves.specs.Group.{gather, group}
 use Rattle.shoves.specs.Played.{onceCleared, onceEntered}
 use Rattle.shoves.specs.Shoves.{Cleared, clears, frees, goesTo, groupTo, marches}
 use Rattle.shoves.proofs.KeepChain.{Pushes, bears-stands, chain-clears, chain-other, clears-vacant, real-hex}
-use Rattle.shoves.proofs.KeepSeries.{emptied, pushes-owes}
+use Rattle.shoves.proofs.KeepSeries.{emptied, pushes-owes, march-on, pushes-own}
 use Rattle.shoves.proofs.KeepStep.{OwnGroup, Stepped, stepped, went}
 use Rattle.shoves.proofs.Standing.{free-is, free-vacant}
 use Rattle.shoves.proofs.Sweeps.{own-frees, own-goes}
@@ -115,17 +115,6 @@ pushes-none {b = b} s =
     record { since = s; fixed = fixed-refl b; desk = refl; roles = λ w l. refl; still = λ w l e. refl; others = λ w l n. refl }
 
 -- a step: hex x is cleared, which gives board c, the group enters it, and the march goes on
-march-parts :
-    (b : Board) (a x : ℕ) (route ps : List ℕ)
-    → changes b (marches b a (x ∷ route) ps)
-    ≡ (let e = onceEntered (onceCleared b x ps) a x in changes e (marches e x route (clears b x ps .left)))
-unfolding marches
-march-parts b a x route ps =
-    let r = clears b x ps in
-    let c = onceCleared b x ps in
-    let e = onceEntered c a x in
-    changes-then (r .done) (groupTo c a x ++ marches e x route (r .left)) b ∙ changes-then (groupTo c a x) (marches e x route (r .left)) c
-
 module _
     {o b c : Board}
     (small : o .map .hexes ≤ nowhere)
@@ -194,13 +183,7 @@ module _
     marched-on :
         {route : List ℕ} → Marched entered x route left (changes entered (marches entered x route left))
         → Marched b a (x ∷ route) ps (changes b (marches b a (x ∷ route) ps))
-    marched-on {route} m = rw (march-parts b a x route ps, ec, el) (goes-on m)
-
--- pushes leave the group of one force
-own-pushed : {o b c : Board} {f : ℕ} (a : ℕ) → Pushes o b f c → OwnGroup b f a → OwnGroup c f a
-own-pushed {b = b} a y mine w l e =
-    let k : w < b .units .count = omega (arith, y .fixed .count) in
-    force-by (y .fixed) w ∙ mine w k (sym (pushes-owes y a w k) ∙ e)
+    marched-on {route} m = rw (march-on b a x route ps, ec, el) (goes-on m)
 
 -- a vacant hex is as it was once it is cleared
 once-vacant : (b : Board) (x : ℕ) → vacant (scene b) x ≡ true → (ps : List ℕ) → (onceCleared b x ps ≡ b) × (clears b x ps .left ≡ ps)
@@ -233,7 +216,7 @@ series-marched {o} {b} {g} {s} {i} {a} f small k real mine z (shove {x = x} {y =
     let b' = onceCleared b x (zs ++ ps) in
     let free : stand b' f a x ≡ Free = ap (λ (p : Stands). p x) (q .shifted .stands) ∙ emptied (stand b f a) x y (chain-other h' here) in
     let bear = free-is b' f a x free .bear in
-    let own = own-pushed a u mine in
+    let own = pushes-own a u mine in
     let c = stepped (u .since) small f a x real own (q .shifted .empty) bear in
     let w = chain-shoved b (rw (k .fixed .map) small) f a h' first here ps in
     marched-on small f a x real u own (q .shifted .empty) bear w refl (q .left-over)

@@ -5,6 +5,8 @@ use Rattle.grid.proofs.Walks.{distance-is}
 use Rattle.shoves.proofs.Played.{legal-played-right}
 use Rattle.retreat.proofs.Road.{road-right}
 use Rattle.retreat.proofs.Words.{group-right, destroyed-right, trapped-right, retreated-right, pushed-right}
+use Rattle.retreat.proofs.UnitsLost.{lost-right}
+use Rattle.retreat.proofs.UnitsGone.{gone-right}
 use Rattle.rules.specs.Order.{step}
 use Rattle.rules.specs.Referee.{Meets}
 use Rattle.rules.specs.Certain.{DemandOne, DemandTwo, DemandThree, Certain}
@@ -37,6 +39,8 @@ demand-two =
       road = road-right;
       retreated = retreated-right;
       pushed = pushed-right;
+      lost = lost-right;
+      gone = gone-right;
       played = legal-played-right;
       keeps = stays-accepted;
       old = old-desks-right;

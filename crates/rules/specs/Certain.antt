@@ -3,6 +3,7 @@
 -- Assumes nothing.
 use Rattle.shoves.specs.Played.{LegalPlayedRight}
 use Rattle.retreat.specs.Words.{GroupRight, DestroyedRight, TrappedRight, RoadRight, RetreatedRight, PushedRight}
+use Rattle.retreat.specs.Units.{LostRight, GoneRight}
 use Rattle.rules.specs.Order.{step}
 use Rattle.rules.specs.Demands.{Total, NumbersRight, OneResult, RefusalsLeaveAll, SupplyRight, DistanceRight, StaysAccepted, OldDesksRight, Secrecy}
 use Rattle.rules.specs.Referee.{Meets, Agree}
@@ -22,12 +23,12 @@ pub record DemandOne : Type 0 where
   pub leaves : RefusalsLeaveAll
 
 -- 2. The rulings of the rules keep every promise, and a referee that keeps every promise gives no others. A unit is in supply exactly if an
--- unblocked line of hexes to a source exists, by the supply call's bytes, by its mark and by how it fights; a beaten group is trapped exactly if neither a vacant route of the owed length nor a series
--- of pushes exists, or only supply units owe, and then it is eliminated exactly if it was sent as long a road as it has, which is written;
--- else what was sent is accepted exactly if it is legal, a vacant route first; and legal are the pushes that can be played on the board,
--- each step done before the next. Accepted positions stay accepted. Positions
--- that name no players are ruled on as with four. Useless referees are shut out, and so is the one that greys out a hopeless attack, which
--- breaks demand 3 too.
+-- unblocked line of hexes to a source exists, by the supply call's bytes, by its mark and by how it fights; a beaten group is trapped
+-- exactly if neither a vacant route of the owed length nor a series of pushes exists, or only supply units owe, and then it is eliminated
+-- exactly if it was sent as long a road as it has, which is written; else what was sent is accepted exactly if it is legal, a vacant route
+-- first; and legal are the pushes that can be played on the board, each step done before the next. Where each unit stands then is told of
+-- the group, of its supply units and of everybody else. Accepted positions stay accepted. Positions that name no players are ruled on as
+-- with four. Useless referees are shut out, and so is the one that greys out a hopeless attack, which breaks demand 3 too.
 pub record DemandTwo : Type 0 where
   pub right : Meets step
   pub agree : Agree
@@ -40,6 +41,8 @@ pub record DemandTwo : Type 0 where
   pub road : RoadRight
   pub retreated : RetreatedRight
   pub pushed : PushedRight
+  pub lost : LostRight
+  pub gone : GoneRight
   pub played : LegalPlayedRight
   pub keeps : StaysAccepted
   pub old : OldDesksRight

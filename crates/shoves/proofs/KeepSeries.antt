@@ -66,7 +66,8 @@ after-pushes {o} {b} {c} {d} {f} {a} s y =
     on : (w : ℕ) → w < b .units .count → w < c .units .count
     on w l = omega (arith, s .fixed .count)
 
-pushes-own : {o b c : Board} {f : ℕ} (a : ℕ) → Pushes o b f c → OwnGroup b f a → OwnGroup c f a
+-- pushes leave the group of one force
+pub pushes-own : {o b c : Board} {f : ℕ} (a : ℕ) → Pushes o b f c → OwnGroup b f a → OwnGroup c f a
 pushes-own {b = b} a s m w l e =
     let k : w < b .units .count = omega (arith, s .fixed .count) in
     force-by (s .fixed) w ∙ m w k (sym (pushes-owes s a w k) ∙ e)
@@ -77,7 +78,7 @@ unfolding after
 emptied s x y n = simp (ne-eqb x y n, eq-eqb x x refl)
 
 -- the changes of a step, one part after another
-march-on :
+pub march-on :
     (b : Board) (a x : ℕ) (route ps : List ℕ)
     → changes b (marches b a (x ∷ route) ps)
     ≡ (let r = clears b x ps in
