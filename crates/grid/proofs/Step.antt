@@ -53,7 +53,7 @@ pub record Way (d u v : ℕ) : Type 0 where
   pub left : v ≤ u + 3
   pub right : u ≤ v + 1
   pub moves : v ≡ 2 → ⊥
-  pub named : heading u v ≡ d
+  pub headed : heading u v ≡ d
   pub back-aside : aside ((d + 3) % 6) + u ≡ 2
   pub back-down : down ((d + 3) % 6) + v ≡ 4
 
@@ -99,7 +99,7 @@ pub one-way : {d e c r c1 r1 : ℕ} → Goes d c r c1 r1 → Goes e c r c1 r1 �
 one-way {d} {e} g g' =
     let u : aside d ≡ aside e = omega (arith, g .over, g' .over) in
     let v : down d ≡ down e = omega (arith, g .deeper, g' .deeper) in
-    sym (ways d (g .dir) .named) ∙ ap₂ heading u v ∙ ways e (g' .dir) .named
+    sym (ways d (g .dir) .headed) ∙ ap₂ heading u v ∙ ways e (g' .dir) .headed
 
 -- a step from hex a to hex b
 pub record Stepped (w h a d b : ℕ) : Type 0 where

@@ -73,8 +73,8 @@ module _ (b : Board) (h : ℕ) (route pushes : List ℕ) where
   abbrev pub fits : Bool
   fits = legal b (groupForce b h) h (b .desk .battle .owed) route && none pushes
 
-  abbrev pub serves : Bool
-  serves = legalPushes b (groupForce b h) h (b .desk .battle .owed) route pushes
+  abbrev pub fitsPushed : Bool
+  fitsPushed = legalPushes b (groupForce b h) h (b .desk .battle .owed) route pushes
 
   abbrev pub parts : Bool
   parts = isPart b h route && none pushes
@@ -103,11 +103,11 @@ module _ (b : Board) (h : ℕ) (route pushes : List ℕ) where
       fate-no-route f = simp (e, r, f)
 
     module _ (r : hasRoute b h ≡ false) where
-      pub fate-pushing : serves ≡ true → fateOf b h route pushes ≡ Pushing
+      pub fate-pushing : fitsPushed ≡ true → fateOf b h route pushes ≡ Pushing
       unfolding fateOf pushFate
       fate-pushing f = simp (e, r, f)
 
-      pub fate-no-pushes : serves ≡ false → fateOf b h route pushes ≡ WrongPushes
+      pub fate-no-pushes : fitsPushed ≡ false → fateOf b h route pushes ≡ WrongPushes
       unfolding fateOf pushFate
       fate-no-pushes f = simp (e, r, f)
 
@@ -136,7 +136,7 @@ module _ (b : Board) (h : ℕ) (route pushes : List ℕ) where
     fate-served r =
         either (pushesServe b (groupForce b h) h (b .desk .battle .owed))
         (λ s.
-        either serves
+        either fitsPushed
         (λ f. simp (s, f) (sym (fate-pushing (spared-series b h w s) r f)))
         (λ f. simp (s, f) (sym (fate-no-pushes (spared-series b h w s) r f))))
         (λ s. simp s (fate-trapped r s))
@@ -190,7 +190,7 @@ fate-says b h route pushes =
     (λ f. rw (fate-vacant b h route pushes e r f) (record { spared = e; way = r; vacant = simp (e, r, f); pushed = simp (e, r) }))
     (λ f. rw (fate-no-route b h route pushes e r f) (simp (e, r, f))))
     (λ r.
-    either (serves b h route pushes)
+    either (fitsPushed b h route pushes)
     (λ f. rw (fate-pushing b h route pushes e r f) (record { spared = e; way = r; vacant = simp (e, r); pushed = simp (e, r, f) }))
     (λ f. rw (fate-no-pushes b h route pushes e r f) (e, simp (e, r), simp (e, r, f)))))
 

@@ -75,7 +75,7 @@ use Rattle.retreat.proofs.Fates.{
   part-supply,
   part-walks,
   parts,
-  serves,
+  fitsPushed,
   spared-route,
   spared-series,
 }
@@ -303,7 +303,7 @@ destroyed-right p h route pushes d =
           (λ f. other F.Walking (answered d (fate-vacant b h route pushes e r f)) (λ z. omega arith) a)
           (λ f. other F.WrongRoute (answered d (fate-no-route b h route pushes e r f)) (λ z. omega arith) a))
           (λ r.
-          either (serves b h route pushes)
+          either (fitsPushed b h route pushes)
           (λ f. other F.Pushing (answered d (fate-pushing b h route pushes e r f)) (λ z. omega arith) a)
           (λ f. other F.WrongPushes (answered d (fate-no-pushes b h route pushes e r f)) (λ z. omega arith) a)))),
       λ l.
@@ -346,9 +346,9 @@ pushed-right p h route pushes d m y n =
     let r = fails (hasRoute b h) (route-right b h (on-due d)) .1 m in
     let e = spared-series b h (walks b h n) (series-right b h .1 y) in
     let t = legal-pushes-right b (groupForce b h) h (b .desk .battle .owed) route pushes in
-    let yes : serves b h route pushes ≡ true → answerTo p h route pushes ≡ accepted (retreatedTo (endOf b route)) =
+    let yes : fitsPushed b h route pushes ≡ true → answerTo p h route pushes ≡ accepted (retreatedTo (endOf b route)) =
     λ f. answered d (fate-pushing b h route pushes e r f) in
-    let no : serves b h route pushes ≡ false → answerTo p h route pushes ≡ refused 17 0 =
+    let no : fitsPushed b h route pushes ≡ false → answerTo p h route pushes ≡ refused 17 0 =
     λ f. answered d (fate-no-pushes b h route pushes e r f) in
     record {
       retreats = when-yes t no yes;

@@ -88,9 +88,9 @@ module _ (b : Board) (some : 1 ≤ owingHexes b) where
       omega
       (arith, sieve-long (Losses.owes b) (b .units .count), tally-pos (Losses.owes b) (b .units .count) (s .at) (s .below) (both-yes _ _ (s .passes) .0))
 
-  leads : Owes b (firstOwing b) leader
+  leader-owes : Owes b (firstOwing b) leader
   unfolding firstOwing allOwing Losses.owes
-  leads =
+  leader-owes =
       let k = sieve-at (Losses.owes b) (b .units .count) 0 (omega (arith, some-owes)) in
       (k .below, owes b leader (b .units .state .hex leader) (eqb-true (b .units .state .role leader) Role.owes (k .passes)) refl)
 
@@ -229,7 +229,7 @@ module _ {p : List ℕ} (a : Accepted p) (e : board p .desk .battle .stage ≡ S
   due : Due p start (routeFor (board p) start) (pushesFor (board p) start)
   due =
       let b = board p in
-      let m = leads b some in
+      let m = leader-owes b some in
       let most : b .map .hexes ≤ nowhere = omega (arith, hexes-most (a .shaped)) in
       let g = is-given (a .lawful) most e start (leader b some) m in
       let l = owed (a .lawful) most e start (leader b some) m .high in
@@ -250,7 +250,7 @@ module _ {p : List ℕ} (a : Accepted p) (e : board p .desk .battle .stage ≡ S
   unfolding ruleOf retreatRule retreatOnward
   retreat-goes =
       let b = board p in
-      let m = leads b some in
+      let m = leader-owes b some in
       let most : b .map .hexes ≤ nowhere = omega (arith, hexes-most (a .shaped)) in
       let route = routeFor b start in
       let pushes = pushesFor b start in
