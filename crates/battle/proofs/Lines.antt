@@ -1,4 +1,4 @@
--- Laws of the battle line: the arrays that it is drawn up from, filled place by place.
+-- Laws of the battle line: the arrays that it is drawn up from, and that of its units, filled place by place.
 -- Assumes nothing.
 use Prim.Native.Nat.{_+_, _<_, _≤_, ℕ}
 use mathlib.Core.Bool.{Bool, cond, false, true}
@@ -6,6 +6,7 @@ use mathlib.Core.List.{List, [], _++_, _∷_, append-assoc, append-nil, map}
 use mathlib.Core.Path.{_∙_, _≡_, ap, ap₂, refl, sym}
 use native.Mathlib.Numerals.{add-one}
 use native.Mathlib.Omega.{arith}
+use borrow.Author.Count.{below-more, below-none}
 use borrow.Author.Tests.{eq-eqb}
 use lib.Dec.{eqb}
 use lib.ListN.{getD, length, length-append, length-set, set, take}
@@ -25,8 +26,9 @@ use Rattle.field.specs.Zone.{standsOn}
 use Rattle.supply.specs.Supply.{supplied, supplyMap}
 use Rattle.results.specs.Participants.{defenders, participants}
 use Rattle.battle.specs.Line.{strengthOf}
-use Rattle.battle.specs.Mustered.{AllStanding, Armed, Arms, ArmsAll, Enlists, Joins, Musters, Prints, nationAt}
-use Rattle.line.specs.Line.{places}
+use Rattle.battle.specs.Mustered.{AllStanding, Armed, Arms, ArmsAll, Enlists, Joins, Musters, Names, Prints, nationAt}
+use Rattle.line.specs.Line.{fighterAt, places}
+use Rattle.line.specs.declared.Fighter.{Fighter}
 
 -- one place more is written
 pub write-next : (us : List ℕ) (i x : ℕ) → i < length us → take (i + 1) (set us i x) ≡ take i us ++ (x ∷ [])
@@ -282,3 +284,23 @@ module _ {b : Board} {who : List ℕ} {n : ℕ} {printed after : List ℕ} where
 
   pub armed-all : {m : ℕ} → AllStanding b who n → ArmedTo b who n printed after m → 5 ≤ m → ArmsAll b who n printed after
   armed-all s o l = record { size = o .size; each = λ i k. o .each i k (omega (arith, s i k .nation)) }
+
+-- the units of the fighters, place by place
+module _ {fs : List Fighter} where
+  pub names-none : {all : List ℕ} → length all ≡ places → Names fs 0 all
+  names-none {all} e = record { size = e; each = below-none (λ j. getD all j 0 ≡ fighterAt fs j .unit) }
+
+  pub names-more :
+      {i x : ℕ} {all all′ : List ℕ} → i < places → Names fs i all → x ≡ fighterAt fs i .unit → all′ ≡ set all i x → Names fs (i + 1) all′
+  names-more {i} {x} {all} l o e f =
+      rw f
+      (record {
+        size = length-set all i x ∙ o .size;
+        each =
+            below-more (λ j. getD (set all i x) j 0 ≡ fighterAt fs j .unit) i
+            (λ j k. getD-set-other all i j x 0 (λ d. omega arith) ∙ o .each j k)
+            (getD-set-same all i x 0 (omega (arith, o .size)) ∙ e);
+      })
+
+  pub names-all : {i n : ℕ} {all : List ℕ} → Names fs i all → n ≤ i → Names fs n all
+  names-all o l = record { size = o .size; each = λ j k. o .each j (omega arith) }

@@ -1,6 +1,6 @@
 -- Beside what is certain: vocabulary of contracts and proofs.
--- What the arrays that the battle line is drawn up from hold: units, printed strengths and fighting strengths. Each has 21 places, of
--- which the first n count.
+-- What the arrays that the battle line is drawn up from hold: units, printed strengths and fighting strengths; and the array that the
+-- units of the line are read back into. Each has 21 places, of which the first n count.
 -- Assumes nothing.
 use Prim.Native.Nat.{_+_, _<_, _≤_, ℕ}
 use mathlib.Core.Bool.{Bool}
@@ -10,7 +10,7 @@ use lib.Dec.{eqb}
 use lib.ListN.{getD, length, take}
 use Rattle.position.specs.Board.{Board}
 use Rattle.position.specs.Layout.{strength}
-use Rattle.line.specs.Line.{fighterOf, places}
+use Rattle.line.specs.Line.{fighterAt, fighterOf, places}
 use Rattle.line.specs.declared.Fighter.{Fighter}
 use Rattle.results.specs.Participants.{defenders, participants}
 use Rattle.battle.specs.Line.{strengthOf}
@@ -68,3 +68,8 @@ pub record ArmsAll (b : Board) (who : List ℕ) (n : ℕ) (printed after : List 
 -- the fighter at place i of the line: unit, printed strength and fighting strength, as the arrays have them
 unfoldable pub drawn : List ℕ → List ℕ → List ℕ → ℕ → Fighter
 drawn who printed fighting i = fighterOf (getD who i 0) (getD printed i 0) (getD fighting i 0)
+
+-- "carries unit .. to the odds and the losses": the first n places hold the units of the first n fighters
+pub record Names (fs : List Fighter) (n : ℕ) (all : List ℕ) : Type 0 where
+  pub size : length all ≡ places
+  pub each : (i : ℕ) → i < n → getD all i 0 ≡ fighterAt fs i .unit

@@ -1,5 +1,5 @@
 // The battle line: who takes part, and what each brings. It is found in three arrays, of which the first `n` places count, and then drawn
-// up as one line of fighters.
+// up as one line of fighters, from which the units are read back for the result.
 ghost use mathlib.Core.Path.{_≡_};
 ghost use Prim.Native.Nat.{_+_, _<_, _≤_};
 ghost use lib.ListN.{length};
@@ -11,7 +11,7 @@ ghost use Rattle.supply.specs.Supply.{supplyMap};
 ghost use Rattle.results.specs.Participants.{defenders};
 ghost use Rattle.battle.specs.Line.{strengthOf};
 ghost use Rattle.line.specs.Line.{places, Filled};
-ghost use Rattle.battle.specs.Mustered.{Enlists, Joins, Musters, Prints, Standing, AllStanding, nationAt, Arms, ArmsAll, drawn};
+ghost use Rattle.battle.specs.Mustered.{Enlists, Joins, Musters, Prints, Standing, AllStanding, nationAt, Arms, ArmsAll, drawn, Names};
 use field::unit;
 use line::Fighter;
 use position::View;
@@ -169,4 +169,15 @@ pub fn draw_up(who: &[u16; 21], printed: &[u8; 21], fighting: &[u8; 21], n: usiz
         };
     }
     fighters
+}
+
+// The units of the first `n` of the line, read back into an array: those that the result is carried out on.
+pub fn units_of(fighters: [Fighter; 21], n: usize, who: &mut [u16; 21])
+    requires { ⌜ (n ≤ places) × (length (now who) ≡ places) ⌝ }
+    ensures { λ _. ⌜ Names fighters n (now (who .exit)) ⌝ }
+{
+    for i in 0..n {
+        let f = fighters[i];
+        who[i] = f.unit;
+    }
 }
