@@ -45,6 +45,7 @@ fn fight(
     let code = read::code(p, v, column, die);
     let o = codes::upshot(code);
     let need = codes::need_of(o, attackers.printed, defenders.printed);
+    ranks::units_of(fighters, n, &mut who);
     settling::settle(p, v, target, units, &who[0..n], o, need);
     paint::clear(scratch);
     Fought::Done(column + 1, code)

@@ -10,7 +10,7 @@ use native.Mathlib.Omega.{arith}
 use borrow.Author.Tests.{eqb-false, eqb-true, leb-true, ne-eqb}
 use lib.Dec.{eqb}
 use lib.ListN.{List·getD-append, drop, getD, length, length-drop, replicate, take, take-append-drop}
-use lib.Seq.{drop-append-le, drop-at, getD-append-add, getD-take, length-take-le, take-at, take-take}
+use lib.Seq.{drop-append-le, drop-at, ext-getD, getD-append-add, getD-take, length-take-le, take-at, take-take}
 use Rattle.position.proofs.Crowds.{crowd-is}
 use Rattle.acceptance.proofs.Lawfuls.{standable-on}
 use Rattle.position.proofs.Tallies.{equals, neither, not-both, same-or, tally-some}
@@ -40,7 +40,7 @@ use Rattle.battle.specs.Asked.{Faces, Engaged}
 use Rattle.battle.specs.Battle.{battle, codeOf, columnOf, needFor, ruled}
 use Rattle.results.specs.Participants.{defenders, participants}
 use Rattle.battle.specs.Line.{attackLine, defenceLine, fighter, line, strengthOf}
-use Rattle.battle.specs.Mustered.{AllStanding, ArmsAll, Musters, Prints, Standing, drawn}
+use Rattle.battle.specs.Mustered.{AllStanding, ArmsAll, Musters, Names, Prints, Standing, drawn}
 use Rattle.odds.specs.Odds.{column, multipleAt}
 use Rattle.results.specs.Results.{battleChanges, lost, needOf, upshot}
 use Rattle.results.specs.declared.Upshot.{Upshot}
@@ -321,6 +321,18 @@ sides {p} {target} {units} {who} {printed} {fighting} {n} {fs} w q a d =
       defenders = second-part g units ds fs n (d .size) (w .most) (w .long) e ∙ sym (defence-line b (strength p) target units);
     }
 
--- the participants, as they are lent from the array
-pub lent-all : {b : Board} {target : ℕ} {units who : List ℕ} {n : ℕ} → Musters b target units who n → take (n - 0) (drop 0 who) ≡ participants b target units
-lent-all {n = n} w = let e : n - 0 ≡ n = omega arith in rw e (w .held)
+-- the participants, as they are lent from the array that the units of the line are read back into
+pub lent-all :
+    {b : Board} {target : ℕ} {units who all : List ℕ} {n : ℕ} {fs : List Fighter} (printed fighting : List ℕ) → Musters b target units who n
+    → Filled (drawn who printed fighting) n fs → Names fs n all → take (n - 0) (drop 0 all) ≡ participants b target units
+unfolding drawn
+lent-all {who = who} {all = all} {n = n} printed fighting w d a =
+    let e : n - 0 ≡ n = omega arith in
+    let h : length (take n who) ≡ n = length-take-le n who (omega (arith, w .size, w .most)) in
+    let k : length (take n all) ≡ n = length-take-le n all (omega (arith, a .size, w .most)) in
+    rw e
+    (ext-getD 0 (take n all) (take n who) (k ∙ sym h)
+    (λ i l.
+    let j : i < n = omega arith in
+    getD-take n all i 0 j ∙ a .each i j ∙ ap (λ (f : Fighter). f .unit) (d .each i j) ∙ sym (getD-take n who i 0 j))
+    ∙ w .held)

@@ -61,6 +61,9 @@ upshot-requires c κs = search needs
 need-of-requires : tie.Need-need-of-requires
 need-of-requires c κs = search needs
 
+units-of-requires : tie.Need-units-of-requires
+units-of-requires c κs = (c .before .before .before .before .before .before .before .before .before .before .before .before .before .before .before .before .before .before .before .before .before .before .before .before .before .before .before .before .muster .ensures .most, c .before .before .before .before .before .before .before .before .before .before .before .before .before .before .before .before .before .before .before .before .before .before .before .before .before .before .before .before .muster .ensures .size)
+
 sub-settle : tie.Need-sub-settle
 sub-settle c = search needs
 
@@ -68,16 +71,16 @@ part-settle-start : tie.Need-part-settle-start
 part-settle-start c = search needs
 
 part-settle-end : tie.Need-part-settle-end
-part-settle-end c = omega (arith, c .before .before .before .before .before .before .before .before .before .before .before .before .before .before .before .before .before .before .before .before .before .before .before .before .before .before .before .before .before .muster .ensures .most, c .before .before .before .before .before .before .before .before .before .before .before .before .before .before .before .before .before .before .before .before .before .before .before .before .before .before .before .before .before .muster .ensures .size)
+part-settle-end c = omega (arith, c .before .before .before .before .before .before .before .before .before .before .before .before .before .before .before .before .before .before .before .before .before .before .before .before .before .before .before .before .before .before .before .muster .ensures .most, c .before .before .units-of .ensures .size)
 
 settle-requires : tie.Need-settle-requires
 settle-requires c κs = (
-  c .before .before .before .before .before .before .before .before .before .before .before .before .before .before .before .before .before .before .before .before .before .before .before .before .before .before .before .before .before .before .before .before .before .before .before .before .pre .0,
-  c .before .before .before .before .before .before .before .before .before .before .before .before .before .before .before .before .before .before .before .before .before .before .before .before .before .before .before .before .before .before .before .before .before .before .before .before .pre .2 .range .most,
-  omega (arith, small (c .before .before .before .before .before .before .before .before .before .before .before .before .before .before .before .before .before .before .before .before .before .before .before .before .before .before .before .before .before .before .before .before .before .before .before .before), c .before .before .before .before .before .before .before .before .before .before .before .before .before .before .before .before .before .before .before .before .before .before .before .before .before .before .before .before .before .before .before .before .before .before .before .before .pre .2 .range .aimed),
-  lent-all (c .before .before .before .before .before .before .before .before .before .before .before .before .before .before .before .before .before .before .before .before .before .before .before .before .before .before .before .before .before .before .muster .ensures),
-  rw (c .before .before .before .before .upshot .ensures) (upshot-fits (c .before .before .before .before .before .code .result) (c .before .before .before .before .before .code .ensures .small)),
-  rw (c .before .before .before .need-of .ensures) (need-fits (c .before .before .before .before .upshot .result) (c .before .before .before .before .before .before .before .before .before .before .before .before .before .sum-up .result .printed) (c .before .before .before .before .before .before .before .before .before .before .before .before .sum-up2 .result .printed) (c .before .before .before .before .before .before .before .before .before .before .before .before .before .sum-up .ensures .printed .small) (c .before .before .before .before .before .before .before .before .before .before .before .before .sum-up2 .ensures .printed .small)),
+  c .before .before .before .before .before .before .before .before .before .before .before .before .before .before .before .before .before .before .before .before .before .before .before .before .before .before .before .before .before .before .before .before .before .before .before .before .before .before .pre .0,
+  c .before .before .before .before .before .before .before .before .before .before .before .before .before .before .before .before .before .before .before .before .before .before .before .before .before .before .before .before .before .before .before .before .before .before .before .before .before .before .pre .2 .range .most,
+  omega (arith, small (c .before .before .before .before .before .before .before .before .before .before .before .before .before .before .before .before .before .before .before .before .before .before .before .before .before .before .before .before .before .before .before .before .before .before .before .before .before .before), c .before .before .before .before .before .before .before .before .before .before .before .before .before .before .before .before .before .before .before .before .before .before .before .before .before .before .before .before .before .before .before .before .before .before .before .before .before .before .pre .2 .range .aimed),
+  lent-all _ _ (c .before .before .before .before .before .before .before .before .before .before .before .before .before .before .before .before .before .before .before .before .before .before .before .before .before .before .before .before .before .before .before .before .muster .ensures) (c .before .before .before .before .before .before .before .before .before .before .before .before .before .before .before .before .draw-up .ensures) (c .before .before .before .units-of .ensures),
+  rw (c .before .before .before .before .before .before .upshot .ensures) (upshot-fits (c .before .before .before .before .before .before .before .code .result) (c .before .before .before .before .before .before .before .code .ensures .small)),
+  rw (c .before .before .before .before .before .need-of .ensures) (need-fits (c .before .before .before .before .before .before .upshot .result) (c .before .before .before .before .before .before .before .before .before .before .before .before .before .before .before .sum-up .result .printed) (c .before .before .before .before .before .before .before .before .before .before .before .before .before .before .sum-up2 .result .printed) (c .before .before .before .before .before .before .before .before .before .before .before .before .before .before .before .sum-up .ensures .printed .small) (c .before .before .before .before .before .before .before .before .before .before .before .before .before .before .sum-up2 .ensures .printed .small)),
 )
 
 clear-requires : tie.Need-clear-requires
@@ -90,24 +93,24 @@ same-length : tie.Need-same-length
 same-length c = search needs
 
 same-length-2 : tie.Need-same-length-2
-same-length-2 c = omega (arith, c .before .before .clear .kept .0, c .before .before .before .before .before .before .before .before .before .before .before .before .before .before .before .before .before .before .before .before .before .before .before .before .before .before .before .arm-all .kept .1 .1 .1 .1 .1 .1 .0)
+same-length-2 c = omega (arith, c .before .before .clear .kept .0, c .before .before .before .before .before .before .before .before .before .before .before .before .before .before .before .before .before .before .before .before .before .before .before .before .before .before .before .before .before .arm-all .kept .1 .1 .1 .1 .1 .1 .0)
 
 returns : tie.Need-returns
 returns c =
-    let a = c .before .before .before .before .before .before .before .before .before .before .before .before .before .before .before .before .before .before .before .before .before .before .before .before .before .before .before .before .before .before .before .before .before .before .before .before .before .before .before .before .before .before .before .args in
+    let a = c .before .before .before .before .before .before .before .before .before .before .before .before .before .before .before .before .before .before .before .before .before .before .before .before .before .before .before .before .before .before .before .before .before .before .before .before .before .before .before .before .before .before .before .before .before .args in
     let p = a .p .now in
     let b = board p in
-    let s = sides (c .before .before .before .before .before .before .before .before .before .before .before .before .before .before .before .before .before .before .before .before .before .before .before .before .before .before .before .before .before .before .before .before .before .before .before .before .before .muster .ensures) (c .before .before .before .before .before .before .before .before .before .before .before .before .before .before .before .before .before .before .before .before .before .before .before .before .before .before .before .before .before .before .before .before .before .strengths .ensures) (c .before .before .before .before .before .before .before .before .before .before .before .before .before .before .before .before .before .before .before .before .before .before .before .before .before .before .before .arm-all .ensures) (c .before .before .before .before .before .before .before .before .before .before .before .before .before .before .before .before .before .before .before .before .before .draw-up .ensures) in
-    let f = c .before .before .before .before .before .before .before .before .before .before .before .before .before .before .before .before .before .before .before .before .sum-up .ensures in
-    let g = c .before .before .before .before .before .before .before .before .before .before .before .before .before .before .before .before .before .before .before .sum-up2 .ensures in
-    battled (c .before .before .before .before .before .before .before .before .before .before .before .before .before .before .before .before .before .before .before .before .before .before .before .before .before .before .before .before .before .before .before .before .before .before .before .before .before .before .before .before .before .before .before .pre .0 .shaped)
+    let s = sides (c .before .before .before .before .before .before .before .before .before .before .before .before .before .before .before .before .before .before .before .before .before .before .before .before .before .before .before .before .before .before .before .before .before .before .before .before .before .before .before .muster .ensures) (c .before .before .before .before .before .before .before .before .before .before .before .before .before .before .before .before .before .before .before .before .before .before .before .before .before .before .before .before .before .before .before .before .before .before .before .strengths .ensures) (c .before .before .before .before .before .before .before .before .before .before .before .before .before .before .before .before .before .before .before .before .before .before .before .before .before .before .before .before .before .arm-all .ensures) (c .before .before .before .before .before .before .before .before .before .before .before .before .before .before .before .before .before .before .before .before .before .before .before .draw-up .ensures) in
+    let f = c .before .before .before .before .before .before .before .before .before .before .before .before .before .before .before .before .before .before .before .before .before .before .sum-up .ensures in
+    let g = c .before .before .before .before .before .before .before .before .before .before .before .before .before .before .before .before .before .before .before .before .before .sum-up2 .ensures in
+    battled (c .before .before .before .before .before .before .before .before .before .before .before .before .before .before .before .before .before .before .before .before .before .before .before .before .before .before .before .before .before .before .before .before .before .before .before .before .before .before .before .before .before .before .before .before .before .pre .0 .shaped)
     (decides b (a .target) (a .units .now) (a .die) (map (strength p) (participants b (a .target) (a .units .now)))
-    (f .fighting .is ∙ ap fightingTotal (s .attackers)) (g .fighting .is ∙ ap fightingTotal (s .defenders)) (c .before .before .before .before .before .before .before .before .before .before .before .before .before .before .before .before .before .multiple-at .ensures .is) (c .before .before .before .before .before .before .before .before .before .before .before .before .before .before .column .ensures .is) (c .before .before .before .before .before .before .before .before .before .before .before .before .code .ensures .is)
+    (f .fighting .is ∙ ap fightingTotal (s .attackers)) (g .fighting .is ∙ ap fightingTotal (s .defenders)) (c .before .before .before .before .before .before .before .before .before .before .before .before .before .before .before .before .before .before .before .multiple-at .ensures .is) (c .before .before .before .before .before .before .before .before .before .before .before .before .before .before .before .before .column .ensures .is) (c .before .before .before .before .before .before .before .before .before .before .before .before .before .before .code .ensures .is)
     (f .printed .is ∙ ap printedTotal (s .attackers)) (g .printed .is ∙ ap printedTotal (s .defenders))
-    (c .before .before .before .before .before .before .before .before .before .before .need-of .ensures ∙ ap (λ (o : Upshot). needOf o (c .before .before .before .before .before .before .before .before .before .before .before .before .before .before .before .before .before .before .before .before .sum-up .result .printed) (c .before .before .before .before .before .before .before .before .before .before .before .before .before .before .before .before .before .before .before .sum-up2 .result .printed)) (c .before .before .before .before .before .before .before .before .before .before .before .upshot .ensures)))
+    (c .before .before .before .before .before .before .before .before .before .before .before .before .need-of .ensures ∙ ap (λ (o : Upshot). needOf o (c .before .before .before .before .before .before .before .before .before .before .before .before .before .before .before .before .before .before .before .before .before .before .sum-up .result .printed) (c .before .before .before .before .before .before .before .before .before .before .before .before .before .before .before .before .before .before .before .before .before .sum-up2 .result .printed)) (c .before .before .before .before .before .before .before .before .before .before .before .before .before .upshot .ensures)))
     (c .before .before .before .before .before .before .settle .ensures
-    ∙ ap₂ (λ (x : List ℕ) (o : Upshot). makes (turnedAll p x) (battleChanges b (a .target) (a .units .now) o (c .before .before .before .before .before .before .before .before .before .before .need-of .result))) (lent-all (c .before .before .before .before .before .before .before .before .before .before .before .before .before .before .before .before .before .before .before .before .before .before .before .before .before .before .before .before .before .before .before .before .before .before .before .before .before .muster .ensures)) (c .before .before .before .before .before .before .before .before .before .before .before .upshot .ensures))
-    (all-clear (c .before .before .before .before .before .before .before .before .before .before .before .before .before .before .before .before .before .before .before .before .before .before .before .before .before .before .before .arm-all .last .1 .1 .1 .1 .1 .1 .0) (b .map .hexes) (c .before .before .clear .ensures) (omega (arith, c .before .before .before .before .before .before .before .before .before .before .before .before .before .before .before .before .before .before .before .before .before .before .before .before .before .before .before .before .before .before .before .before .before .before .before .before .before .before .before .before .before .before .before .pre .2 .range .scratch, c .before .before .before .before .before .before .before .before .before .before .before .before .before .before .before .before .before .before .before .before .before .before .before .before .before .before .before .arm-all .kept .1 .1 .1 .1 .1 .1 .0)))
+    ∙ ap₂ (λ (x : List ℕ) (o : Upshot). makes (turnedAll p x) (battleChanges b (a .target) (a .units .now) o (c .before .before .before .before .before .before .before .before .before .before .before .before .need-of .result))) (lent-all _ _ (c .before .before .before .before .before .before .before .before .before .before .before .before .before .before .before .before .before .before .before .before .before .before .before .before .before .before .before .before .before .before .before .before .before .before .before .before .before .before .before .muster .ensures) (c .before .before .before .before .before .before .before .before .before .before .before .before .before .before .before .before .before .before .before .before .before .before .before .draw-up .ensures) (c .before .before .before .before .before .before .before .before .before .before .units-of .ensures)) (c .before .before .before .before .before .before .before .before .before .before .before .before .before .upshot .ensures))
+    (all-clear (c .before .before .before .before .before .before .before .before .before .before .before .before .before .before .before .before .before .before .before .before .before .before .before .before .before .before .before .before .before .arm-all .last .1 .1 .1 .1 .1 .1 .0) (b .map .hexes) (c .before .before .clear .ensures) (omega (arith, c .before .before .before .before .before .before .before .before .before .before .before .before .before .before .before .before .before .before .before .before .before .before .before .before .before .before .before .before .before .before .before .before .before .before .before .before .before .before .before .before .before .before .before .before .before .pre .2 .range .scratch, c .before .before .before .before .before .before .before .before .before .before .before .before .before .before .before .before .before .before .before .before .before .before .before .before .before .before .before .before .before .arm-all .kept .1 .1 .1 .1 .1 .1 .0)))
 
 pub fight-spec : {M : Type 1} → statement M
 fight-spec =
@@ -125,6 +128,7 @@ fight-spec =
     code-requires
     upshot-requires
     need-of-requires
+    units-of-requires
     sub-settle
     part-settle-start
     part-settle-end
