@@ -2,16 +2,17 @@
 ghost use mathlib.Core.Path.{_≡_};
 ghost use Prim.Native.Nat.{_<_, _≤_};
 ghost use lib.ListN.{length};
+ghost use Rattle.grid.specs.Region.{RegionOk, placeIn};
 ghost use Rattle.chains.specs.Chain.{leads};
 ghost use Rattle.plot.specs.Plot.{nextIn};
-ghost use Rattle.plot.specs.Places.{homeFor};
 ghost use Rattle.plot.specs.Trail.{trailOf, TrailOk};
 ghost use Rattle.plot.specs.Follow.{followsIn, TookIn, PushedOut, Stepped};
 use chains::Stand;
 use grid::Beside;
+use grid::region;
+use grid::region::Region;
 use plot::Took;
 use plot::chain;
-use plot::spot;
 
 // Whether place `z` is next to place `h`.
 fn leads(plot: &[u8; 182], h: usize, z: usize) -> bool
@@ -34,20 +35,21 @@ fn leads(plot: &[u8; 182], h: usize, z: usize) -> bool
 fn take(
     plot: &[u8; 182],
     w: usize,
-    start: usize,
+    height: usize,
+    at: Region,
     t: usize,
     left: usize,
     h: usize,
     pushes: &[u16],
     k: usize,
 ) -> Took
-    requires { ⌜ (length (now plot) ≡ 182) × (1 ≤ w) × (start < 65536) × TrailOk t left × (1 ≤ left) × (h < 182) × (k ≤ length (now pushes)) ⌝ }
-    ensures { λ r. ⌜ TookIn w start (now (plot .entry)) (trailOf t) left h k (now (pushes .entry)) r ⌝ }
+    requires { ⌜ (length (now plot) ≡ 182) × RegionOk at × TrailOk t left × (1 ≤ left) × (h < 182) × (k ≤ length (now pushes)) ⌝ }
+    ensures { λ r. ⌜ TookIn (placeIn w height at) (now (plot .entry)) (trailOf t) left h k (now (pushes .entry)) r ⌝ }
 {
     if pushes.len() <= k {
         return Took::Wrong;
     }
-    let z = spot::place_for(w, start, pushes[k] as usize);
+    let z = region::place_in(w, height, at, pushes[k] as usize);
     if !leads(plot, h, z) {
         return Took::Wrong;
     }
@@ -66,7 +68,8 @@ fn take(
     take(
         plot,
         w,
-        start,
+        height,
+        at,
         chain::longer(t, h, left),
         left - 1,
         z,
@@ -79,17 +82,18 @@ fn take(
 fn push_out(
     plot: &mut [u8; 182],
     w: usize,
-    start: usize,
+    height: usize,
+    at: Region,
     a: usize,
     x: usize,
     pushes: &[u16],
     k: usize,
 ) -> Took
-    requires { ⌜ (length (now plot) ≡ 182) × (1 ≤ w) × (start < 65536) × (a < 182) × (x < 182) × (k ≤ length (now pushes)) ⌝ }
-    ensures { λ r. ⌜ PushedOut w start (now (plot .entry)) (now (plot .exit)) a x k (now (pushes .entry)) r ⌝ }
+    requires { ⌜ (length (now plot) ≡ 182) × RegionOk at × (a < 182) × (x < 182) × (k ≤ length (now pushes)) ⌝ }
+    ensures { λ r. ⌜ PushedOut (placeIn w height at) (now (plot .entry)) (now (plot .exit)) a x k (now (pushes .entry)) r ⌝ }
 {
     let own = chain::own(a);
-    let Took::UpTo(y, m) = take(plot, w, start, own, 3, x, pushes, k) else {
+    let Took::UpTo(y, m) = take(plot, w, height, at, own, 3, x, pushes, k) else {
         return Took::Wrong;
     };
     plot::shift(plot, x, y);
@@ -100,20 +104,22 @@ fn push_out(
 fn enter(
     plot: &mut [u8; 182],
     w: usize,
-    start: usize,
+    height: usize,
+    at: Region,
+    home: usize,
     i: usize,
     a: usize,
     x: usize,
     pushes: &[u16],
     k: usize,
 ) -> Took
-    requires { ⌜ (length (now plot) ≡ 182) × (1 ≤ w) × (start < 65536) × (a < 182) × (k ≤ length (now pushes)) ⌝ }
-    ensures { λ r. ⌜ Stepped w start (now (plot .entry)) (now (plot .exit)) i a x k (now (pushes .entry)) r ⌝ }
+    requires { ⌜ (length (now plot) ≡ 182) × RegionOk at × (home < 182) × (a < 182) × (k ≤ length (now pushes)) ⌝ }
+    ensures { λ r. ⌜ Stepped (placeIn w height at) home (now (plot .entry)) (now (plot .exit)) i a x k (now (pushes .entry)) r ⌝ }
 {
     if !leads(plot, a, x) {
         return Took::Wrong;
     }
-    let far = grid::distance(plot::WIDE, plot::HIGH, spot::home_for(w, start), x);
+    let far = grid::distance(plot::WIDE, plot::HIGH, home, x);
     if far == 0 {
         return Took::Wrong;
     }
@@ -123,20 +129,28 @@ fn enter(
     match plot::stand_in(plot, x) {
         Stand::Shut => Took::Wrong,
         Stand::Free => Took::UpTo(x, k),
-        Stand::Loose => push_out(plot, w, start, a, x, pushes, k),
+        Stand::Loose => push_out(plot, w, height, at, a, x, pushes, k),
     }
 }
 
 // Whether route and pushes are legal steps from the start on, whatever the route's length.
-pub fn follows(plot: &mut [u8; 182], w: usize, start: usize, route: &[u16], pushes: &[u16]) -> bool
-    requires { ⌜ (length (now plot) ≡ 182) × (1 ≤ w) × (start < 65536) ⌝ }
-    ensures { λ r. ⌜ r ≡ followsIn w start (now (plot .entry)) 0 (homeFor w start) (now (route .entry)) 0 (now (pushes .entry)) ⌝ }
+pub fn follows(
+    plot: &mut [u8; 182],
+    w: usize,
+    height: usize,
+    at: Region,
+    home: usize,
+    route: &[u16],
+    pushes: &[u16],
+) -> bool
+    requires { ⌜ (length (now plot) ≡ 182) × RegionOk at × (home < 182) ⌝ }
+    ensures { λ r. ⌜ r ≡ followsIn (placeIn w height at) home (now (plot .entry)) 0 home (now (route .entry)) 0 (now (pushes .entry)) ⌝ }
 {
-    let mut a = spot::home_for(w, start);
+    let mut a = home;
     let mut k = 0;
     for i in 0..route.len() {
-        let x = spot::place_for(w, start, route[i] as usize);
-        let Took::UpTo(_, m) = enter(plot, w, start, i, a, x, pushes, k) else {
+        let x = region::place_in(w, height, at, route[i] as usize);
+        let Took::UpTo(_, m) = enter(plot, w, height, at, home, i, a, x, pushes, k) else {
             return false;
         };
         a = x;

@@ -6,4 +6,5 @@ pub mod Far
 pub mod Walks
 pub mod Laws
 pub mod Close
+pub mod Regions
 pub mod Rulings

@@ -1,4 +1,5 @@
 pub mod Map
 pub mod Walk
 pub mod Spot
+pub mod Region
 pub mod Rulings

@@ -1,5 +1,6 @@
 // Hexes of a map, their neighbours and distances.
 pub mod near;
+pub mod region;
 
 ghost use mathlib.Core.Path.{_≡_};
 ghost use Prim.Native.Nat.{_<_, _≤_};
@@ -15,8 +16,8 @@ pub enum Beside {
 // A hex with its column and its row, both counted from 0.
 pub struct Spot {
     pub hex: usize,
-    pub column: usize,
-    pub row: usize,
+    column: usize,
+    row: usize,
 }
 
 // What lies beside a hex, with its column and row.

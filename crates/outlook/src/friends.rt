@@ -8,7 +8,7 @@ use position::bits;
 use position::layout;
 
 // The bytes of a window.
-const PLACES: usize = 49;
+const PLACES: usize = 56;
 
 // Whether a hex with the marks `m` may hold a stack that can be pushed: friends and no supply unit of theirs, outside Enemy zones.
 fn friendly(m: usize) -> bool
@@ -25,8 +25,8 @@ fn friendly(m: usize) -> bool
 
 // Whether a place of the window shows such a hex. All are looked at: that is faster than to stop at the first.
 fn any_friendly(painted: &[u8]) -> bool
-    requires { ⌜ length (now painted) ≡ 49 ⌝ }
-    ensures { λ r. ⌜ r ≡ any (friendlyAt (now (painted .entry))) 49 ⌝ }
+    requires { ⌜ length (now painted) ≡ 56 ⌝ }
+    ensures { λ r. ⌜ r ≡ any (friendlyAt (now (painted .entry))) 56 ⌝ }
 {
     let mut found = false;
     for i in 0..PLACES {
@@ -39,8 +39,8 @@ fn any_friendly(painted: &[u8]) -> bool
 
 // Whether a place other than `home` does: the start's own, which no route enters, is blotted out first.
 pub fn near(painted: &mut [u8], home: usize) -> bool
-    requires { ⌜ (length (now painted) ≡ 49) × (home < 49) ⌝ }
-    ensures { λ r. ⌜ r ≡ any (friendlyAt (set (now (painted .entry)) home 0)) 49 ⌝ }
+    requires { ⌜ (length (now painted) ≡ 56) × (home < 56) ⌝ }
+    ensures { λ r. ⌜ r ≡ any (friendlyAt (set (now (painted .entry)) home 0)) 56 ⌝ }
 {
     painted[home] = 0;
     any_friendly(painted)

@@ -10,11 +10,14 @@ ghost use Rattle.routes.specs.Window.{Window};
 mod friends;
 
 use grid::near;
-use paint::frame;
-use paint::frame::Frame;
+use grid::region;
+use grid::region::Region;
 use position::View;
 use routes::Outlook;
 use window::sent;
+
+// No route has more hexes.
+const FAR: usize = 3;
 
 // How many steps the route is tested for: those that are owed, or its own where it has fewer and no legal route exists.
 fn tested(found: bool, n: usize, k: usize) -> usize
@@ -34,14 +37,14 @@ fn tested(found: bool, n: usize, k: usize) -> usize
 fn tell(
     p: &[u8],
     v: View,
-    at: Frame,
+    at: Region,
     painted: &mut [u8],
     f: usize,
     start: usize,
     n: usize,
     route: &[u16],
 ) -> Outlook
-    requires { ⌜ Laid (now p) v × Window (now p) v f start at (now painted) × (length (now painted) ≡ 49) × (start < v .hexes) × (1 ≤ n) × (n ≤ 3) ⌝ }
+    requires { ⌜ Laid (now p) v × Window (now p) v f start at (now painted) × (length (now painted) ≡ 56) × (start < v .hexes) × (1 ≤ n) × (n ≤ 3) ⌝ }
     ensures { λ r. ⌜ OutlookOf (board (now (p .entry))) f start n (now (route .entry)) r ⌝ }
 {
     let found = window::finds(p, v, at, painted, f, start, n);
@@ -49,7 +52,7 @@ fn tell(
     let fits = sent::is_legal(p, v, at, painted, f, start, k, route);
     if !found {
         let here = near::spot(v.width, v.height, start);
-        if friends::near(painted, frame::place(v, at, here)) {
+        if friends::near(painted, region::place(v.width, v.height, at, here)) {
             return Outlook::Friends(fits);
         }
         return Outlook::Alone(fits);
@@ -70,10 +73,11 @@ fn judge_by(
     route: &[u16],
     room: &mut [u8],
 ) -> Outlook
-    requires { ⌜ Laid (now p) v × (start < v .hexes) × (1 ≤ n) × (n ≤ 3) × (now room ≡ replicate 49 0) ⌝ }
+    requires { ⌜ Laid (now p) v × (start < v .hexes) × (1 ≤ n) × (n ≤ 3) × (now room ≡ replicate 56 0) ⌝ }
     ensures { λ r. ⌜ OutlookOf (board (now (p .entry))) f start n (now (route .entry)) r ⌝ }
 {
-    let at = window::around(v, near::spot(v.width, v.height, start));
+    let s = near::spot(v.width, v.height, start);
+    let at = region::round(v.width, v.height, s, FAR);
     paint::paint_blank(p, v, at, f, room);
     tell(p, v, at, room, f, start, n, route)
 }
@@ -83,6 +87,6 @@ pub fn judge(p: &[u8], v: View, f: usize, start: usize, n: usize, route: &[u16])
     requires { ⌜ Laid (now p) v × (start < v .hexes) × (1 ≤ n) × (n ≤ 3) ⌝ }
     ensures { λ r. ⌜ OutlookOf (board (now (p .entry))) f start n (now (route .entry)) r ⌝ }
 {
-    let mut room = [0u8; 49];
+    let mut room = [0u8; 56];
     judge_by(p, v, f, start, n, route, &mut room)
 }

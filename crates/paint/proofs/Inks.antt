@@ -9,7 +9,7 @@ use borrow.Author.Tests.{eq-eqb, ne-eqb}
 use Rattle.position.specs.Bits.{has}
 use Rattle.position.proofs.Tallies.{same-or, either}
 use Rattle.position.proofs.BitLaws.{bit-off, bit-there, bit-same}
-use Rattle.paint.specs.Paint.{Mark, inZone, byEnemy, byOwn, byDepot, byAny, bit, Stamp, inked}
+use Rattle.paint.specs.Paint.{Mark, inZone, byEnemy, byOwn, byDepot, byAny, spare, bit, Stamp, inked}
 
 -- on a byte without mark i
 module _ (m : ℕ) where
@@ -19,6 +19,7 @@ module _ (m : ℕ) where
   gets byOwn e = omega arith
   gets byDepot e = omega arith
   gets byAny e = omega arith
+  gets spare e = omega arith
 
   fits : (i : Mark) → m / bit i % 2 ≡ 0 → m < 256 → m + bit i < 256
   fits inZone e l = omega arith
@@ -26,6 +27,7 @@ module _ (m : ℕ) where
   fits byOwn e l = omega arith
   fits byDepot e l = omega arith
   fits byAny e l = omega arith
+  fits spare e l = omega arith
 
   -- the lower digits and the higher ones stay
   higher : (n k : ℕ) → n / k ≡ m / k → n / k % 2 ≡ m / k % 2
@@ -37,26 +39,37 @@ module _ (m : ℕ) where
   keeps inZone byOwn d e = omega arith
   keeps inZone byDepot d e = omega arith
   keeps inZone byAny d e = omega arith
+  keeps inZone spare d e = omega arith
   keeps byEnemy inZone d e = higher (m + 1) 2 (omega arith)
   keeps byEnemy byEnemy d e = absurd (d refl)
   keeps byEnemy byOwn d e = omega arith
   keeps byEnemy byDepot d e = omega arith
   keeps byEnemy byAny d e = omega arith
+  keeps byEnemy spare d e = omega arith
   keeps byOwn inZone d e = higher (m + 1) 4 (omega arith)
   keeps byOwn byEnemy d e = higher (m + 2) 4 (omega arith)
   keeps byOwn byOwn d e = absurd (d refl)
   keeps byOwn byDepot d e = omega arith
   keeps byOwn byAny d e = omega arith
+  keeps byOwn spare d e = omega arith
   keeps byDepot inZone d e = higher (m + 1) 8 (omega arith)
   keeps byDepot byEnemy d e = higher (m + 2) 8 (omega arith)
   keeps byDepot byOwn d e = higher (m + 4) 8 (omega arith)
   keeps byDepot byDepot d e = absurd (d refl)
   keeps byDepot byAny d e = omega arith
+  keeps byDepot spare d e = omega arith
   keeps byAny inZone d e = higher (m + 1) 16 (omega arith)
   keeps byAny byEnemy d e = higher (m + 2) 16 (omega arith)
   keeps byAny byOwn d e = higher (m + 4) 16 (omega arith)
   keeps byAny byDepot d e = higher (m + 8) 16 (omega arith)
   keeps byAny byAny d e = absurd (d refl)
+  keeps byAny spare d e = omega arith
+  keeps spare inZone d e = higher (m + 1) 32 (omega arith)
+  keeps spare byEnemy d e = higher (m + 2) 32 (omega arith)
+  keeps spare byOwn d e = higher (m + 4) 32 (omega arith)
+  keeps spare byDepot d e = higher (m + 8) 32 (omega arith)
+  keeps spare byAny d e = higher (m + 16) 32 (omega arith)
+  keeps spare spare d e = absurd (d refl)
 
 -- the byte with the mark, where it was there and where it was not
 pub inked-has : (b m : ℕ) → has b m ≡ true → inked b m ≡ m
@@ -94,14 +107,15 @@ inked-fits {b} {m} s e l =
     let q : m / bit (s .mark) % 2 ≡ 0 = rw (s .is) (bit-off b m e) in
     omega (arith, fits m (s .mark) q l, s .is)
 
-some-bit : (i : Mark) → (1 ≤ bit i) × (bit i ≤ 16)
+some-bit : (i : Mark) → (1 ≤ bit i) × (bit i ≤ 32)
 some-bit inZone = omega arith
 some-bit byEnemy = omega arith
 some-bit byOwn = omega arith
 some-bit byDepot = omega arith
 some-bit byAny = omega arith
+some-bit spare = omega arith
 
-pub stamp-some : {b : ℕ} → Stamp b → (1 ≤ b) × (b ≤ 16)
+pub stamp-some : {b : ℕ} → Stamp b → (1 ≤ b) × (b ≤ 32)
 stamp-some s = let k = some-bit (s .mark) in omega (arith, s .is, k)
 
 -- the marks that an empty byte has
@@ -112,3 +126,4 @@ has-none byEnemy = refl
 has-none byOwn = refl
 has-none byDepot = refl
 has-none byAny = refl
+has-none spare = refl

@@ -1,5 +1,4 @@
 pub mod Bytes
-pub mod Frames
 pub mod Inks
 pub mod Adding
 pub mod Casting

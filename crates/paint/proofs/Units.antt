@@ -1,12 +1,16 @@
--- What one unit marks, by its cases; and that all units together mark what the frame is to show.
+-- What one unit marks, by its cases; and that all units together mark what the region is to show.
 -- Assumes nothing.
 use Prim.Native.Nat.{ℕ, _+_}
-use mathlib.Core.Path.{_≡_, refl, sym, ap, _∙_}
+use mathlib.Core.Path.{_≡_, refl, sym, ap, subst, _∙_}
 use mathlib.Core.Bool.{Bool, true, false, not, _&&_, _||_, and-true, and-false, or-false, Bool·not-not}
 use mathlib.Core.List.{List}
+use native.Mathlib.Omega.{arith}
 use lib.Dec.{eqb}
 use lib.ListN.{replicate}
 use borrow.Author.Tests.{eq-eqb, ne-eqb}
+use Rattle.grid.specs.declared.region.Region.{Region}
+use Rattle.grid.specs.Region.{Inside, placeOf, One, Away}
+use Rattle.grid.proofs.Regions.{place-in}
 use Rattle.position.specs.Tally.{any}
 use Rattle.position.specs.Bits.{has}
 use Rattle.position.specs.declared.View.{View}
@@ -20,8 +24,6 @@ use Rattle.position.proofs.Cells.{byte-empty}
 use Rattle.field.specs.Scene.{Scene, scene, forceIn}
 use Rattle.field.specs.Zone.{standsOn, vacant, ownOn, holds, supplyUnitOn, enemyOn, holdsEnemy, enemyZone}
 use Rattle.field.proofs.Zones.{force-in, stands-off, own-off, enemy-off}
-use Rattle.paint.specs.declared.frame.Frame.{Frame}
-use Rattle.paint.specs.Frame.{Inside, placeOf, Away}
 use Rattle.paint.specs.Paint.{
   Mark,
   inZone,
@@ -29,6 +31,7 @@ use Rattle.paint.specs.Paint.{
   byOwn,
   byDepot,
   byAny,
+  spare,
   bit,
   zoneMark,
   markHolds,
@@ -80,6 +83,9 @@ depot-stamp = record { mark = byDepot; is = refl }
 pub held-stamp : Stamp 16
 held-stamp = record { mark = byAny; is = refl }
 
+pub spare-stamp : Stamp 32
+spare-stamp = record { mark = spare; is = refl }
+
 -- what the marks of a hex say
 module _ {s : Scene} {f h m : ℕ} (k : Marked s f h m) where
   pub marked-zone : has 1 m ≡ enemyZone s f h
@@ -101,6 +107,10 @@ module _ {s : Scene} {f h m : ℕ} (k : Marked s f h m) where
   pub marked-held : has 16 m ≡ not (vacant s h)
   unfolding markHolds
   marked-held = k .each byAny
+
+  pub marked-spare : has 32 m ≡ false
+  unfolding markHolds
+  marked-spare = k .each spare
 
 module _ (s : Scene) (f u : ℕ) where
   -- each mark by its tests
@@ -162,12 +172,13 @@ module _ (s : Scene) (f u : ℕ) where
   -- the parts make up the whole
   pub stands-parts :
       (k : Mark) (h : ℕ) → also (also (also (part s f byAny u) (part s f byEnemy u)) (part s f byOwn u)) (part s f byDepot u) k h ≡ stands s f u k h
-  unfolding also part stands
+  unfolding also part stands markBy
   stands-parts inZone h = refl
   stands-parts byEnemy h = or-false (markBy s f byEnemy h u)
   stands-parts byOwn h = or-false (markBy s f byOwn h u)
   stands-parts byDepot h = or-false (markBy s f byDepot h u)
   stands-parts byAny h = refl
+  stands-parts spare h = refl
 
   pub says-parts : (k : Mark) (h : ℕ) → also (stands s f u) (part s f inZone u) k h ≡ says s f u k h
   unfolding also part stands says
@@ -176,9 +187,13 @@ module _ (s : Scene) (f u : ℕ) where
   says-parts byOwn h = refl
   says-parts byDepot h = refl
   says-parts byAny h = refl
+  says-parts spare h = refl
 
-  -- a unit away from the frame marks nothing in it
-  module _ {at : Frame} (a : Away (s .map .width) (s .map .height) at (s .hex u)) (h : ℕ) (i : Inside (s .map .width) at h) where
+  -- a unit away from the region marks nothing in it
+  module _ {at : Region} (a : Away (s .map .width) (s .map .height) at (s .hex u)) (h : ℕ) (i : Inside (s .map .width) (s .map .height) at h) where
+    other : s .hex u ≡ h → ⊥
+    other e = a .other (subst (Inside (s .map .width) (s .map .height) at) (sym e) i)
+
     uncovered : (d : ℕ) → covers (s .map) (s .hex u) h d ≡ false
     unfolding covers
     uncovered d =
@@ -189,19 +204,20 @@ module _ (s : Scene) (f u : ℕ) where
     pub away-says : (k : Mark) → says s f u k h ≡ false
     unfolding says markBy zoneBy supplyUnitOn
     away-says inZone = simp (any-never (covers (s .map) (s .hex u) h) 6 (λ d l. uncovered d), and-false)
-    away-says byEnemy = enemy-off s f h u (a .other h i)
-    away-says byOwn = own-off s f h u (a .other h i)
-    away-says byDepot = simp (own-off s f h u (a .other h i))
-    away-says byAny = stands-off s h u (a .other h i)
+    away-says byEnemy = enemy-off s f h u other
+    away-says byOwn = own-off s f h u other
+    away-says byDepot = simp (own-off s f h u other)
+    away-says byAny = stands-off s h u other
+    away-says spare = refl
 
 -- the same by the view's width and height
 pub unit-away :
-    {p : List ℕ} {v : View} {at : Frame} → Laid p v → (f u x : ℕ) → x ≡ hex p u → Away (v .width) (v .height) at x
-    → (k : Mark) (h : ℕ) → Inside (v .width) at h → says (scene (board p)) f u k h ≡ false
+    {p : List ℕ} {v : View} {at : Region} → Laid p v → (f u x : ℕ) → x ≡ hex p u → Away (v .width) (v .height) at x
+    → (k : Mark) (h : ℕ) → Inside (v .width) (v .height) at h → says (scene (board p)) f u k h ≡ false
 unit-away {p} {v} {at} l f u x e a k h i =
     let w = l .view .width in
     let t = l .view .height in
-    away-says (scene (board p)) f u (rw (w, t, e) at a) h (rw w at i) k
+    away-says (scene (board p)) f u (rw (w, t, e) at a) h (rw (w, t) at i) k
 
 module _ (s : Scene) (f : ℕ) where
   -- one unit after the other
@@ -220,10 +236,11 @@ module _ (s : Scene) (f : ℕ) where
   all-shown byEnemy h = any-same _ (enemyOn s f h) (s .count) (λ u l. refl)
   all-shown byOwn h = any-same _ (ownOn s f h) (s .count) (λ u l. refl)
   all-shown byDepot h = any-same _ (supplyUnitOn s f h) (s .count) (λ u l. refl)
+  all-shown spare h = any-never (λ u. false) (s .count) (λ u l. refl)
   all-shown byAny h = any-same _ (standsOn s h) (s .count) (λ u l. refl) ∙ sym (Bool·not-not (any (standsOn s h) (s .count)))
 
-  -- on an empty buffer they show the frame
-  pub painted : {at : Frame} (n : ℕ) {c : ℕ} {l m : List ℕ} → l ≡ replicate n 0 → c ≡ s .count → Adds (s .map .width) at (saysBelow s f c) l m → Shows s f at m
+  -- on an empty buffer they show the region
+  pub painted : {at : Region} (n : ℕ) {c : ℕ} {l m : List ℕ} → l ≡ replicate n 0 → c ≡ s .count → Adds (s .map .width) (s .map .height) at (saysBelow s f c) l m → Shows s f at m
   painted {at} n {c} {l} {m} e q a =
       record {
         each = λ h i. record {
@@ -237,11 +254,12 @@ module _ (s : Scene) (f : ℕ) where
         };
       }
 
--- the one byte of a frame of one hex has the marks of that hex
+-- the one byte of a region of one hex has the marks of that hex
 pub one-marked :
-    {s : Scene} {f : ℕ} {at : Frame} {l : List ℕ} {w x h r : ℕ} → w ≡ s .map .width → Shows s f at l → Inside w at x → placeOf w at x ≡ 0
-    → r ≡ byte l 0 → x ≡ h → Marked s f h r
-one-marked {s} {f} {at} {l} {w} {x} {h} {r} t k i p e q =
-    let o = k .each x (rw t at i) in
-    let z : placeOf (s .map .width) at x ≡ 0 = ap (λ (n : ℕ). placeOf n at x) (sym t) ∙ p in
-    record { each = λ j. ap (has (bit j)) (e ∙ ap (λ (n : ℕ). byte l n) (sym z)) ∙ o .each j ∙ ap (markHolds s f j) q }
+    {s : Scene} {f : ℕ} {at : Region} {l : List ℕ} {w tall x h r : ℕ} → w ≡ s .map .width → tall ≡ s .map .height → Shows s f at l
+    → One w tall x at → r ≡ byte l 0 → x ≡ h → Marked s f h r
+one-marked {s} {f} {at} {l} {w} {tall} {x} {h} {r} t t′ k n e q =
+    let o = k .each x (rw (t, t′) at (n .here)) in
+    let p : placeOf w at x ≡ 0 = omega (arith, place-in (n .here), n .size) in
+    let z : placeOf (s .map .width) at x ≡ 0 = ap (λ (m : ℕ). placeOf m at x) (sym t) ∙ p in
+    record { each = λ j. ap (has (bit j)) (e ∙ ap (λ (m : ℕ). byte l m) (sym z)) ∙ o .each j ∙ ap (markHolds s f j) q }

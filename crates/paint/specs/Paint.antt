@@ -3,10 +3,12 @@
 -- Assumes nothing.
 use Prim.Native.Nat.{ℕ, _+_}
 use mathlib.Core.Path.{_≡_}
-use mathlib.Core.Bool.{Bool, not, cond, _&&_, _||_}
+use mathlib.Core.Bool.{Bool, false, not, cond, _&&_, _||_}
 use mathlib.Core.List.{List}
 use lib.Dec.{ltb, eqb}
 use lib.ListN.{length}
+use Rattle.grid.specs.declared.region.Region.{Region}
+use Rattle.grid.specs.Region.{Inside, placeOf}
 use Rattle.position.specs.Tally.{any}
 use Rattle.position.specs.Bits.{has}
 use Rattle.position.specs.Layout.{byte, forces}
@@ -15,16 +17,16 @@ use Rattle.position.specs.Kind.{castsZone}
 use Rattle.position.specs.Ground.{beside, side, isAt}
 use Rattle.field.specs.Scene.{Scene, forceIn}
 use Rattle.field.specs.Zone.{standsOn, vacant, ownOn, holds, supplyUnitOn, enemyOn, holdsEnemy, enemyZone}
-use Rattle.paint.specs.declared.frame.Frame.{Frame}
-use Rattle.paint.specs.Frame.{Inside, placeOf}
 
--- what a hex may be marked with: in an Enemy zone, held by an Enemy, by a unit of the force, by a supply unit of it, by any unit
+-- what a hex may be marked with: in an Enemy zone, held by an Enemy, by a unit of the force, by a supply unit of it, by any unit; and one mark
+-- that painting leaves to its caller
 pub data Mark : Type 0 where
   inZone : Mark
   byEnemy : Mark
   byOwn : Mark
   byDepot : Mark
   byAny : Mark
+  spare : Mark
 
 abbrev pub zoneMark : ℕ
 zoneMark = 1
@@ -41,12 +43,16 @@ depotMark = 8
 abbrev pub heldMark : ℕ
 heldMark = 16
 
+abbrev pub spareMark : ℕ
+spareMark = 32
+
 abbrev pub bit : Mark → ℕ
 bit inZone = zoneMark
 bit byEnemy = enemyMark
 bit byOwn = ownMark
 bit byDepot = depotMark
 bit byAny = heldMark
+bit spare = spareMark
 
 -- what each mark says of hex h for force f
 unfoldable pub markHolds : Scene → ℕ → Mark → ℕ → Bool
@@ -55,14 +61,15 @@ markHolds s f byEnemy h = holdsEnemy s f h
 markHolds s f byOwn h = holds s f h
 markHolds s f byDepot h = any (supplyUnitOn s f h) (s .count)
 markHolds s f byAny h = not (vacant s h)
+markHolds s f spare h = false
 
 -- the byte m has the marks of hex h
 pub record Marked (s : Scene) (f h m : ℕ) : Type 0 where
   pub each : (k : Mark) → has (bit k) m ≡ markHolds s f k h
 
--- the buffer l shows the frame to force f
-pub record Shows (s : Scene) (f : ℕ) (at : Frame) (l : List ℕ) : Type 0 where
-  pub each : (h : ℕ) → Inside (s .map .width) at h → Marked s f h (byte l (placeOf (s .map .width) at h))
+-- the buffer l shows the region to force f
+pub record Shows (s : Scene) (f : ℕ) (at : Region) (l : List ℕ) : Type 0 where
+  pub each : (h : ℕ) → Inside (s .map .width) (s .map .height) at h → Marked s f h (byte l (placeOf (s .map .width) at h))
 
 -- unit u casts a zone against force f
 unfoldable pub castsAgainst : Scene → ℕ → ℕ → Bool
@@ -83,6 +90,7 @@ markBy s f byEnemy h u = enemyOn s f h u
 markBy s f byOwn h u = ownOn s f h u
 markBy s f byDepot h u = supplyUnitOn s f h u
 markBy s f byAny h u = standsOn s h u
+markBy s f spare h u = false
 
 -- m with the mark b
 unfoldable pub inked : ℕ → ℕ → ℕ
@@ -94,9 +102,9 @@ pub record Stamp (b : ℕ) : Type 0 where
   pub is : bit mark ≡ b
 
 -- hexes are marked where t says so, and no other mark changes
-pub record Adds (w : ℕ) (at : Frame) (t : Mark → ℕ → Bool) (l m : List ℕ) : Type 0 where
+pub record Adds (w tall : ℕ) (at : Region) (t : Mark → ℕ → Bool) (l m : List ℕ) : Type 0 where
   pub long : length m ≡ length l
-  pub each : (k : Mark) (h : ℕ) → Inside w at h → has (bit k) (byte m (placeOf w at h)) ≡ (t k h || has (bit k) (byte l (placeOf w at h)))
+  pub each : (k : Mark) (h : ℕ) → Inside w tall at h → has (bit k) (byte m (placeOf w at h)) ≡ (t k h || has (bit k) (byte l (placeOf w at h)))
 
 -- where t says so: mark b on hex n;
 unfoldable pub only : ℕ → ℕ → Mark → ℕ → Bool

@@ -5,13 +5,13 @@ ghost use Rattle.grid.specs.Spot.{SpotOf};
 ghost use Rattle.position.specs.Board.{board, ground};
 ghost use Rattle.position.specs.Laid.{Laid};
 ghost use Rattle.field.specs.Scene.{scene};
-ghost use Rattle.paint.specs.Frame.{Room, StandsAt};
+ghost use Rattle.paint.specs.Room.{Room, StandsAt};
 ghost use Rattle.paint.specs.Paint.{inZone, castsAgainst, Adds, castTo, reaches, part};
-use crate::frame;
-use crate::frame::Frame;
+use crate::ink;
 use grid::Nearby;
 use grid::Spot;
 use grid::near;
+use grid::region::Region;
 use position::View;
 use position::kind::Kind;
 use position::layout;
@@ -20,9 +20,9 @@ use position::read;
 const ALL_SEA: usize = 2;
 
 // The zone of a caster on the spot over the hex in direction `d`.
-fn over(p: &[u8], v: View, at: Frame, s: Spot, d: usize, buf: &mut [u8])
-    requires { ⌜ Laid (now p) v × Room v at (now buf) × SpotOf (v .width) (v .height) s × (d < 6) ⌝ }
-    ensures { λ _. ⌜ Adds (v .width) at (castTo (ground (now (p .entry))) (s .hex) d) (now (buf .entry)) (now (buf .exit)) ⌝ }
+fn over(p: &[u8], v: View, at: Region, s: Spot, d: usize, buf: &mut [u8])
+    requires { ⌜ Laid (now p) v × Room at (now buf) × SpotOf (v .width) (v .height) s × (d < 6) ⌝ }
+    ensures { λ _. ⌜ Adds (v .width) (v .height) at (castTo (ground (now (p .entry))) (s .hex) d) (now (buf .entry)) (now (buf .exit)) ⌝ }
 {
     let Nearby::At(t) = near::near(v.width, v.height, s, d) else {
         return;
@@ -33,13 +33,13 @@ fn over(p: &[u8], v: View, at: Frame, s: Spot, d: usize, buf: &mut [u8])
     if read::surface(p, v, t.hex) == ALL_SEA {
         return;
     }
-    frame::stamp(v, at, t, crate::ZONE, buf);
+    ink::stamp(v, at, t, crate::ZONE, buf);
 }
 
 // Its zone in all directions.
-fn around(p: &[u8], v: View, at: Frame, s: Spot, buf: &mut [u8])
-    requires { ⌜ Laid (now p) v × Room v at (now buf) × SpotOf (v .width) (v .height) s ⌝ }
-    ensures { λ _. ⌜ Adds (v .width) at (reaches (ground (now (p .entry))) (s .hex) 6) (now (buf .entry)) (now (buf .exit)) ⌝ }
+fn around(p: &[u8], v: View, at: Region, s: Spot, buf: &mut [u8])
+    requires { ⌜ Laid (now p) v × Room at (now buf) × SpotOf (v .width) (v .height) s ⌝ }
+    ensures { λ _. ⌜ Adds (v .width) (v .height) at (reaches (ground (now (p .entry))) (s .hex) 6) (now (buf .entry)) (now (buf .exit)) ⌝ }
 {
     for d in 0..6 {
         over(p, v, at, s, d, buf);
@@ -62,9 +62,9 @@ fn casts_against(p: &[u8], v: View, f: usize, u: usize) -> bool
 }
 
 // The zone that unit `u` on the spot casts against force `f`, if it does.
-pub fn cast(p: &[u8], v: View, at: Frame, f: usize, u: usize, s: Spot, buf: &mut [u8])
-    requires { ⌜ Laid (now p) v × Room v at (now buf) × StandsAt (now p) v u s ⌝ }
-    ensures { λ _. ⌜ Adds (v .width) at (part (scene (board (now (p .entry)))) f inZone u) (now (buf .entry)) (now (buf .exit)) ⌝ }
+pub fn cast(p: &[u8], v: View, at: Region, f: usize, u: usize, s: Spot, buf: &mut [u8])
+    requires { ⌜ Laid (now p) v × Room at (now buf) × StandsAt (now p) v u s ⌝ }
+    ensures { λ _. ⌜ Adds (v .width) (v .height) at (part (scene (board (now (p .entry)))) f inZone u) (now (buf .entry)) (now (buf .exit)) ⌝ }
 {
     if casts_against(p, v, f, u) {
         around(p, v, at, s, buf);

@@ -1,6 +1,6 @@
 // Who stands where and whose zones lie where, painted into a lent buffer for a part of the map: one pass over the units.
 mod cast;
-pub mod frame;
+pub mod ink;
 mod stand;
 
 ghost use mathlib.Core.Path.{_≡_};
@@ -10,10 +10,12 @@ ghost use Rattle.position.specs.Board.{board};
 ghost use Rattle.position.specs.Laid.{Laid};
 ghost use Rattle.field.specs.Scene.{scene};
 ghost use Rattle.field.specs.Zone.{enemyZone};
-ghost use Rattle.paint.specs.Frame.{Room, Before, Past};
+ghost use Rattle.grid.specs.Region.{Before, Past};
+ghost use Rattle.paint.specs.Room.{Room};
 ghost use Rattle.paint.specs.Paint.{Adds, Shows, Marked, says, saysBelow};
-use frame::Frame;
 use grid::near;
+use grid::region;
+use grid::region::Region;
 use position::View;
 use position::bits;
 use position::layout;
@@ -30,6 +32,9 @@ pub const DEPOT: usize = 8;
 
 pub const HELD: usize = 16;
 
+// A mark that no painting sets: it is the caller's.
+pub const SPARE: usize = 32;
+
 // Every byte 0.
 pub fn clear(buf: &mut [u8])
     ensures { λ _. ⌜ now (buf .exit) ≡ replicate (length (now (buf .entry))) 0 ⌝ }
@@ -39,19 +44,19 @@ pub fn clear(buf: &mut [u8])
     }
 }
 
-// What unit `u` shows to force `f` in the frame: nothing, if it stands more than a row or a column outside.
+// What unit `u` shows to force `f` in the region: nothing, if it stands more than a row or a column outside.
 fn paint_unit(
     p: &[u8],
     v: View,
-    at: Frame,
+    at: Region,
     f: usize,
     from: usize,
     to: usize,
     u: usize,
     buf: &mut [u8],
 )
-    requires { ⌜ Laid (now p) v × Room v at (now buf) × Before (v .width) (v .height) at from × Past (v .width) (v .height) at to ⌝ }
-    ensures { λ _. ⌜ Adds (v .width) at (says (scene (board (now (p .entry)))) f u) (now (buf .entry)) (now (buf .exit)) ⌝ }
+    requires { ⌜ Laid (now p) v × Room at (now buf) × Before (v .width) (v .height) at from × Past (v .width) (v .height) at to ⌝ }
+    ensures { λ _. ⌜ Adds (v .width) (v .height) at (says (scene (board (now (p .entry)))) f u) (now (buf .entry)) (now (buf .exit)) ⌝ }
 {
     let h = read::hex(p, v, u);
     if h < from {
@@ -61,20 +66,17 @@ fn paint_unit(
         return;
     }
     let s = near::spot(v.width, v.height, h);
-    if s.column + 1 < at.left {
-        return;
-    }
-    if at.left + at.wide < s.column {
+    if region::aside(v.width, v.height, at, s) {
         return;
     }
     stand::stand(p, v, at, f, u, s, buf);
     cast::cast(p, v, at, f, u, s, buf);
 }
 
-// What the units show to force `f` in the frame: one pass over them.
-fn paint_units(p: &[u8], v: View, at: Frame, f: usize, from: usize, to: usize, buf: &mut [u8])
-    requires { ⌜ Laid (now p) v × Room v at (now buf) × Before (v .width) (v .height) at from × Past (v .width) (v .height) at to ⌝ }
-    ensures { λ _. ⌜ Adds (v .width) at (saysBelow (scene (board (now (p .entry)))) f (v .count)) (now (buf .entry)) (now (buf .exit)) ⌝ }
+// What the units show to force `f` in the region: one pass over them.
+fn paint_units(p: &[u8], v: View, at: Region, f: usize, from: usize, to: usize, buf: &mut [u8])
+    requires { ⌜ Laid (now p) v × Room at (now buf) × Before (v .width) (v .height) at from × Past (v .width) (v .height) at to ⌝ }
+    ensures { λ _. ⌜ Adds (v .width) (v .height) at (saysBelow (scene (board (now (p .entry)))) f (v .count)) (now (buf .entry)) (now (buf .exit)) ⌝ }
 {
     let count = v.count;
     for u in 0..count {
@@ -82,9 +84,9 @@ fn paint_units(p: &[u8], v: View, at: Frame, f: usize, from: usize, to: usize, b
     }
 }
 
-// Everything that force `f` asks of the frame's hexes, in a buffer of zeros.
-pub fn paint_blank(p: &[u8], v: View, at: Frame, f: usize, buf: &mut [u8])
-    requires { ⌜ Laid (now p) v × Room v at (now buf) × (now buf ≡ replicate (length (now buf)) 0) ⌝ }
+// Everything that force `f` asks of the region's hexes, in a buffer of zeros.
+pub fn paint_blank(p: &[u8], v: View, at: Region, f: usize, buf: &mut [u8])
+    requires { ⌜ Laid (now p) v × Room at (now buf) × (now buf ≡ replicate (length (now buf)) 0) ⌝ }
     ensures { λ _. ⌜ Shows (scene (board (now (p .entry)))) f at (now (buf .exit)) ⌝ }
 {
     paint_units(
@@ -92,15 +94,15 @@ pub fn paint_blank(p: &[u8], v: View, at: Frame, f: usize, buf: &mut [u8])
         v,
         at,
         f,
-        frame::first(p, v, at),
-        frame::past(p, v, at),
+        region::first(v.width, v.height, at),
+        region::past(v.width, v.height, at),
         buf,
     );
 }
 
 // The same, whatever the buffer held before.
-pub fn paint(p: &[u8], v: View, at: Frame, f: usize, buf: &mut [u8])
-    requires { ⌜ Laid (now p) v × Room v at (now buf) ⌝ }
+pub fn paint(p: &[u8], v: View, at: Region, f: usize, buf: &mut [u8])
+    requires { ⌜ Laid (now p) v × Room at (now buf) ⌝ }
     ensures { λ _. ⌜ Shows (scene (board (now (p .entry)))) f at (now (buf .exit)) ⌝ }
 {
     clear(buf);
@@ -112,7 +114,8 @@ fn look_in(p: &[u8], v: View, f: usize, h: usize, buf: &mut [u8]) -> usize
     requires { ⌜ Laid (now p) v × (h < v .hexes) × (now buf ≡ replicate 1 0) ⌝ }
     ensures { λ r. ⌜ Marked (scene (board (now (p .entry)))) f h r ⌝ }
 {
-    paint_blank(p, v, frame::one(near::spot(v.width, v.height, h)), f, buf);
+    let s = near::spot(v.width, v.height, h);
+    paint_blank(p, v, region::one(v.width, v.height, s), f, buf);
     layout::wide(buf[0])
 }
 

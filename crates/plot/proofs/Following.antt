@@ -17,7 +17,6 @@ use Rattle.chains.specs.Follows.{takes, byStand, byTaken, follows}
 use Rattle.plot.specs.declared.Took.{Took}
 use Rattle.plot.specs.declared.Took.the-variants as T
 use Rattle.plot.specs.Plot.{places, wide, standIn, nextIn, landIn, shifted}
-use Rattle.plot.specs.Places.{placeFor, homeFor}
 use Rattle.plot.specs.Follow.{placesFrom, followsIn, goesOn, Stepped, PushedOut}
 use Rattle.plot.proofs.Taking.{led-below, never-took, none-left, places-next, places-none, same-took}
 use Rattle.plot.proofs.Plots.{shifted-land, shifted-long, shifted-stands}
@@ -50,18 +49,13 @@ on-shifted home l x y b p q i a rest ps =
     ap₂ (λ (g : Land) (s : Stands). follows g s i a rest ps)
     (sym (shifted-land l x y b p q home)) (sym (shifted-stands l x y b p q))
 
--- how far a place lies from the start
-pub far-off :
-    {r home : ℕ} (w start x : ℕ) → r ≡ distanceOf wide home x → home ≡ homeFor w start → distanceOf wide (homeFor w start) x ≡ r
-far-off w start x e f = sym (e ∙ ap (λ (h : ℕ). distanceOf wide h x) f)
-
-module _ {w start : ℕ} {l : List ℕ} {i a x k : ℕ} {pushes : List ℕ} where
-  pub stepped-apart : leads (nextIn l) a x ≡ false → Stepped w start l l i a x k pushes T.Wrong
+module _ {place : ℕ → ℕ} {home : ℕ} {l : List ℕ} {i a x k : ℕ} {pushes : List ℕ} where
+  pub stepped-apart : leads (nextIn l) a x ≡ false → Stepped place home l l i a x k pushes T.Wrong
   unfolding landIn
   stepped-apart e =
       record { long = refl; used = λ y j f. never-took y j f; left-to-ask = λ rest. follows-apart _ _ _ _ _ _ _ e }
 
-  pub stepped-far : (distanceOf wide (homeFor w start) x ≡ i + 1 → ⊥) → Stepped w start l l i a x k pushes T.Wrong
+  pub stepped-far : (distanceOf wide home x ≡ i + 1 → ⊥) → Stepped place home l l i a x k pushes T.Wrong
   unfolding landIn
   stepped-far n =
       record {
@@ -70,8 +64,8 @@ module _ {w start : ℕ} {l : List ℕ} {i a x k : ℕ} {pushes : List ℕ} wher
         left-to-ask = λ rest. follows-far _ _ _ _ _ _ _ (λ e. n (e ∙ sym (add-one i)));
       }
 
-  module _ (e : leads (nextIn l) a x ≡ true) (f : distanceOf wide (homeFor w start) x ≡ i + 1) where
-    pub stepped-shut : standIn l x ≡ Shut → Stepped w start l l i a x k pushes T.Wrong
+  module _ (e : leads (nextIn l) a x ≡ true) (f : distanceOf wide home x ≡ i + 1) where
+    pub stepped-shut : standIn l x ≡ Shut → Stepped place home l l i a x k pushes T.Wrong
     unfolding landIn
     stepped-shut s =
         record {
@@ -80,7 +74,7 @@ module _ {w start : ℕ} {l : List ℕ} {i a x k : ℕ} {pushes : List ℕ} wher
           left-to-ask = λ rest. follows-by _ _ _ _ _ _ _ e (f ∙ add-one i) ∙ rw s;
         }
 
-    pub stepped-free : standIn l x ≡ Free → k ≤ length pushes → Stepped w start l l i a x k pushes (T.UpTo x k)
+    pub stepped-free : standIn l x ≡ Free → k ≤ length pushes → Stepped place home l l i a x k pushes (T.UpTo x k)
     unfolding landIn
     stepped-free s b =
         record {
@@ -90,8 +84,8 @@ module _ {w start : ℕ} {l : List ℕ} {i a x k : ℕ} {pushes : List ℕ} wher
         }
 
     pub stepped-loose :
-        {m : List ℕ} (r : Took) → standIn l x ≡ Loose → length l ≡ places → PushedOut w start l m a x k pushes r
-        → Stepped w start l m i a x k pushes r
+        {m : List ℕ} (r : Took) → standIn l x ≡ Loose → length l ≡ places → PushedOut place l m a x k pushes r
+        → Stepped place home l m i a x k pushes r
     unfolding landIn
     stepped-loose {m} T.Wrong s b p =
         record {
@@ -106,47 +100,47 @@ module _ {w start : ℕ} {l : List ℕ} {i a x k : ℕ} {pushes : List ℕ} wher
           long = ap length (q .0) ∙ shifted-long l x y;
           used = λ y' j' g. let t = same-took y j y' j' g in (n, omega (arith, q .2, t .1));
           left-to-ask = λ rest.
-              follows-by (landIn (homeFor w start) l) (standIn l) i a x rest (placesFrom w start k pushes) e (f ∙ add-one i)
-              ∙ rw s (rw (sym (p .took)) (rw (q .0) (on-shifted (homeFor w start) l x y b n (q .1) (suc i) x rest
-              (placesFrom w start j pushes))));
+              follows-by (landIn home l) (standIn l) i a x rest (placesFrom place k pushes) e (f ∙ add-one i)
+              ∙ rw s (rw (sym (p .took)) (rw (q .0) (on-shifted home l x y b n (q .1) (suc i) x rest
+              (placesFrom place j pushes))));
         }
 
 -- the group has come to place a by i steps of the route and the pushes before number k: the plot was l and is m, and the answer is what
 -- comes of the rest
-pub record Followed (w start : ℕ) (l route pushes m : List ℕ) (a k i : ℕ) : Type 0 where
+pub record Followed (place : ℕ → ℕ) (home : ℕ) (l route pushes m : List ℕ) (a k i : ℕ) : Type 0 where
   pub long : length m ≡ places
   pub inside : a < places
   pub few : k ≤ length pushes
   pub most : i ≤ length route
-  pub left-to-ask : followsIn w start l 0 (homeFor w start) route 0 pushes ≡ followsIn w start m i a route k pushes
+  pub left-to-ask : followsIn place home l 0 home route 0 pushes ≡ followsIn place home m i a route k pushes
 
 pub followed-none :
-    {w start : ℕ} {l route pushes : List ℕ} {a : ℕ} → length l ≡ places → a ≡ homeFor w start → a < places
-    → Followed w start l route pushes l a 0 0
-followed-none {w} {start} {l} {route} {pushes} {a} b e p =
+    {place : ℕ → ℕ} {home : ℕ} {l route pushes : List ℕ} {a : ℕ} → length l ≡ places → a ≡ home → a < places
+    → Followed place home l route pushes l a 0 0
+followed-none {place} {home} {l} {route} {pushes} {a} b e p =
     record {
       long = b;
       inside = p;
       few = omega arith;
       most = omega arith;
-      left-to-ask = ap (λ (x : ℕ). followsIn w start l 0 x route 0 pushes) (sym e);
+      left-to-ask = ap (λ (x : ℕ). followsIn place home l 0 x route 0 pushes) (sym e);
     }
 
-module _ {w start : ℕ} {l route pushes m : List ℕ} {a k i : ℕ} (u : Followed w start l route pushes m a k i) where
+module _ {place : ℕ → ℕ} {home : ℕ} {l route pushes m : List ℕ} {a k i : ℕ} (u : Followed place home l route pushes m a k i) where
   -- a step more, or a wrong one
-  module _ {n : List ℕ} {x : ℕ} {r : Took} (b : i < length route) (e : x ≡ placeFor w start (getD route i 0))
-      (t : Stepped w start m n i a x k pushes r) where
+  module _ {n : List ℕ} {x : ℕ} {r : Took} (b : i < length route) (e : x ≡ place (getD route i 0))
+      (t : Stepped place home m n i a x k pushes r) where
     stepped-on :
-        followsIn w start l 0 (homeFor w start) route 0 pushes
-        ≡ goesOn w start n (suc i) x (placesFrom w start (i + 1) route) pushes r
+        followsIn place home l 0 home route 0 pushes
+        ≡ goesOn place home n (suc i) x (placesFrom place (i + 1) route) pushes r
     unfolding followsIn
     stepped-on =
         u .left-to-ask
-        ∙ ap (λ (rest : List ℕ). follows (landIn (homeFor w start) m) (standIn m) i a rest (placesFrom w start k pushes))
-        (places-next w start i route x b e)
-        ∙ t .left-to-ask (placesFrom w start (i + 1) route)
+        ∙ ap (λ (rest : List ℕ). follows (landIn home m) (standIn m) i a rest (placesFrom place k pushes))
+        (places-next place i route x b e)
+        ∙ t .left-to-ask (placesFrom place (i + 1) route)
 
-    pub followed-more : {y j : ℕ} → r ≡ T.UpTo y j → Followed w start l route pushes n x j (i + 1)
+    pub followed-more : {y j : ℕ} → r ≡ T.UpTo y j → Followed place home l route pushes n x j (i + 1)
     unfolding followsIn
     followed-more {y} {j} f =
         let q = t .used y j f in
@@ -155,17 +149,17 @@ module _ {w start : ℕ} {l route pushes m : List ℕ} {a k i : ℕ} (u : Follow
           inside = q .0;
           few = q .1;
           most = omega arith;
-          left-to-ask = stepped-on ∙ ap (goesOn w start n (suc i) x (placesFrom w start (i + 1) route) pushes) f ∙ rw (add-one i);
+          left-to-ask = stepped-on ∙ ap (goesOn place home n (suc i) x (placesFrom place (i + 1) route) pushes) f ∙ rw (add-one i);
         }
 
-    pub followed-wrong : r ≡ T.Wrong → followsIn w start l 0 (homeFor w start) route 0 pushes ≡ false
-    followed-wrong f = stepped-on ∙ ap (goesOn w start n (suc i) x (placesFrom w start (i + 1) route) pushes) f
+    pub followed-wrong : r ≡ T.Wrong → followsIn place home l 0 home route 0 pushes ≡ false
+    followed-wrong f = stepped-on ∙ ap (goesOn place home n (suc i) x (placesFrom place (i + 1) route) pushes) f
 
   -- the route is at its end
-  pub followed-all : length route ≤ i → followsIn w start l 0 (homeFor w start) route 0 pushes ≡ eqb k (length pushes)
+  pub followed-all : length route ≤ i → followsIn place home l 0 home route 0 pushes ≡ eqb k (length pushes)
   unfolding followsIn follows
   followed-all b =
       u .left-to-ask
-      ∙ ap (λ (rest : List ℕ). follows (landIn (homeFor w start) m) (standIn m) i a rest (placesFrom w start k pushes))
-      (places-none w start i route b)
-      ∙ none-left w start k pushes (u .few)
+      ∙ ap (λ (rest : List ℕ). follows (landIn home m) (standIn m) i a rest (placesFrom place k pushes))
+      (places-none place i route b)
+      ∙ none-left place k pushes (u .few)

@@ -1,6 +1,4 @@
 pub mod Plots
-pub mod Places
-pub mod Around
 pub mod Trails
 pub mod Marking
 pub mod Ends

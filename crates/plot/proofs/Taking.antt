@@ -20,7 +20,6 @@ use Rattle.chains.proofs.Chains.{leads-steps}
 use Rattle.plot.specs.declared.Took.{Took}
 use Rattle.plot.specs.declared.Took.the-variants as T
 use Rattle.plot.specs.Plot.{places, standIn, nextIn, shifted}
-use Rattle.plot.specs.Places.{placeFor}
 use Rattle.plot.specs.Follow.{placesFrom, tookOf, TookIn, PushedOut}
 use Rattle.plot.proofs.Plots.{next-below}
 
@@ -68,26 +67,26 @@ module _ {l : List ℕ} {h z d : ℕ} (u : Unled l h z d) where
   unled b = let e : 6 ≡ d = omega (arith, u .most) in leads-by (nextIn l) h z d ∙ ap (any (ledBy (nextIn l) h z)) e ∙ u .none
 
 -- the pushes, or the hexes of a route, from number k on
-module _ (w start k : ℕ) (hexes : List ℕ) where
-  pub places-none : length hexes ≤ k → placesFrom w start k hexes ≡ []
+module _ (place : ℕ → ℕ) (k : ℕ) (hexes : List ℕ) where
+  pub places-none : length hexes ≤ k → placesFrom place k hexes ≡ []
   unfolding placesFrom
-  places-none l = ap (map (placeFor w start)) (drop-of-length-le hexes l)
+  places-none l = ap (map place) (drop-of-length-le hexes l)
 
   pub places-more :
-      k < length hexes → placesFrom w start k hexes ≡ placeFor w start (getD hexes k 0) ∷ placesFrom w start (k + 1) hexes
+      k < length hexes → placesFrom place k hexes ≡ place (getD hexes k 0) ∷ placesFrom place (k + 1) hexes
   unfolding placesFrom
-  places-more l = rw (add-one k) (ap (map (placeFor w start)) (drop-cons hexes k 0 l))
+  places-more l = rw (add-one k) (ap (map place) (drop-cons hexes k 0 l))
 
-  pub none-left : k ≤ length hexes → none (placesFrom w start k hexes) ≡ eqb k (length hexes)
+  pub none-left : k ≤ length hexes → none (placesFrom place k hexes) ≡ eqb k (length hexes)
   none-left l =
       same-or k (length hexes)
       (λ e. ap none (places-none (omega arith)) ∙ sym (eq-eqb k (length hexes) e))
       (λ n. ap none (places-more (omega arith)) ∙ sym (ne-eqb k (length hexes) n))
 
   pub places-next :
-      (z : ℕ) → k < length hexes → z ≡ placeFor w start (getD hexes k 0)
-      → placesFrom w start k hexes ≡ z ∷ placesFrom w start (k + 1) hexes
-  places-next z b e = places-more b ∙ ap (λ (x : ℕ). x ∷ placesFrom w start (k + 1) hexes) (sym e)
+      (z : ℕ) → k < length hexes → z ≡ place (getD hexes k 0)
+      → placesFrom place k hexes ≡ z ∷ placesFrom place (k + 1) hexes
+  places-next z b e = places-more b ∙ ap (λ (x : ℕ). x ∷ placesFrom place (k + 1) hexes) (sym e)
 
 -- what a chain takes, by its next hex
 module _ (next : Ways) (s : Stands) (used : List ℕ) (h z : ℕ) (zs : List ℕ) where
@@ -163,34 +162,34 @@ never-took y j e = let z : _≡_ {A = ℕ} 0 1 = cc in absurd (omega arith)
 
 -- the next push is the place z
 along-chain :
-    (w start : ℕ) (l used : List ℕ) (left h k : ℕ) (pushes : List ℕ) (z : ℕ) → k < length pushes → z ≡ placeFor w start (getD pushes k 0)
-    → takes (nextIn l) (standIn l) used left h (placesFrom w start k pushes)
-    ≡ takes (nextIn l) (standIn l) used left h (z ∷ placesFrom w start (k + 1) pushes)
-along-chain w start l used left h k pushes z b e =
+    (place : ℕ → ℕ) (l used : List ℕ) (left h k : ℕ) (pushes : List ℕ) (z : ℕ) → k < length pushes → z ≡ place (getD pushes k 0)
+    → takes (nextIn l) (standIn l) used left h (placesFrom place k pushes)
+    ≡ takes (nextIn l) (standIn l) used left h (z ∷ placesFrom place (k + 1) pushes)
+along-chain place l used left h k pushes z b e =
     ap (takes (nextIn l) (standIn l) used left h)
-    (places-next w start k pushes z b e)
+    (places-next place k pushes z b e)
 
 -- the chain from the stack in place h on is wrong; or it comes to its last place
-module _ {w start : ℕ} {l used : List ℕ} {left h k : ℕ} {pushes : List ℕ} where
+module _ {place : ℕ → ℕ} {l used : List ℕ} {left h k : ℕ} {pushes : List ℕ} where
   took-wrong :
-      takes (nextIn l) (standIn l) used left h (placesFrom w start k pushes) ≡ wrong → TookIn w start l used left h k pushes T.Wrong
+      takes (nextIn l) (standIn l) used left h (placesFrom place k pushes) ≡ wrong → TookIn place l used left h k pushes T.Wrong
   took-wrong e = record { took = sym e; ends = λ y j f. never-took y j f }
 
-  pub took-none : length pushes ≤ k → TookIn w start l used left h k pushes T.Wrong
+  pub took-none : length pushes ≤ k → TookIn place l used left h k pushes T.Wrong
   took-none b =
       took-wrong
-      (ap (takes (nextIn l) (standIn l) used left h) (places-none w start k pushes b) ∙ takes-none (nextIn l) (standIn l) used h 0 [] left)
+      (ap (takes (nextIn l) (standIn l) used left h) (places-none place k pushes b) ∙ takes-none (nextIn l) (standIn l) used h 0 [] left)
 
-  module _ {z : ℕ} (b : k < length pushes) (e : z ≡ placeFor w start (getD pushes k 0)) where
-    pub took-apart : leads (nextIn l) h z ≡ false → TookIn w start l used left h k pushes T.Wrong
-    took-apart f = took-wrong (along-chain w start l used left h k pushes z b e ∙ takes-apart _ _ _ _ _ _ left f)
+  module _ {z : ℕ} (b : k < length pushes) (e : z ≡ place (getD pushes k 0)) where
+    pub took-apart : leads (nextIn l) h z ≡ false → TookIn place l used left h k pushes T.Wrong
+    took-apart f = took-wrong (along-chain place l used left h k pushes z b e ∙ takes-apart _ _ _ _ _ _ left f)
 
     pub took-rest :
         1 ≤ left → leads (nextIn l) h z ≡ true → rests (standIn l) (h ∷ used) z ≡ true
-        → TookIn w start l used left h k pushes (T.UpTo z (k + 1))
+        → TookIn place l used left h k pushes (T.UpTo z (k + 1))
     took-rest p f r =
         record {
-          took = sym (along-chain w start l used left h k pushes z b e ∙ takes-rest _ _ _ _ _ _ left p f r);
+          took = sym (along-chain place l used left h k pushes z b e ∙ takes-rest _ _ _ _ _ _ left p f r);
           ends = λ y j q.
               let s = same-took z (k + 1) y j q in
               (omega (arith, led-below l h z f, s .0), omega (arith, s .1));
@@ -198,47 +197,47 @@ module _ {w start : ℕ} {l used : List ℕ} {left h k : ℕ} {pushes : List ℕ
 
     pub took-last :
         1 ≤ left → left < 2 → leads (nextIn l) h z ≡ true → rests (standIn l) (h ∷ used) z ≡ false
-        → TookIn w start l used left h k pushes T.Wrong
-    took-last p q f r = took-wrong (along-chain w start l used left h k pushes z b e ∙ takes-last _ _ _ _ _ _ left p q f r)
+        → TookIn place l used left h k pushes T.Wrong
+    took-last p q f r = took-wrong (along-chain place l used left h k pushes z b e ∙ takes-last _ _ _ _ _ _ left p q f r)
 
     pub took-shy :
         leads (nextIn l) h z ≡ true → rests (standIn l) (h ∷ used) z ≡ false → hasRest (nextIn l) (standIn l) (h ∷ used) h ≡ true
-        → TookIn w start l used left h k pushes T.Wrong
-    took-shy f r g = took-wrong (along-chain w start l used left h k pushes z b e ∙ takes-shy _ _ _ _ _ _ left f r g)
+        → TookIn place l used left h k pushes T.Wrong
+    took-shy f r g = took-wrong (along-chain place l used left h k pushes z b e ∙ takes-shy _ _ _ _ _ _ left f r g)
 
     pub took-firm :
         leads (nextIn l) h z ≡ true → rests (standIn l) (h ∷ used) z ≡ false → hasRest (nextIn l) (standIn l) (h ∷ used) h ≡ false
-        → yields (standIn l) (h ∷ used) z ≡ false → TookIn w start l used left h k pushes T.Wrong
-    took-firm f r g y = took-wrong (along-chain w start l used left h k pushes z b e ∙ takes-firm _ _ _ _ _ _ left f r g y)
+        → yields (standIn l) (h ∷ used) z ≡ false → TookIn place l used left h k pushes T.Wrong
+    took-firm f r g y = took-wrong (along-chain place l used left h k pushes z b e ∙ takes-firm _ _ _ _ _ _ left f r g y)
 
     -- it goes on from the stack there
     pub took-on :
         {more : List ℕ} {r : Took} → 1 ≤ left → leads (nextIn l) h z ≡ true → rests (standIn l) (h ∷ used) z ≡ false
         → hasRest (nextIn l) (standIn l) (h ∷ used) h ≡ false → yields (standIn l) (h ∷ used) z ≡ true → more ≡ h ∷ used
-        → TookIn w start l more (left - 1) z (k + 1) pushes r → TookIn w start l used left h k pushes r
+        → TookIn place l more (left - 1) z (k + 1) pushes r → TookIn place l used left h k pushes r
     took-on p f r g y q t =
         record {
           took =
               t .took
-              ∙ ap (λ (u : List ℕ). takes (nextIn l) (standIn l) u (left - 1) z (placesFrom w start (k + 1) pushes)) q
-              ∙ sym (along-chain w start l used left h k pushes z b e ∙ takes-on _ _ _ _ _ _ left p f r g y);
+              ∙ ap (λ (u : List ℕ). takes (nextIn l) (standIn l) u (left - 1) z (placesFrom place (k + 1) pushes)) q
+              ∙ sym (along-chain place l used left h k pushes z b e ∙ takes-on _ _ _ _ _ _ left p f r g y);
           ends = t .ends;
         }
 
 -- the group's own chain
-module _ {w start : ℕ} {l used : List ℕ} {a x k : ℕ} {pushes : List ℕ} {r : Took} (own : used ≡ a ∷ [])
-    (t : TookIn w start l used most x k pushes r) where
-  taken : tookOf w start pushes r ≡ takes (nextIn l) (standIn l) (a ∷ []) most x (placesFrom w start k pushes)
-  taken = t .took ∙ ap (λ (u : List ℕ). takes (nextIn l) (standIn l) u most x (placesFrom w start k pushes)) own
+module _ {place : ℕ → ℕ} {l used : List ℕ} {a x k : ℕ} {pushes : List ℕ} {r : Took} (own : used ≡ a ∷ [])
+    (t : TookIn place l used most x k pushes r) where
+  taken : tookOf place pushes r ≡ takes (nextIn l) (standIn l) (a ∷ []) most x (placesFrom place k pushes)
+  taken = t .took ∙ ap (λ (u : List ℕ). takes (nextIn l) (standIn l) u most x (placesFrom place k pushes)) own
 
-  pub pushed-wrong : r ≡ T.Wrong → PushedOut w start l l a x k pushes T.Wrong
+  pub pushed-wrong : r ≡ T.Wrong → PushedOut place l l a x k pushes T.Wrong
   pushed-wrong e =
-      record { took = ap (tookOf w start pushes) (sym e) ∙ taken; left = λ y j f. never-took y j f; kept = λ _. refl }
+      record { took = ap (tookOf place pushes) (sym e) ∙ taken; left = λ y j f. never-took y j f; kept = λ _. refl }
 
-  pub pushed-to : {m : List ℕ} {y j : ℕ} → r ≡ T.UpTo y j → m ≡ shifted l x y → PushedOut w start l m a x k pushes (T.UpTo y j)
+  pub pushed-to : {m : List ℕ} {y j : ℕ} → r ≡ T.UpTo y j → m ≡ shifted l x y → PushedOut place l m a x k pushes (T.UpTo y j)
   pushed-to {m} {y} {j} e f =
       record {
-        took = ap (tookOf w start pushes) (sym e) ∙ taken;
+        took = ap (tookOf place pushes) (sym e) ∙ taken;
         left = λ y' j' g.
             let s = same-took y j y' j' g in
             let n = t .ends y j e in

@@ -1,5 +1,4 @@
 pub mod Plot
-pub mod Places
 pub mod Trail
 pub mod Ends
 pub mod Search

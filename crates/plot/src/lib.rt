@@ -1,6 +1,5 @@
 // A plot: a small map of its own on which pushes are searched for and tested, without a byte of the position.
 pub mod chain;
-pub mod spot;
 
 ghost use mathlib.Core.Path.{_≡_};
 ghost use Prim.Native.Nat.{_<_, _≤_};

@@ -5,6 +5,7 @@ use mathlib.Core.Path.{_≡_, refl, sym, ap, ap₂, _∙_}
 use mathlib.Core.List.{List}
 use mathlib.Core.Bool.{Bool, true, false, not, cond, and-false}
 use native.Mathlib.Omega.{arith}
+use native.Mathlib.Nat.{one-mul, mul-le-mul-right}
 use native.Mathlib.Decide.{decLt}
 use lib.Dec.{ltb, eqb}
 use borrow.Author.Tests.{lt-ltb, le-ltb, le-leb, lt-leb, eqb-true, eq-eqb, ne-eqb}
@@ -169,3 +170,10 @@ on-view l x e =
       high64 = s .height .high;
       below = omega (arith, area-view (l .view));
     }
+
+-- and there is one, the first
+pub on-first : {p : List ℕ} {v : View} → Laid p v → On (v .width) (v .height) 0
+on-first {v = v} l =
+    let s = sizes l in
+    let m : 1 * v .height ≤ v .width * v .height = mul-le-mul-right (v .height) (s .width .low) in
+    on-view l 0 (omega (arith, area-view (l .view), one-mul (v .height), s .height .low))

@@ -1,30 +1,53 @@
 -- Laws of a drawn plot: what its bytes are made of, and that they give back what they were made of.
 -- Assumes nothing.
 use Prim.Native.Nat.{ℕ, zero, suc, _+_, _*_, _/_, _%_, _≤_, _<_}
-use mathlib.Core.Path.{_≡_, refl, sym, ap, ap₂, _∙_}
-use mathlib.Core.Bool.{Bool, true, false, cond}
+use mathlib.Core.Path.{_≡_, refl, sym, ap, ap₂, subst, _∙_}
+use mathlib.Core.Bool.{Bool, true, false, cond, _&&_, _||_, and-true, and-false, or-false}
 use mathlib.Core.List.{List}
 use native.Mathlib.Omega.{arith}
 use native.Mathlib.Nat.{one-mul, zero-mul}
 use native.Mathlib.Numerals.{add-one}
 use lib.Dec.{eqb}
-use lib.ListN.{length}
+use borrow.Author.Tests.{ne-eqb}
+use lib.ListN.{length, set, length-set}
 use Rattle.grid.specs.declared.Beside.{Beside}
 use Rattle.grid.specs.declared.Beside.the-variants.{At, Off}
-use Rattle.position.specs.declared.View.{View}
+use Rattle.grid.specs.declared.region.Region.{Region}
+use Rattle.grid.specs.Region.{Inside, placeOf, HexOf, Round}
+use Rattle.grid.proofs.Regions.{place-in}
+use Rattle.position.specs.Tally.{any}
 use Rattle.position.specs.Bits.{has}
-use Rattle.position.specs.Layout.{ViewOf}
-use Rattle.position.specs.Board.{Board, Map, board}
+use Rattle.position.specs.Layout.{byte}
+use Rattle.position.specs.Board.{Board, Map}
 use Rattle.position.specs.Ground.{next}
-use Rattle.position.proofs.Tallies.{either}
-use Rattle.paint.proofs.Bytes.{Pass, pass-all}
+use Rattle.position.proofs.Tallies.{same-or, either, any-zero, any-step}
+use Rattle.field.specs.Scene.{scene}
+use Rattle.field.specs.Zone.{standsOn}
+use Rattle.paint.specs.Room.{Room}
+use Rattle.paint.specs.Paint.{Mark, inZone, byAny, spare, bit, Shows, Adds, only}
+use Rattle.paint.proofs.Bytes.{byte-set, byte-other}
+use Rattle.paint.proofs.Adding.{also}
+use Rattle.paint.proofs.Units.{marked-zone, marked-held, marked-spare}
 use Rattle.chains.specs.declared.Stand.{Stand}
 use Rattle.chains.specs.declared.Stand.the-variants.{Shut, Free, Loose}
-use Rattle.chains.specs.Stand.{stand}
+use Rattle.chains.specs.Stand.{firm, stand}
 use Rattle.chains.specs.Chain.{leadsTo}
 use Rattle.plot.specs.Plot.{standOf, sideBit}
-use Rattle.plot.specs.Places.{hexFor}
-use Rattle.pushes.specs.Drawn.{standNumber, opens, openBits, byteOn, Drawn}
+use Rattle.pushes.specs.Drawn.{
+  standNumber,
+  opens,
+  openBits,
+  byteOf,
+  firmOn,
+  barsBy,
+  barsBelow,
+  ShownAt,
+  Shown,
+  DrawnTo,
+  ShownIn,
+  ByteIn,
+  Drawn,
+}
 
 -- a step that leads to a hex, and one that leads to none
 module _ (m : Map) (x d : ℕ) {r : Beside} (q : r ≡ next m x d) where
@@ -174,28 +197,92 @@ stand-back m x s = by-number (openBits m x 6 + standNumber s) s (rest-is m x (st
 pub has-back : (m : Map) (x : ℕ) (s : Stand) (d : ℕ) → d < 6 → has (sideBit d) (openBits m x 6 + standNumber s) ≡ opens m x d
 has-back m x s d l = has-open m x (standNumber s) (number-most s) d l
 
--- the byte of a place, by its hex
-module _ (b : Board) (f start : ℕ) where
-  pub byte-off : {r : Beside} → r ≡ Off → byteOn b f start r ≡ 0
-  unfolding byteOn
-  byte-off e = rw e refl
+-- what unit u adds to the marks: nothing, or the spare one on its hex
+module _ (b : Board) (f u : ℕ) where
+  pub bars-none : firm b f u ≡ false → (k : Mark) (h : ℕ) → barsBy b f u k h ≡ false
+  unfolding barsBy firmOn
+  bars-none e k h = simp (e, and-false)
 
-  pub byte-at : {r : Beside} (x : ℕ) → r ≡ At x → byteOn b f start r ≡ openBits (b .map) x 6 + standNumber (stand b f start x)
-  unfolding byteOn
-  byte-at x e = rw e refl
+  pub bars-off : (k : Mark) (h : ℕ) → (b .units .state .hex u ≡ h → ⊥) → barsBy b f u k h ≡ false
+  unfolding barsBy firmOn standsOn
+  bars-off k h n = simp (ne-eqb (b .units .state .hex u) h n, and-false)
 
--- what drawing writes at a place of a map of w columns and h rows, whatever stood there
-unfoldable pub drawing : Board → ℕ → ℕ → ℕ → ℕ → ℕ → ℕ → ℕ
-drawing b f start w h i old = byteOn b f start (hexFor w h start i)
+  pub bars-here : {n : ℕ} → n ≡ b .units .state .hex u → firm b f u ≡ true → (k : Mark) (h : ℕ) → only 32 n k h ≡ barsBy b f u k h
+  unfolding only barsBy firmOn standsOn
+  bars-here {n} e q k h = rw e (simp (q, and-true))
 
--- a pass over all places draws the plot
-pub drawn : {p : List ℕ} {v : View} (f start i : ℕ) {l m : List ℕ} → ViewOf p v → length l ≡ 182 → 182 ≤ i
-    → Pass (drawing (board p) f start (v .width) (v .height)) i l m → Drawn (board p) f start m
-unfolding drawing
-drawn {p} {v} f start i o long k s =
+-- one unit after the other
+module _ (b : Board) (f : ℕ) where
+  pub below-none : (k : Mark) (h : ℕ) → barsBelow b f 0 k h ≡ false
+  unfolding barsBelow
+  below-none k h = simp (any-zero (firmOn b f h), and-false)
+
+  pub below-step : (u : ℕ) (k : Mark) (h : ℕ) → also (barsBelow b f u) (barsBy b f u) k h ≡ barsBelow b f (u + 1) k h
+  unfolding also barsBelow barsBy
+  below-step u k h =
+      either (eqb (bit k) 32) (λ e. simp e (sym (any-step (firmOn b f h) u))) (λ e. simp e)
+
+-- all of them, over what was painted, show the region
+pub shown :
+    {b : Board} {f c : ℕ} {at : Region} {l m : List ℕ} → c ≡ b .units .count → Shows (scene b) f at l
+    → Adds (b .map .width) (b .map .height) at (barsBelow b f c) l m → Shown b f at m
+unfolding barsBelow
+shown {b} {f} {c} e s a =
     record {
-      long = s .long ∙ long;
-      each = λ j q.
-          pass-all s (omega (arith, long)) j (omega (arith, long))
-          ∙ ap₂ (λ (w h : ℕ). byteOn (board p) f start (hexFor w h start j)) (o .width) (o .height);
+      each = λ h i.
+          let k = s .each h i in
+          record {
+            zone = a .each inZone h i ∙ marked-zone k;
+            held = a .each byAny h i ∙ marked-held k;
+            barred =
+                a .each spare h i
+                ∙ ap (λ (x : Bool). any (firmOn b f h) c || x) (marked-spare k)
+                ∙ or-false (any (firmOn b f h) c)
+                ∙ ap (any (firmOn b f h)) e;
+          };
     }
+
+-- the hex of a place, or that it has none
+module _ {w h i : ℕ} {at : Region} {r : Beside} (k : HexOf w h at i r) where
+  pub hex-here : {x : ℕ} → r ≡ At x → Inside w h at x × (placeOf w at x ≡ i)
+  hex-here e = subst (HexOf w h at i) e k
+
+  pub hex-nowhere : r ≡ Off → (x : ℕ) → Inside w h at x → placeOf w at x ≡ i → ⊥
+  hex-nowhere e = subst (HexOf w h at i) e k
+
+-- 182 bytes have room for a plot
+pub round-room : {w h start : ℕ} {at : Region} {l : List ℕ} → Round w h start 6 at → length l ≡ 182 → Room at l
+round-room r e = record { region = r .ok; long = omega (arith, e, ap₂ (λ (m n : ℕ). m * n) (r .wide) (r .high)) }
+
+-- the byte of a hex
+pub byte-of : (b : Board) (f start x : ℕ) → byteOf b f start x ≡ openBits (b .map) x 6 + standNumber (stand b f start x)
+unfolding byteOf
+byte-of b f start x = refl
+
+-- along a pass over the places
+module _ {b : Board} {f start : ℕ} {at : Region} where
+  pub drawing-none : {l : List ℕ} → length l ≡ 182 → Shown b f at l → DrawnTo b f start at 0 l
+  drawing-none n s = record { long = n; done = λ x i q. absurd (omega arith); left = λ x i q. s .each x i }
+
+  module _ {i : ℕ} {l : List ℕ} (d : DrawnTo b f start at i l) where
+    pub shown-in : ShownIn b f at i (byte l i)
+    shown-in x j e = subst (λ (n : ℕ). ShownAt b f x (byte l n)) e (d .left x j (omega (arith, e)))
+
+    pub drawing-more : (r : ℕ) → i < 182 → ByteIn b f start at i r → DrawnTo b f start at (i + 1) (set l i r)
+    drawing-more r q e =
+        let w = b .map .width in
+        record {
+          long = length-set l i r ∙ d .long;
+          done = λ x j k. same-or (placeOf w at x) i
+              (λ z. ap (byte (set l i r)) z ∙ byte-set l i r (omega (arith, d .long)) ∙ e x j z)
+              (λ z. byte-other l i r (placeOf w at x) z ∙ d .done x j (omega arith));
+          left = λ x j k.
+              subst (ShownAt b f x) (sym (byte-other l i r (placeOf w at x) (λ z. omega (arith, z)))) (d .left x j (omega arith));
+        }
+
+    pub drawn : 182 ≤ i → Round (b .map .width) (b .map .height) start 6 at → Drawn b f start at l
+    drawn q r =
+        record {
+          long = d .long;
+          each = λ x j. d .done x j (omega (arith, place-in j, ap₂ (λ (m n : ℕ). m * n) (r .wide) (r .high)));
+        }

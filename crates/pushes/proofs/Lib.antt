@@ -1,4 +1,5 @@
 pub mod Standing
 pub mod Drawing
+pub mod Nearby
 pub mod Folding
 pub mod Judging

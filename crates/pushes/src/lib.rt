@@ -5,11 +5,17 @@ mod stands;
 ghost use mathlib.Core.Path.{_≡_};
 ghost use Prim.Native.Nat.{_<_, _≤_};
 ghost use lib.ListN.{length};
+ghost use Rattle.grid.specs.Region.{RegionOk, placeIn};
 ghost use Rattle.position.specs.Board.{board};
 ghost use Rattle.position.specs.Laid.{Laid};
-ghost use Rattle.pushes.specs.Pushes.{served};
-use plot::spot;
+ghost use Rattle.pushes.specs.Pushes.{served, servedIn};
+use grid::near;
+use grid::region;
+use grid::region::Region;
 use position::View;
+
+// No hex that a series of pushes may touch lies further from the start: three steps, and three pushes beyond.
+const FAR: usize = 6;
 
 // No series of pushes exists; one does, and what was sent is none; or it is one.
 pub enum Served {
@@ -18,29 +24,26 @@ pub enum Served {
     Right,
 }
 
-// Draws the plot, and asks it.
+// Asks the plot that is drawn for the region `at`, on which the start has the place `home`.
 fn judge_by(
-    p: &[u8],
+    plot: &mut [u8; 182],
     v: View,
-    f: usize,
-    start: usize,
+    at: Region,
+    home: usize,
     n: usize,
     route: &[u16],
     pushes: &[u16],
-    room: &mut [u8; 182],
 ) -> Served
-    requires { ⌜ Laid (now p) v × (start < v .hexes) × (n ≤ 3) × (length (now room) ≡ 182) ⌝ }
-    ensures { λ r. ⌜ r ≡ served (board (now (p .entry))) f start n (now (route .entry)) (now (pushes .entry)) ⌝ }
+    requires { ⌜ (length (now plot) ≡ 182) × RegionOk at × (home < 182) × (n ≤ 3) ⌝ }
+    ensures { λ r. ⌜ r ≡ servedIn (placeIn (v .width) (v .height) at) home (now (plot .entry)) n (now (route .entry)) (now (pushes .entry)) ⌝ }
 {
-    draw::draw(p, v, f, start, room);
-    let home = spot::home_for(v.width, start);
-    if !search::begins(room, home, n) {
+    if !search::begins(plot, home, n) {
         return Served::None;
     }
     if route.len() != n {
         return Served::Wrong;
     }
-    if follow::follows(room, v.width, start, route, pushes) {
+    if follow::follows(plot, v.width, v.height, at, home, route, pushes) {
         return Served::Right;
     }
     Served::Wrong
@@ -59,6 +62,17 @@ pub fn judge(
     requires { ⌜ Laid (now p) v × (start < v .hexes) × (n ≤ 3) ⌝ }
     ensures { λ r. ⌜ r ≡ served (board (now (p .entry))) f start n (now (route .entry)) (now (pushes .entry)) ⌝ }
 {
-    let mut room = [0u8; 182];
-    judge_by(p, v, f, start, n, route, pushes, &mut room)
+    let mut plot = [0u8; 182];
+    let s = near::spot(v.width, v.height, start);
+    let at = region::round(v.width, v.height, s, FAR);
+    draw::draw(p, v, at, f, start, &mut plot);
+    judge_by(
+        &mut plot,
+        v,
+        at,
+        region::place(v.width, v.height, at, s),
+        n,
+        route,
+        pushes,
+    )
 }

@@ -1,13 +1,13 @@
 // What a hex is to a retreating group and to the stacks that it pushes.
 ghost use mathlib.Core.Path.{_≡_};
-ghost use mathlib.Core.Bool.{false};
+ghost use mathlib.Core.Bool.{true};
 ghost use Prim.Native.Nat.{_<_};
 ghost use Rattle.position.specs.Tally.{any};
 ghost use Rattle.position.specs.Board.{board};
 ghost use Rattle.position.specs.Laid.{Laid};
-ghost use Rattle.field.specs.Scene.{scene};
-ghost use Rattle.field.specs.Zone.{vacant};
+ghost use Rattle.routes.specs.Bears.{bears};
 ghost use Rattle.chains.specs.Stand.{apart, firm, bars, stand};
+ghost use Rattle.pushes.specs.Drawn.{ShownAt};
 use chains::Stand;
 use position::View;
 use position::bits;
@@ -30,7 +30,7 @@ fn apart(p: &[u8], v: View, a: usize, h: usize, u: usize) -> bool
 }
 
 // Whether a stack with unit `u` can't be pushed by force `f`.
-fn firm(p: &[u8], v: View, f: usize, u: usize) -> bool
+pub fn firm(p: &[u8], v: View, f: usize, u: usize) -> bool
     requires { ⌜ Laid (now p) v ⌝ }
     ensures { λ r. ⌜ r ≡ firm (board (now (p .entry))) f u ⌝ }
 {
@@ -57,17 +57,6 @@ fn any_apart(p: &[u8], v: View, a: usize, h: usize) -> bool
         u += 1;
     }
     false
-}
-
-// The same of a hex that is held: unless it is the group's own, who holds it is not of the group.
-fn shared(p: &[u8], v: View, a: usize, h: usize) -> bool
-    requires { ⌜ Laid (now p) v × (vacant (scene (board (now p))) h ≡ false) ⌝ }
-    ensures { λ r. ⌜ r ≡ any (apart (board (now (p .entry))) a h) (board (now (p .entry)) .units .count) ⌝ }
-{
-    if h != a {
-        return true;
-    }
-    any_apart(p, v, a, h)
 }
 
 // Whether unit `u` holds hex `h` against every push.
@@ -97,25 +86,38 @@ fn any_bars(p: &[u8], v: View, f: usize, a: usize, h: usize) -> bool
     false
 }
 
-// What hex `h` is to the group of force `f` in hex `a`. A hex that holds nobody at all is free without a look at the units.
-pub fn stand_at(p: &[u8], v: View, f: usize, a: usize, h: usize) -> Stand
-    requires { ⌜ Laid (now p) v × (h < v .hexes) ⌝ }
+// What the group's own hex is, by who else stands there.
+fn own_stand(p: &[u8], v: View, f: usize, a: usize) -> Stand
+    requires { ⌜ Laid (now p) v × (bears (board (now p)) f a ≡ true) ⌝ }
+    ensures { λ r. ⌜ r ≡ stand (board (now (p .entry))) f a a ⌝ }
+{
+    if !any_apart(p, v, a, a) {
+        return Stand::Free;
+    }
+    if any_bars(p, v, f, a, a) {
+        return Stand::Shut;
+    }
+    Stand::Loose
+}
+
+// What hex `h`, which has the marks `m`, is to the group of force `f` in hex `a`. Only of its own hex the units are asked.
+pub fn stand_at(p: &[u8], v: View, f: usize, a: usize, h: usize, m: usize) -> Stand
+    requires { ⌜ Laid (now p) v × (h < v .hexes) × ShownAt (board (now p)) f h m ⌝ }
     ensures { λ r. ⌜ r ≡ stand (board (now (p .entry))) f a h ⌝ }
 {
     if !ground::standable(p, v, h) {
         return Stand::Shut;
     }
-    let m = paint::look(p, v, f, h);
     if bits::has(paint::ZONE, m) {
         return Stand::Shut;
     }
     if !bits::has(paint::HELD, m) {
         return Stand::Free;
     }
-    if !shared(p, v, a, h) {
-        return Stand::Free;
+    if h == a {
+        return own_stand(p, v, f, a);
     }
-    if any_bars(p, v, f, a, h) {
+    if bits::has(paint::SPARE, m) {
         return Stand::Shut;
     }
     Stand::Loose

@@ -8,17 +8,17 @@ use native.Mathlib.Omega.{arith}
 use lib.Dec.{eqb}
 use lib.ListN.{length}
 use borrow.Author.Tests.{lt-ltb, le-leb, lt-leb, eq-eqb, ne-eqb}
+use Rattle.grid.specs.declared.region.Region.{Region}
 use Rattle.grid.specs.Map.{On}
+use Rattle.grid.specs.Region.{Whole}
 use Rattle.position.specs.Layout.{byte}
 use Rattle.position.specs.Bits.{has, port, urban, supply}
 use Rattle.position.specs.Kind.{force, us, canada}
 use Rattle.field.specs.Scene.{Scene}
 use Rattle.supply.specs.Open.{openTo, homeSource, coastal, landing, landedSource, source, grade}
 use Rattle.walk.specs.Chain.{mark}
-use Rattle.paint.specs.declared.frame.Frame.{Frame}
 use Rattle.paint.specs.Paint.{Shows, Marked}
 use Rattle.paint.proofs.Bytes.{Pass, pass-all}
-use Rattle.paint.proofs.Frames.{whole-inside, whole-place}
 use Rattle.paint.proofs.Units.{marked-zone, marked-enemy, marked-own, marked-depot}
 use Rattle.supply.specs.Graded.{MapShows, Grades, openBy, landedBy, sourceBy, gradeBy}
 
@@ -113,17 +113,17 @@ module _ (s : Scene) (h : ℕ) where
     unfolding landing
     landing-supply q u = simp (e, q, u)
 
--- the frame of the whole map shows each hex at its own number
+-- the region of the whole map shows each hex at its own number
 pub map-shows :
-    {s : Scene} {f : ℕ} (at : Frame) {l : List ℕ} → at .left ≡ 0 → at .top ≡ 0 → at .wide ≡ s .map .width → at .high ≡ s .map .height
+    {s : Scene} {f : ℕ} {at : Region} {l : List ℕ} → Whole (s .map .width) (s .map .height) at
     → ((h : ℕ) → h < s .map .hexes → On (s .map .width) (s .map .height) h) → length l ≡ s .map .hexes → Shows s f at l → MapShows s f l
 unfolding mark
-map-shows {s} {f} at {l} left top wide high on long k =
+map-shows {s} {f} {at} {l} whole on long k =
     record {
       long = long;
       each = λ h e.
-          let o = k .each h (whole-inside at left top wide high h (on h e)) in
-          subst (λ (i : ℕ). Marked s f h (byte l i)) (whole-place at left top wide high h) o;
+          let q = whole .each h (on h e) in
+          subst (λ (i : ℕ). Marked s f h (byte l i)) (q .1) (k .each h (q .0));
     }
 
 module _ (s : Scene) (n : ℕ) (l : List ℕ) (shows : MapShows s (force n) l) (h : ℕ) (le : h < s .map .hexes) where

@@ -10,7 +10,7 @@ ghost use Rattle.ruling.specs.Verdict.{Met};
 ghost use Rattle.ruling.specs.Answers.{answerAs};
 ghost use Rattle.field.specs.Scene.{scene};
 ghost use Rattle.supply.specs.Supply.{supplyMap, supplyRule};
-use paint::frame;
+use grid::region;
 use position::View;
 use position::kind;
 use ruling::Answer;
@@ -20,7 +20,8 @@ pub fn fill(p: &[u8], v: View, n: usize, out: &mut [u8])
     requires { ⌜ Laid (now p) v × (length (now out) ≡ v .hexes) ⌝ }
     ensures { λ _. ⌜ now (out .exit) ≡ supplyMap (scene (board (now (p .entry)))) n ⌝ }
 {
-    paint::paint(p, v, frame::whole(v), kind::force(n), out);
+    let at = region::whole(v.width, v.height);
+    paint::paint(p, v, at, kind::force(n), out);
     grade::grade(p, v, out, n);
     walk::walk(p, v, out);
 }

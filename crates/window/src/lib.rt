@@ -2,32 +2,27 @@
 ghost use mathlib.Core.Path.{_≡_};
 ghost use Prim.Native.Nat.{_+_, _-_, _<_, _≤_};
 ghost use lib.Dec.{eqb};
-ghost use Rattle.grid.specs.Spot.{SpotOf};
 ghost use Rattle.grid.specs.Walk.{distanceOf};
 ghost use Rattle.position.specs.Layout.{width};
 ghost use Rattle.position.specs.Board.{board, ground};
 ghost use Rattle.position.specs.Ground.{next};
 ghost use Rattle.position.specs.Laid.{Laid};
-ghost use Rattle.paint.specs.Frame.{Inside};
+ghost use Rattle.grid.specs.Region.{Inside};
 ghost use Rattle.routes.specs.Bears.{refuge};
 ghost use Rattle.routes.specs.Legal.{enters};
 ghost use Rattle.routes.specs.Search.{stepOf, firstRoute, found};
-ghost use Rattle.routes.specs.Window.{free, Edge, Around, Window};
+ghost use Rattle.routes.specs.Window.{free, Window};
 
 pub mod sent;
 
 use grid::Beside;
-use grid::Spot;
 use grid::near;
-use paint::frame;
-use paint::frame::Frame;
+use grid::region;
+use grid::region::Region;
 use position::View;
 use position::bits;
 use position::layout;
 use routes::Found;
-
-// No route has more hexes, so no hex of one lies further than three columns and three rows from its start.
-const FAR: usize = 3;
 
 // Whether a hex with the marks `m` is vacant and outside Enemy zones. Friends lift no zone.
 pub fn free(m: usize) -> bool
@@ -47,51 +42,14 @@ pub fn as_far(p: &[u8], v: View, start: usize, i: usize, x: usize) -> bool
     grid::distance(v.width, v.height, start, x) == i + 1
 }
 
-// The first column or row of the window.
-fn first(n: usize) -> usize
-    ensures { λ r. ⌜ r ≡ n - 3 ⌝ }
-{
-    if n < FAR {
-        return 0;
-    }
-    n - FAR
-}
-
-// The column or row just past its last, of those before `end`.
-fn past(n: usize, end: usize) -> usize
-    requires { ⌜ n < 64 ⌝ }
-    ensures { λ r. ⌜ Edge n end r ⌝ }
-{
-    if end <= n + FAR {
-        return end;
-    }
-    n + FAR + 1
-}
-
-// The window: the hexes within three columns and three rows of the spot.
-pub fn around(v: View, s: Spot) -> Frame
-    requires { ⌜ SpotOf (v .width) (v .height) s ⌝ }
-    ensures { λ r. ⌜ Around (v .width) (v .height) (s .hex) r ⌝ }
-{
-    let left = first(s.column);
-    let top = first(s.row);
-    let right = past(s.column, v.width);
-    let bottom = past(s.row, v.height);
-    Frame {
-        left: left,
-        top: top,
-        wide: right - left,
-        high: bottom - top,
-    }
-}
-
 // Whether a retreating group of force `f` may enter hex `x` of the window.
-fn refuge(p: &[u8], v: View, at: Frame, painted: &[u8], f: usize, start: usize, x: usize) -> bool
-    requires { ⌜ Laid (now p) v × Window (now p) v f start at (now painted) × (x < v .hexes) × Inside (v .width) at x ⌝ }
+fn refuge(p: &[u8], v: View, at: Region, painted: &[u8], f: usize, start: usize, x: usize) -> bool
+    requires { ⌜ Laid (now p) v × Window (now p) v f start at (now painted) × (x < v .hexes) × Inside (v .width) (v .height) at x ⌝ }
     ensures { λ r. ⌜ r ≡ refuge (board (now (p .entry))) f x ⌝ }
 {
     if ground::standable(p, v, x) {
-        let i = frame::place(v, at, near::spot(v.width, v.height, x));
+        let s = near::spot(v.width, v.height, x);
+        let i = region::place(v.width, v.height, at, s);
         return free(layout::wide(painted[i]));
     }
     false
@@ -101,7 +59,7 @@ fn refuge(p: &[u8], v: View, at: Frame, painted: &[u8], f: usize, start: usize, 
 pub fn enters(
     p: &[u8],
     v: View,
-    at: Frame,
+    at: Region,
     painted: &[u8],
     f: usize,
     start: usize,
@@ -121,7 +79,7 @@ pub fn enters(
 fn step(
     p: &[u8],
     v: View,
-    at: Frame,
+    at: Region,
     painted: &[u8],
     f: usize,
     start: usize,
@@ -142,7 +100,7 @@ fn step(
 }
 
 // The first legal route of n hexes, directions tried clockwise: three nested loops left by a label.
-fn search(p: &[u8], v: View, at: Frame, painted: &[u8], f: usize, start: usize, n: usize) -> Found
+fn search(p: &[u8], v: View, at: Region, painted: &[u8], f: usize, start: usize, n: usize) -> Found
     requires { ⌜ Laid (now p) v × (start < v .hexes) × (1 ≤ n) × (n ≤ 3) × Window (now p) v f start at (now painted) ⌝ }
     ensures { λ r. ⌜ r ≡ firstRoute (board (now (p .entry))) f start n ⌝ }
 {
@@ -175,7 +133,15 @@ fn search(p: &[u8], v: View, at: Frame, painted: &[u8], f: usize, start: usize, 
 }
 
 // Whether it finds one.
-pub fn finds(p: &[u8], v: View, at: Frame, painted: &[u8], f: usize, start: usize, n: usize) -> bool
+pub fn finds(
+    p: &[u8],
+    v: View,
+    at: Region,
+    painted: &[u8],
+    f: usize,
+    start: usize,
+    n: usize,
+) -> bool
     requires { ⌜ Laid (now p) v × (start < v .hexes) × (1 ≤ n) × (n ≤ 3) × Window (now p) v f start at (now painted) ⌝ }
     ensures { λ r. ⌜ r ≡ found (firstRoute (board (now (p .entry))) f start n) ⌝ }
 {

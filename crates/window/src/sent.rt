@@ -5,14 +5,14 @@ ghost use Rattle.position.specs.Board.{board};
 ghost use Rattle.position.specs.Laid.{Laid};
 ghost use Rattle.routes.specs.Legal.{stepsTo, legal};
 ghost use Rattle.routes.specs.Window.{Window};
-use paint::frame::Frame;
+use grid::region::Region;
 use position::View;
 
 // Whether a run may go on from hex `a` to hex `x` after `i` steps.
 fn steps_to(
     p: &[u8],
     v: View,
-    at: Frame,
+    at: Region,
     painted: &[u8],
     f: usize,
     start: usize,
@@ -33,7 +33,7 @@ fn steps_to(
 pub fn is_legal(
     p: &[u8],
     v: View,
-    at: Frame,
+    at: Region,
     painted: &[u8],
     f: usize,
     start: usize,

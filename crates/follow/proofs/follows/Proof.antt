@@ -1,50 +1,41 @@
 -- `plot::follow::follows` meets its contract. The loop's invariant: the answer is what comes of the rest of the route and of the pushes.
 -- Assumes nothing.
 use Prim.Native.Nat.{_-_}
-use mathlib.Core.Path.{sym}
+use mathlib.Core.Path.{refl, sym}
 use native.Mathlib.Omega.{arith}
 use borrow.Author.Needs.{needs}
 use lib.ListN.{length}
+use Rattle.grid.specs.Region.{placeIn}
 use Rattle.plot.proofs.Following.{Followed, followed-all, followed-more, followed-none, followed-wrong}
 use Rattle.follow.proofs.follows.Statement.{statement}
 use Rattle.follow.proofs.follows.Tie as tie
 
 abbrev Inv-loop : tie.InvT-loop
-Inv-loop plot₀ w start route pushes a₀ k₀ i₀ i-end plot a k i = Followed w start plot₀ route pushes plot a k i
+Inv-loop plot₀ w height at home route pushes a₀ k₀ i₀ i-end plot a k i = Followed (placeIn w height at) home plot₀ route pushes plot a k i
 
 abbrev μ-loop : tie.MeasureT-loop
-μ-loop plot₀ w start route pushes a₀ k₀ i₀ i-end plot a k i = length route - i
-
-home-for-requires : tie.Need-home-for-requires Inv-loop μ-loop
-home-for-requires c κs = c .before .before .pre .1
+μ-loop plot₀ w height at home route pushes a₀ k₀ i₀ i-end plot a k i = length route - i
 
 loop-holds : tie.Need-loop-holds Inv-loop μ-loop
-loop-holds c = followed-none (c .before .before .before .pre .0) (c .home-for .ensures .0) (c .home-for .ensures .1)
+loop-holds c = followed-none (c .before .before .pre .0) refl (c .before .before .pre .2)
 
-mul-place-for : tie.Need-mul-place-for Inv-loop μ-loop
-mul-place-for c = search needs
+mul-place-in : tie.Need-mul-place-in Inv-loop μ-loop
+mul-place-in c = search needs
 
-shared-slice-read-place-for : tie.Need-shared-slice-read-place-for Inv-loop μ-loop
-shared-slice-read-place-for c = omega arith
+shared-slice-read-place-in : tie.Need-shared-slice-read-place-in Inv-loop μ-loop
+shared-slice-read-place-in c = omega arith
 
-cast-place-for : tie.Need-cast-place-for Inv-loop μ-loop
-cast-place-for c = omega (arith, c .shared-slice-known3 .given (c .before .before .loop .i))
+cast-place-in : tie.Need-cast-place-in Inv-loop μ-loop
+cast-place-in c = omega (arith, c .shared-slice-known3 .given (c .before .before .loop .i))
 
-place-for-requires : tie.Need-place-for-requires Inv-loop μ-loop
-place-for-requires c κs = (
-  c .before .before .before .before .before .before .pre .1,
-  c .before .before .before .before .before .before .pre .2,
-  omega (
-    arith,
-    c .shared-slice-known3 .given (c .before .before .loop .i),
-  ),
-)
+place-in-requires : tie.Need-place-in-requires Inv-loop μ-loop
+place-in-requires c κs = c .before .before .before .before .before .pre .1
 
 enter-requires : tie.Need-enter-requires Inv-loop μ-loop
 enter-requires c κs = let u = c .before .before .before .before .loop .inv in (
   u .long,
-  c .before .before .before .before .before .before .before .before .pre .1,
-  c .before .before .before .before .before .before .before .before .pre .2,
+  c .before .before .before .before .before .before .before .pre .1,
+  c .before .before .before .before .before .before .before .pre .2,
   u .inside,
   u .few,
 )
@@ -57,7 +48,7 @@ enum-told c = search needs
 
 returns : tie.Need-returns Inv-loop μ-loop
 returns c = sym (followed-wrong (c .before .before .before .before .before .before .before .loop .inv) (omega arith)
-    (c .before .before .before .before .place-for .ensures .0) (c .before .before .enter .ensures)
+    (c .before .before .before .before .place-in .ensures) (c .before .before .enter .ensures)
     (c .enum-told .given .1))
 
 add-i : tie.Need-add-i Inv-loop μ-loop
@@ -68,7 +59,7 @@ loop-less c = omega arith
 
 loop-again : tie.Need-loop-again Inv-loop μ-loop
 loop-again c = followed-more (c .before .before .before .before .before .before .before .before .loop .inv) (omega arith)
-    (c .before .before .before .before .before .place-for .ensures .0)
+    (c .before .before .before .before .before .place-in .ensures)
     (c .before .before .before .enter .ensures) (c .before .m .given .1)
 
 returns-2 : tie.Need-returns-2 Inv-loop μ-loop
@@ -80,12 +71,11 @@ follows-spec =
     (tie.spec
     Inv-loop
     μ-loop
-    home-for-requires
     loop-holds
-    mul-place-for
-    shared-slice-read-place-for
-    cast-place-for
-    place-for-requires
+    mul-place-in
+    shared-slice-read-place-in
+    cast-place-in
+    place-in-requires
     enter-requires
     enum-known-m
     enum-told

@@ -7,18 +7,16 @@ use Rattle.follow.proofs.push_out.Statement.{statement}
 use Rattle.follow.proofs.push_out.Tie as tie
 
 own-requires : tie.Need-own-requires
-own-requires c κs = c .before .pre .3
+own-requires c κs = c .before .pre .2
 
 take-requires : tie.Need-take-requires
 take-requires c κs = let p = c .before .before .before .pre in (
   p .0,
   p .1,
-  p .2,
   c .before .own .ensures .1,
   omega arith,
+  p .3,
   p .4,
-  p
-      .5,
 )
 
 enum-known-y : tie.Need-enum-known-y
@@ -33,7 +31,7 @@ returns c = pushed-wrong (c .before .before .before .before .own .ensures .0) (c
 shift-requires : tie.Need-shift-requires
 shift-requires c κs = (
   c .before .before .before .before .before .before .before .before .pre .0,
-  c .before .before .before .before .before .before .before .before .pre .4,
+  c .before .before .before .before .before .before .before .before .pre .3,
   c .before .before .before .before .take .ensures .ends _ _ (c .before .before .y
       .given .1) .0,
 )

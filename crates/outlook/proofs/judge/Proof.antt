@@ -1,4 +1,4 @@
--- `routes::judge` meets its contract: the window has 49 bytes, all 0.
+-- `routes::judge` meets its contract: the window has 56 bytes, all 0.
 -- Assumes nothing.
 use mathlib.Core.Path.{refl}
 use borrow.Author.Needs.{needs}

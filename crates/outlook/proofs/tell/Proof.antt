@@ -6,14 +6,13 @@ use native.Mathlib.Omega.{arith}
 use Prim.Native.Nat.{ℕ}
 use borrow.Author.Needs.{needs}
 use borrow.Author.Tests.{not-false, not-true}
+use Rattle.grid.specs.Region.{Inside, placeOf}
 use Rattle.position.specs.Board.{board}
 use Rattle.position.proofs.Sides.{on-view}
-use Rattle.paint.specs.Frame.{Inside, placeOf}
 use Rattle.routes.specs.Legal.{legal}
 use Rattle.routes.specs.Part.{isRun}
 use Rattle.routes.specs.Search.{firstRoute, found}
 use Rattle.routes.proofs.Part.{tested-most, tested-run}
-use Rattle.routes.proofs.Windows.{around-small}
 use Rattle.routes.proofs.Nearby.{nobody-near, start-inside}
 use Rattle.outlook.proofs.tell.Statement.{statement}
 use Rattle.outlook.proofs.tell.Tie as tie
@@ -73,12 +72,12 @@ place-requires c κs =
     let o = k .before .before .before .before .before .before .before .before .before .before in
     let s = k .spot .ensures in
     let i = start-inside (o .pre .0) (o .pre .1) (o .pre .3) in
-    (s .0, o .pre .1 .around .frame, subst (Inside (o .args .v .width) (o .args .at)) (sym (s .1)) i)
+    (s .0, o .pre .1 .round .ok, subst (Inside (o .args .v .width) (o .args .v .height) (o .args .at)) (sym (s .1)) i)
 
 near-requires : tie.Need-near-requires
 near-requires c κs =
     let o = c .before .before .before .before .before .before .before .before .before .before .before .before in
-    (o .pre .2, omega (arith, around-small (o .pre .1 .around), c .place .ensures .1))
+    (o .pre .2, omega (arith, o .pre .1 .room .long, o .pre .2, c .place .ensures .1))
 
 same-length : tie.Need-same-length
 same-length c = search needs

@@ -1,9 +1,9 @@
 -- `paint` meets its contract: the buffer is cleared first.
 -- Assumes nothing.
 use lib.ListN.{length}
+use Rattle.paint.proofs.Adding.{room-kept}
 use borrow.Author.Needs.{needs}
 use Rattle.paint.proofs.Bytes.{blank-long, blank-all}
-use Rattle.paint.proofs.Frames.{room-kept}
 use Rattle.paint.proofs.paint.Statement.{statement}
 use Rattle.paint.proofs.paint.Tie as tie
 

@@ -1,13 +1,11 @@
--- `paint_unit` meets its contract: a unit away from the frame shows nothing, any other stands and casts.
+-- `paint_unit` meets its contract: a unit away from the region shows nothing, any other stands and casts.
 -- Assumes nothing.
 use mathlib.Core.Path.{_∙_}
 use native.Mathlib.Omega.{arith}
-use Rattle.grid.proofs.Arith.{column}
 use Rattle.position.specs.Board.{board}
 use Rattle.field.specs.Scene.{scene}
 use Rattle.position.proofs.Sides.{on-view, area-view}
-use Rattle.paint.proofs.Frames.{sizes, room-kept, away-left, away-right}
-use Rattle.paint.proofs.Adding.{adds-none, adds-as, adds-also}
+use Rattle.paint.proofs.Adding.{room-kept, adds-none, adds-as, adds-also}
 use Rattle.paint.proofs.Units.{unit-away, says-parts}
 use borrow.Author.Needs.{needs}
 use Rattle.paint.proofs.paint_unit.Statement.{statement}
@@ -35,52 +33,39 @@ spot-requires c κs =
     let outset = c .before .before .before .before .before in
     on-view (outset .pre .0) _ (omega (arith, outset .pre .3 .most, area-view (outset .pre .0 .view)))
 
-add-if3 : tie.Need-add-if3
-add-if3 c = omega (arith, c .before .spot .ensures .0 .on .wide64, column (c .before .spot .ensures .0 .on), c .before .spot .ensures .0 .column)
+aside-requires : tie.Need-aside-requires
+aside-requires c κs = ((c .spot) .ensures .0, (c .before .before .before .before .before .before) .pre .1 .region)
 
 returns-3 : tie.Need-returns-3
 returns-3 c =
-    let outset = c .before .before .before .before .before .before .before .before .before in
+    let outset = c .before .before .before .before .before .before .before .before in
     let a = outset .args in
-    let o = c .before .before .before .spot .ensures in
-    let e = o .1 ∙ c .before .before .before .before .before .before .hex .ensures .is in
-    adds-none (unit-away (outset .pre .0) (a .f) (a .u) (c .before .before .before .spot .result .hex) e (away-left (c .before .before .before .spot .result .hex) (omega (arith, o .0 .column))))
-
-add-if4 : tie.Need-add-if4
-add-if4 c =
-    let outset = c .before .before .before .before .before .before .before .before .before .before in
-    omega (arith, sizes (outset .pre .0) .wide64, outset .pre .1 .frame .right)
-
-returns-4 : tie.Need-returns-4
-returns-4 c =
-    let outset = c .before .before .before .before .before .before .before .before .before .before .before .before in
-    let a = outset .args in
-    let o = c .before .before .before .before .before .before .spot .ensures in
-    let e = o .1 ∙ c .before .before .before .before .before .before .before .before .before .hex .ensures .is in
-    adds-none (unit-away (outset .pre .0) (a .f) (a .u) (c .before .before .before .before .before .before .spot .result .hex) e (away-right (c .before .before .before .before .before .before .spot .result .hex) (omega (arith, o .0 .column))))
+    let s = (c .before .before .spot) in
+    adds-none (unit-away (outset .pre .0) (a .f) (a .u) (s .result .hex) (s .ensures .1 ∙ (c .before .before .before .before .before .hex) .ensures .is) ((c .before .aside) .ensures ((c .if3) .taken)))
 
 stand-requires : tie.Need-stand-requires
 stand-requires c κs =
-    let outset = c .before .before .before .before .before .before .before .before .before .before .before .before .before in
-    let o = c .before .before .before .before .before .before .before .spot .ensures in
-    let e = o .1 ∙ c .before .before .before .before .before .before .before .before .before .before .hex .ensures .is in
-    (outset .pre .0, outset .pre .1, record { spot = o .0; here = e })
+    let outset = c .before .before .before .before .before .before .before .before .before in
+    let o = (c .before .before .before .spot) .ensures in
+    (outset .pre .0, outset .pre .1, record { spot = o .0; here = o .1 ∙ (c .before .before .before .before .before .before .hex) .ensures .is })
 
 cast-requires : tie.Need-cast-requires
 cast-requires c κs =
-    let outset = c .before .before .before .before .before .before .before .before .before .before .before .before .before .before .before .before .before in
-    let o = c .before .before .before .before .before .before .before .before .before .before .before .spot .ensures in
-    let e = o .1 ∙ c .before .before .before .before .before .before .before .before .before .before .before .before .before .before .hex .ensures .is in
-    (outset .pre .0, room-kept (outset .pre .1) (c .before .before .before .stand .ensures .long), record { spot = o .0; here = e })
+    let outset = c .before .before .before .before .before .before .before .before .before .before .before .before .before in
+    let o = (c .before .before .before .before .before .before .before .spot) .ensures in (
+      outset .pre .0,
+      room-kept (outset .pre .1) ((c .before .before .before .stand) .ensures .long),
+      record { spot = o .0; here = o .1 ∙ (c .before .before .before .before .before .before .before .before .before .before .hex) .ensures .is },
+    )
 
 same-length : tie.Need-same-length
-same-length c = c .before .before .cast .ensures .long ∙ c .before .before .before .before .before .before .stand .ensures .long
+same-length c = (c .before .before .cast) .ensures .long ∙ (c .before .before .before .before .before .before .stand) .ensures .long
 
-returns-5 : tie.Need-returns-5
-returns-5 c =
-    let a = c .before .before .before .before .before .before .before .before .before .before .before .before .before .before .before .before .before .before .before .before .args in
+returns-4 : tie.Need-returns-4
+returns-4 c =
+    let a = (c .before .before .before .before .before .before .before .before .before .before .before .before .before .before .before .before) .args in
     let b = board (a .p .now) in
-    adds-as (adds-also (c .before .before .before .before .before .before .stand .ensures) (c .before .before .cast .ensures)) (λ k h i. says-parts (scene b) (a .f) (a .u) k h)
+    adds-as (adds-also ((c .before .before .before .before .before .before .stand) .ensures) ((c .before .before .cast) .ensures)) (λ k h i. says-parts (scene b) (a .f) (a .u) k h)
 
 pub paint-unit-spec : {M : Type 1} → statement M
 paint-unit-spec =
@@ -90,11 +75,9 @@ paint-unit-spec =
     returns
     returns-2
     spot-requires
-    add-if3
+    aside-requires
     returns-3
-    add-if4
-    returns-4
     stand-requires
     cast-requires
     same-length
-    returns-5)
+    returns-4)

@@ -6,15 +6,14 @@ use native.Mathlib.Omega.{arith}
 use Rattle.position.specs.Board.{board}
 use Rattle.field.specs.Scene.{scene}
 use Rattle.paint.specs.Paint.{Adds, saysBelow}
-use Rattle.paint.proofs.Frames.{room-kept}
-use Rattle.paint.proofs.Adding.{adds-none, adds-as, adds-also}
+use Rattle.paint.proofs.Adding.{room-kept, adds-none, adds-as, adds-also}
 use Rattle.paint.proofs.Units.{below-none, below-step}
 use borrow.Author.Needs.{needs}
 use Rattle.paint.proofs.paint_units.Statement.{statement}
 use Rattle.paint.proofs.paint_units.Tie as tie
 
 abbrev Inv-loop : tie.InvT-loop
-Inv-loop p v at f from to buf₀ count u₀ buf u = (u ≤ count) × Adds (v .width) at (saysBelow (scene (board p)) f u) buf₀ buf
+Inv-loop p v at f from to buf₀ count u₀ buf u = (u ≤ count) × Adds (v .width) (v .height) at (saysBelow (scene (board p)) f u) buf₀ buf
 
 abbrev μ-loop : tie.MeasureT-loop
 μ-loop p v at f from to buf₀ count u₀ buf u = count - u

@@ -1,12 +1,10 @@
 -- `supply::fill` meets its contract: what is painted is graded, and the walk over the grades leaves the supply map.
 -- Assumes nothing.
-use Prim.Native.Nat.{ℕ, _*_}
-use mathlib.Core.Path.{sym, ap₂, _∙_}
+use mathlib.Core.Path.{sym}
 use native.Mathlib.Omega.{arith}
 use Rattle.position.specs.Board.{board}
 use Rattle.field.specs.Scene.{scene}
-use Rattle.position.proofs.Sides.{area-view}
-use Rattle.paint.proofs.Frames.{sizes, on-layout, whole-ok}
+use Rattle.position.proofs.Sides.{area-view, on-view, on-first}
 use Rattle.supply.proofs.Grading.{map-shows}
 use Rattle.supply.proofs.Supplies.{graded-list, graded, walked-map}
 use borrow.Author.Needs.{needs}
@@ -14,7 +12,7 @@ use Rattle.supply.proofs.fill.Statement.{statement}
 use Rattle.supply.proofs.fill.Tie as tie
 
 whole-requires : tie.Need-whole-requires
-whole-requires c κs = search needs
+whole-requires c κs = on-first ((c .before .before) .pre .0)
 
 force-requires : tie.Need-force-requires
 force-requires c κs = search needs
@@ -22,33 +20,30 @@ force-requires c κs = search needs
 paint-requires : tie.Need-paint-requires
 paint-requires c κs =
     let outset = c .before .before .before .before .before in
-    let a = outset .args in
-    let l = outset .pre .0 in
-    let k = c .before .before .whole .ensures in
-    let z = sizes l in
-    (l, record { frame = whole-ok (c .before .before .whole .result) (k .0) (k .1) (k .2) (k .3) (z .wide) (z .high); long = omega (arith, area-view (l .view), outset .pre .1, ap₂ (λ (x y : ℕ). x * y) (k .2) (k .3)) })
+    let k = (c .before .before .whole) .ensures in
+    (outset .pre .0, record { region = k .ok; long = omega (arith, k .size, area-view (outset .pre .0 .view), outset .pre .1) })
 
 grade-requires : tie.Need-grade-requires
 grade-requires c κs =
     let outset = c .before .before .before .before .before .before .before .before .before in
-    let a = outset .args in
     let l = outset .pre .0 in
-    let k = c .before .before .before .before .before .before .whole .ensures in
-    let q = rw (c .before .before .before .before .before .force .ensures) at (c .before .before .before .paint .ensures) in
-    (l, map-shows (c .before .before .before .before .before .before .whole .result) (k .0) (k .1) (k .2 ∙ l .view .width) (k .3 ∙ l .view .height) (on-layout l) (omega (arith, outset .pre .1, l .view .hexes)) q)
+    let view = l .view in
+    let k = rw (view .width, view .height) at ((c .before .before .before .before .before .before .whole) .ensures) in (
+      l,
+      map-shows k (λ h e. rw (view .width, view .height) at (on-view l h (omega (arith, e, view .hexes))))
+          (omega (arith, outset .pre .1, view .hexes)) (rw ((c .before .before .before .before .before .force) .ensures) at ((c .before .before .before .paint) .ensures)),
+    )
 
 walk-requires : tie.Need-walk-requires
-walk-requires c κs =
-    let l = c .before .before .before .before .before .before .before .before .before .before .before .before .before .pre .0 in
-    (l, graded (sym (l .view .hexes)) (c .before .before .before .grade .ensures))
+walk-requires c κs = let l = (c .before .before .before .before .before .before .before .before .before .before .before .before .before) .pre .0 in (l, graded (sym (l .view .hexes)) ((c .before .before .before .grade) .ensures))
 
 same-length : tie.Need-same-length
 same-length c = search needs
 
 returns : tie.Need-returns
 returns c =
-    let a = c .before .before .before .before .before .before .before .before .before .before .before .before .before .before .before .before .args in
-    walked-map (scene (board (a .p .now))) (a .n) (graded-list (c .before .before .before .before .before .before .grade .ensures)) (c .before .before .walk .ensures)
+    let a = (c .before .before .before .before .before .before .before .before .before .before .before .before .before .before .before .before) .args in
+    walked-map (scene (board (a .p .now))) (a .n) (graded-list ((c .before .before .before .before .before .before .grade) .ensures)) ((c .before .before .walk) .ensures)
 
 pub fill-spec : {M : Type 1} → statement M
 fill-spec =

@@ -20,7 +20,7 @@ refuge-requires c κs =
     let a = outset .args in
     let l = outset .pre .0 in
     let e = eqb-true (distanceOf (width (a .p .now)) (a .start) (a .x)) (a .i + 1) (sym (c .before .as-far .ensures) ∙ c .if1 .taken) in
-    (l, outset .pre .1, outset .pre .3, outset .pre .1 .around .near (a .x) (on-view l _ (outset .pre .3)) (omega (arith, e, far-view l (a .start) (a .x))))
+    (l, outset .pre .1, outset .pre .3, outset .pre .1 .round .near (a .x) (on-view l _ (outset .pre .3)) (omega (arith, e, far-view l (a .start) (a .x))))
 
 returns : tie.Need-returns
 returns c = c .refuge .ensures ∙ sym (enters-there _ _ _ _ _ (sym (c .before .before .as-far .ensures) ∙ c .before .if1 .taken))

@@ -3,7 +3,7 @@
 use mathlib.Core.Path.{sym, ap, subst, _∙_}
 use native.Mathlib.Omega.{arith}
 use Rattle.position.specs.Board.{board}
-use Rattle.paint.specs.Frame.{Inside, placeOf}
+use Rattle.grid.specs.Region.{Inside, placeOf}
 use Rattle.position.proofs.Sides.{on-view}
 use Rattle.routes.proofs.Windows.{refuge-barred, refuge-free, window-marked}
 use borrow.Author.Needs.{needs}
@@ -22,7 +22,7 @@ place-requires : tie.Need-place-requires
 place-requires c κs =
     let outset = c .before .before .before .before .before in
     let o = c .spot .ensures in
-    (o .0, outset .pre .1 .around .frame, subst (Inside (outset .args .v .width) (outset .args .at)) (sym (o .1)) (outset .pre .3))
+    (o .0, outset .pre .1 .round .ok, subst (Inside (outset .args .v .width) (outset .args .v .height) (outset .args .at)) (sym (o .1)) (outset .pre .3))
 
 shared-slice-read-wide : tie.Need-shared-slice-read-wide
 shared-slice-read-wide c = omega (arith, c .before .place .ensures .1, c .before .before .before .before .before .before .before .pre .1 .room .long)

@@ -13,10 +13,10 @@ use Rattle.outlook.proofs.friends.any_friendly.Statement.{statement}
 use Rattle.outlook.proofs.friends.any_friendly.Tie as tie
 
 abbrev Inv-loop : tie.InvT-loop
-Inv-loop painted found₀ i₀ found i = (i ≤ 49) × (found ≡ any (friendlyAt painted) i)
+Inv-loop painted found₀ i₀ found i = (i ≤ 56) × (found ≡ any (friendlyAt painted) i)
 
 abbrev μ-loop : tie.MeasureT-loop
-μ-loop painted found₀ i₀ found i = 49 - i
+μ-loop painted found₀ i₀ found i = 56 - i
 
 loop-holds : tie.Need-loop-holds Inv-loop μ-loop
 loop-holds c = (omega arith, sym (any-zero _))

@@ -5,15 +5,14 @@ use mathlib.Core.Path.{ap}
 use native.Mathlib.Omega.{arith}
 use Rattle.position.specs.Board.{ground}
 use Rattle.paint.specs.Paint.{Adds, reaches}
-use Rattle.paint.proofs.Frames.{room-kept}
-use Rattle.paint.proofs.Adding.{adds-none, adds-as, adds-also}
+use Rattle.paint.proofs.Adding.{room-kept, adds-none, adds-as, adds-also}
 use Rattle.paint.proofs.Casting.{reaches-none, reaches-step}
 use borrow.Author.Needs.{needs}
 use Rattle.paint.proofs.cast.around.Statement.{statement}
 use Rattle.paint.proofs.cast.around.Tie as tie
 
 abbrev Inv-loop : tie.InvT-loop
-Inv-loop p v at s buf₀ d₀ buf d = (d ≤ 6) × Adds (v .width) at (reaches (ground p) (s .hex) d) buf₀ buf
+Inv-loop p v at s buf₀ d₀ buf d = (d ≤ 6) × Adds (v .width) (v .height) at (reaches (ground p) (s .hex) d) buf₀ buf
 
 abbrev μ-loop : tie.MeasureT-loop
 μ-loop p v at s buf₀ d₀ buf d = 6 - d

@@ -4,8 +4,7 @@ use mathlib.Core.Path.{_∙_}
 use Rattle.position.specs.Board.{board}
 use Rattle.field.specs.Scene.{scene}
 use Rattle.paint.specs.Paint.{byAny}
-use Rattle.paint.proofs.Frames.{room-kept}
-use Rattle.paint.proofs.Adding.{adds-as, adds-also}
+use Rattle.paint.proofs.Adding.{room-kept, adds-as, adds-also}
 use Rattle.paint.proofs.Units.{held-stamp, shown-any, part-only, stands-parts}
 use Rattle.paint.proofs.stand.stand.Statement.{statement}
 use Rattle.paint.proofs.stand.stand.Tie as tie

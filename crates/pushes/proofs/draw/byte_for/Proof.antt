@@ -3,17 +3,17 @@
 use Prim.Native.Nat.{ℕ, _+_}
 use mathlib.Core.Path.{sym, ap, ap₂, _∙_}
 use native.Mathlib.Omega.{arith}
-use Rattle.position.specs.Board.{board}
-use Rattle.position.proofs.Sides.{area-view, on-view}
-use Rattle.plot.proofs.Places.{hex-on}
-use Rattle.pushes.specs.Drawn.{standNumber}
-use Rattle.pushes.proofs.Drawing.{byte-off, byte-at}
 use borrow.Author.Needs.{needs}
+use Rattle.position.specs.Board.{board}
+use Rattle.position.proofs.Sides.{on-first, area-view}
+use Rattle.grid.proofs.Regions.{place-one}
+use Rattle.pushes.specs.Drawn.{standNumber, byteOf}
+use Rattle.pushes.proofs.Drawing.{hex-here, hex-nowhere, byte-of}
 use Rattle.pushes.proofs.draw.byte_for.Statement.{statement}
 use Rattle.pushes.proofs.draw.byte_for.Tie as tie
 
-hex-for-requires : tie.Need-hex-for-requires
-hex-for-requires c κs = (on-view (c .before .pre .0) (c .before .args .start) (c .before .pre .1), c .before .pre .2)
+hex-of-requires : tie.Need-hex-of-requires
+hex-of-requires c κs = (on-first ((c .before) .pre .0), (c .before) .pre .1, (c .before) .pre .2)
 
 enum-known-x : tie.Need-enum-known-x
 enum-known-x c = search needs
@@ -23,21 +23,21 @@ enum-told c = search needs
 
 returns : tie.Need-returns
 returns c =
-    let a = c .before .before .before .before .args in
-    (sym (byte-off (board (a .p .now)) (a .f) (a .start) (sym (c .before .before .hex-for .ensures) ∙ c .enum-told .given .1)), omega arith)
+    let view = (c .before .before .before .before) .pre .0 .view in (
+      λ x i e. absurd (rw (view .width, view .height) at (hex-nowhere ((c .before .before .hex-of) .ensures) ((c .enum-told) .given .1)) x i e),
+      omega arith,
+    )
 
 open-bits-requires : tie.Need-open-bits-requires
 open-bits-requires c κs = search needs
 
 stand-at-requires : tie.Need-stand-at-requires
 stand-at-requires c κs =
-    let k = c .before .before in
-    let s = k .before .before .before .before in
-    let a = s .args in
-    let o = on-view (s .pre .0) (a .start) (s .pre .1) in
-    let e = sym (k .before .before .hex-for .ensures) ∙ k .x .given .1 in
-    let q = hex-on (a .v .width) (a .v .height) (a .start) (a .i) o (k .x .given .0 .0) e in
-    (s .pre .0, omega (arith, q .below, area-view (s .pre .0 .view)))
+    let outset = c .before .before .before .before .before .before in
+    let view = outset .pre .0 .view in
+    let q = hex-here ((c .before .before .before .before .hex-of) .ensures) ((c .before .before .x) .given .1) in
+    let k = rw (view .width, view .height) at q in
+    (outset .pre .0, omega (arith, q .0 .on .below, area-view view), outset .pre .3 _ (k .0) (k .1))
 
 stand-number-requires : tie.Need-stand-number-requires
 stand-number-requires c κs = search needs
@@ -47,19 +47,24 @@ add-result c = search needs
 
 returns-2 : tie.Need-returns-2
 returns-2 c =
-    let t = c .before .before in
-    let k = t .before .before in
-    let a = k .before .before .before .before .args in
-    let e = sym (k .before .before .hex-for .ensures) ∙ k .x .given .1 in
-    let q = byte-at (board (a .p .now)) (a .f) (a .start) (k .x .given .0 .0) e in
-    let n = c .stand-number .ensures .0 ∙ ap standNumber (c .before .stand-at .ensures) in
-    (ap₂ (λ (m n : ℕ). m + n) (t .open-bits .ensures .0) n ∙ sym q, omega (arith, t .open-bits .ensures .1, c .stand-number .ensures .1))
+    let outset = c .before .before .before .before .before .before .before .before in
+    let a = outset .args in
+    let view = outset .pre .0 .view in
+    let b = board (a .p .now) in
+    let k = rw (view .width, view .height) at (hex-here ((c .before .before .before .before .before .before .hex-of) .ensures) ((c .before .before .before .before .x) .given .1)) in
+    let n = (c .stand-number) .ensures .0 ∙ ap standNumber ((c .before .stand-at) .ensures) in (
+      λ y i e.
+          ap₂ (λ (m n : ℕ). m + n) ((c .before .before .open-bits) .ensures .0) n
+          ∙ sym (byte-of b (a .f) (a .start) ((c .before .before .before .before .x) .given .0 .0))
+          ∙ ap (byteOf b (a .f) (a .start)) (place-one (k .0) i (k .1 ∙ sym e)),
+      omega (arith, (c .before .before .open-bits) .ensures .1, (c .stand-number) .ensures .1),
+    )
 
 pub byte-for-spec : {M : Type 1} → statement M
 byte-for-spec =
     tie.close
     (tie.spec
-    hex-for-requires
+    hex-of-requires
     enum-known-x
     enum-told
     returns

@@ -1,31 +1,52 @@
--- `draw::draw` meets its contract. The loop's invariant: the places passed are drawn. The measure is how many are left.
+-- `draw::draw` meets its contract. The loop's invariant: the places passed are drawn, and the others are shown.
 -- Assumes nothing.
-use Prim.Native.Nat.{_-_, _≤_}
+use Prim.Native.Nat.{ℕ, _-_, _*_, _≤_}
+use mathlib.Core.Path.{sym, ap₂, subst, _∙_}
 use native.Mathlib.Omega.{arith}
 use borrow.Author.Needs.{needs}
 use Rattle.position.specs.Board.{board}
-use Rattle.paint.proofs.Bytes.{Pass, pass-none, pass-set}
-use Rattle.pushes.proofs.Drawing.{drawing, drawn}
+use Rattle.paint.proofs.Bytes.{blank-long, blank-all}
+use Rattle.pushes.specs.Drawn.{ShownIn, DrawnTo}
+use Rattle.pushes.proofs.Drawing.{round-room, drawing-none, shown-in, drawing-more, drawn}
 use Rattle.pushes.proofs.draw.draw.Statement.{statement}
 use Rattle.pushes.proofs.draw.draw.Tie as tie
 
 abbrev Inv-loop : tie.InvT-loop
-Inv-loop p v f start room₀ i₀ room i = (i ≤ 182) × Pass (drawing (board p) f start (v .width) (v .height)) i room₀ room
+Inv-loop p v at f start room₀ i₀ room i = (i ≤ 182) × DrawnTo (board p) f start at i room
 
 abbrev μ-loop : tie.MeasureT-loop
-μ-loop p v f start room₀ i₀ room i = 182 - i
+μ-loop p v at f start room₀ i₀ room i = 182 - i
+
+show-requires : tie.Need-show-requires Inv-loop μ-loop
+show-requires c κs =
+    let outset = c .before .before .before in
+    (outset .pre .0, round-room (outset .pre .1) (blank-long 182 (outset .pre .2)), blank-all 182 (outset .pre .2))
 
 loop-holds : tie.Need-loop-holds Inv-loop μ-loop
-loop-holds c = (omega arith, pass-none)
+loop-holds c = (omega arith, drawing-none ((c .before .room) .given ∙ blank-long 182 ((c .before .before .before .before .before .before) .pre .2)) ((c .before .before .show) .ensures))
+
+slice-read-wide : tie.Need-slice-read-wide Inv-loop μ-loop
+slice-read-wide c = omega (arith, (c .before .before .loop) .inv .1 .long)
+
+wide-requires : tie.Need-wide-requires Inv-loop μ-loop
+wide-requires c κs = search needs
 
 byte-for-requires : tie.Need-byte-for-requires Inv-loop μ-loop
-byte-for-requires c κs = (c .before .before .before .pre .0, c .before .before .before .pre .1, omega arith)
+byte-for-requires c κs =
+    let outset = c .before .before .before .before .before .before .before .before .before .before in
+    let a = outset .args in
+    let r = outset .pre .1 in (
+      outset .pre .0,
+      r .ok,
+      omega (arith, ap₂ (λ (m n : ℕ). m * n) (r .wide) (r .high)),
+      subst (ShownIn (board (a .p .now)) (a .f) (a .at) ((c .before .before .before .loop) .i)) (sym ((c .wide) .ensures .is)) (shown-in ((c .before .before .before .loop) .inv .1)),
+    )
 
 cast-room : tie.Need-cast-room Inv-loop μ-loop
-cast-room c = omega (arith, c .byte-for .ensures .1)
+cast-room c = omega (arith, (c .byte-for) .ensures .1)
 
-element-write-room : tie.Need-element-write-room Inv-loop μ-loop
-element-write-room c = omega arith
+slice-write-room : tie.Need-slice-write-room Inv-loop μ-loop
+slice-write-room c = omega (arith, (c .before .before .before .before .loop) .inv .1 .long)
 
 add-i : tie.Need-add-i Inv-loop μ-loop
 add-i c = search needs
@@ -34,17 +55,15 @@ loop-less : tie.Need-loop-less Inv-loop μ-loop
 loop-less c = search needs
 
 loop-again : tie.Need-loop-again Inv-loop μ-loop
-unfolding drawing
-loop-again c =
-    let k = c .before .before in
-    let s = k .before .before in
-    let m = k .loop .inv .1 in
-    (omega arith, pass-set m (omega (arith, m .long, s .pre .2)) _ (c .byte-for .ensures .0))
+loop-again c = (omega arith, drawing-more ((c .before .before .before .before .loop) .inv .1) _ (omega arith) ((c .byte-for) .ensures .0))
+
+same-length : tie.Need-same-length Inv-loop μ-loop
+same-length c = omega (arith, (c .before .loop) .inv .1 .long, blank-long 182 ((c .before .before .before .before .before .before .before .before) .pre .2))
 
 returns : tie.Need-returns Inv-loop μ-loop
 returns c =
-    let s = c .before .before .before in
-    drawn (s .args .f) (s .args .start) (c .before .loop .i) (s .pre .0 .view) (s .pre .2) (omega arith) (c .before .loop .inv .1)
+    let view = (c .before .before .before .before .before .before .before .before) .pre .0 .view in
+    drawn ((c .before .loop) .inv .1) (omega arith) (rw (view .width, view .height) at ((c .before .before .before .before .before .before .before .before) .pre .1))
 
 pub draw-spec : {M : Type 1} → statement M
 draw-spec =
@@ -52,11 +71,15 @@ draw-spec =
     (tie.spec
     Inv-loop
     μ-loop
+    show-requires
     loop-holds
+    slice-read-wide
+    wide-requires
     byte-for-requires
     cast-room
-    element-write-room
+    slice-write-room
     add-i
     loop-less
     loop-again
+    same-length
     returns)
