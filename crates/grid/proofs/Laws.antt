@@ -1,14 +1,14 @@
 -- What callers want of neighbours and distances.
 -- Assumes nothing.
 use mathlib.Core.Path.{_≡_, refl, _∙_, ap, subst}
-use Prim.Native.Nat.{ℕ, zero, suc, _+_, _-_, _/_, _%_, _≤_, _<_}
+use Prim.Native.Nat.{ℕ, _+_, _/_, _%_, _≤_, _<_}
 use native.Mathlib.Nat.{le-antisymm, zero-add, suc-add}
 use native.Mathlib.Omega.{arith}
-use Rattle.grid.specs.declared.Beside.the-variants.{At, Off}
+use Rattle.grid.specs.declared.Beside.the-variants.{At}
 use Rattle.grid.specs.Map.{On, neighbourOf}
 use Rattle.grid.specs.Walk.{Adjacent, Walk, here, step, Distance, depth, distanceOf}
 use Rattle.grid.proofs.Arith.{column, row, number}
-use Rattle.grid.proofs.Step.{aside, down, Goes, ways, goes-back, one-way, stepped, steps}
+use Rattle.grid.proofs.Step.{ways, goes-back, one-way, stepped, steps}
 pub use Rattle.grid.proofs.Tests.{on-facts, on-test}
 pub use Rattle.grid.proofs.Walks.{distance-is, zero-same, same-zero, symmetric}
 
@@ -39,22 +39,6 @@ module _ (w h a d b : ℕ) (e : neighbourOf w h a d ≡ At b) where
 -- two directions lead to two neighbours
 pub distinct : (w h a d d' b : ℕ) → neighbourOf w h a d ≡ At b → neighbourOf w h a d' ≡ At b → d ≡ d'
 distinct w h a d d' b p q = one-way (stepped w h a d b p .goes) (stepped w h a d' b q .goes)
-
-module _ (w h a : ℕ) (o : On w h a) where
-  -- a direction that leads to a column and a row of the map leads to a hex
-  not-off : (d c r : ℕ) → c < w → r < h → Goes d (a % w) (a / w) c r → neighbourOf w h a d ≡ Off → ⊥
-  not-off d c r p q g e =
-      let s = steps w h a d c r o p q g in
-      let z : _≡_ {A = ℕ} 0 1 = cc in
-      omega arith
-
-  -- so do the directions 0, 1 and 2, but from the top row, the bottom row and the right column
-  pub inner : (d : ℕ) → d < 3 → 0 < a / w → a / w + 1 < h → a % w + 1 < w → neighbourOf w h a d ≡ Off → ⊥
-  unfolding aside down
-  inner zero l t b s = not-off 0 (a % w) (a / w - 1) (omega arith) (omega arith) (omega arith)
-  inner (suc zero) l t b s = not-off 1 (a % w + 1) (a / w - 1 + a % w % 2) (omega arith) (omega arith) (omega arith)
-  inner (suc (suc zero)) l t b s = not-off 2 (a % w + 1) (a / w + a % w % 2) (omega arith) (omega arith) (omega arith)
-  inner (suc (suc (suc d))) l t b s = absurd (omega arith)
 
 -- a walk begins and ends on the map
 pub begins : {w h a b n : ℕ} → Walk w h a b n → On w h a

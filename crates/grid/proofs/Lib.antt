@@ -5,6 +5,7 @@ pub mod Spots
 pub mod Far
 pub mod Walks
 pub mod Laws
+pub mod Rims
 pub mod Close
 pub mod Regions
 pub mod Rulings

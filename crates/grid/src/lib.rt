@@ -1,6 +1,7 @@
 // Hexes of a map, their neighbours and distances.
 pub mod near;
 pub mod region;
+pub mod rim;
 
 ghost use mathlib.Core.Path.{_≡_};
 ghost use Prim.Native.Nat.{_<_, _≤_};

@@ -2,9 +2,10 @@
 ghost use Prim.Native.Nat.{ℕ, _<_};
 ghost use Rattle.position.specs.Board.{ground};
 ghost use Rattle.setting.specs.Setting.{EdgeOk, HexOk, MapOk};
-ghost use Rattle.setting.specs.Rim.{EdgesOk, RowOk, RightOk};
+ghost use Rattle.setting.specs.Rim.{EdgesOk};
 ghost use Rattle.position.specs.Laid.{Laid, Says};
 use grid::Beside;
+use grid::rim;
 use position::View;
 use position::read;
 
@@ -69,50 +70,18 @@ fn edges_ok(p: &[u8], v: View, h: usize) -> bool
     true
 }
 
-fn row_ok(p: &[u8], v: View, row: usize) -> bool
-    requires { ⌜ Laid (now p) v × (row < v .height) ⌝ }
-    ensures { λ r. ⌜ Says r (RowOk (ground (now (p .entry))) (v .width) row) ⌝ }
-{
-    let width = v.width;
-    let first = row * width;
-    for c in 0..width {
-        if !edges_ok(p, v, first + c) {
-            return false;
-        }
-    }
-    true
-}
-
-// The right column: the hex `h` is the last of its row.
-fn column_ok(p: &[u8], v: View) -> bool
-    requires { ⌜ Laid (now p) v ⌝ }
-    ensures { λ r. ⌜ Says r (RightOk (ground (now (p .entry))) (v .width) (v .height)) ⌝ }
-{
-    let width = v.width;
-    let height = v.height;
-    let mut h = width - 1;
-    for row in 0..height {
-        if !edges_ok(p, v, h) {
-            return false;
-        }
-        h += width;
-    }
-    true
-}
-
-// Off-map sides are 0: only the top row, the bottom row and the right column have a side N, NE or SE with no hex beyond it.
+// Off-map sides are 0: only hexes of the rim have a side N, NE or SE with no hex beyond it.
 fn rim_ok(p: &[u8], v: View) -> bool
     requires { ⌜ Laid (now p) v ⌝ }
     ensures { λ r. ⌜ Says r ((h : ℕ) → h < ground (now (p .entry)) .hexes → EdgesOk (ground (now (p .entry))) h) ⌝ }
 {
-    if !row_ok(p, v, 0) {
-        return false;
-    }
-    if !row_ok(p, v, v.height - 1) {
-        return false;
-    }
-    if !column_ok(p, v) {
-        return false;
+    let hexes = v.hexes;
+    let mut h = 0;
+    while h < hexes {
+        if !edges_ok(p, v, h) {
+            return false;
+        }
+        h = rim::after(v.width, v.height, h);
     }
     true
 }

@@ -1,59 +1,57 @@
--- `map_ok::rim_ok` meets its contract: each line of the rim is a part of the map, and the three are enough.
+-- `map_ok::rim_ok` meets its contract. The loop's invariant: every hex before h has its sides as they should be, and h is the rim's next.
 -- Assumes nothing.
 use Prim.Native.Nat.{_-_}
 use native.Mathlib.Omega.{arith}
 use borrow.Author.Needs.{needs}
-use Rattle.position.proofs.Answers.{said, unsaid}
-use Rattle.setting.proofs.Rims.{row-part, right-part, around}
+use Rattle.position.proofs.Answers.{said, unsaid, all, not-all}
+use Rattle.setting.proofs.Rims.{Round, round-begins, round-goes-on}
 use Rattle.setting.proofs.map_ok.rim_ok.Statement.{statement}
 use Rattle.setting.proofs.map_ok.rim_ok.Tie as tie
 
-row-ok-requires : tie.Need-row-ok-requires
-row-ok-requires c κs = search needs
+abbrev Inv-loop : tie.InvT-loop
+Inv-loop p v hexes h₀ h = Round p v h
 
-returns : tie.Need-returns
+abbrev μ-loop : tie.MeasureT-loop
+μ-loop p v hexes h₀ h = hexes - h
+
+loop-holds : tie.Need-loop-holds Inv-loop μ-loop
+loop-holds c = round-begins (c .before .pre)
+
+edges-ok-requires : tie.Need-edges-ok-requires Inv-loop μ-loop
+edges-ok-requires c κs = search needs
+
+returns : tie.Need-returns Inv-loop μ-loop
 returns c =
-    let s = c .before .before .before in
-    λ t. unsaid (c .before .row-ok .result) (c .if1 .taken) (c .before .row-ok .ensures) (row-part (s .pre) t 0 (omega arith))
+    let l = c .before .before .before in
+    not-all (l .loop .inv .passed) (omega arith) (unsaid (c .before .edges-ok .result) (c .if1 .taken) (c .before .edges-ok .ensures))
 
-sub-row-ok : tie.Need-sub-row-ok
-sub-row-ok c = search needs
+after-requires : tie.Need-after-requires Inv-loop μ-loop
+after-requires c κs = let l = c .before .before .before in l .loop .inv .rim (omega arith)
 
-row-ok-requires-2 : tie.Need-row-ok-requires-2
-row-ok-requires-2 c κs = search needs
+loop-less : tie.Need-loop-less Inv-loop μ-loop
+loop-less c = omega (arith, c .after .ensures .later)
 
-returns-2 : tie.Need-returns-2
-returns-2 c =
-    let s = c .before .before .before .before .before .before in
-    λ t. unsaid (c .before .row-ok2 .result) (c .if2 .taken) (c .before .row-ok2 .ensures)
-    (row-part (s .pre) t (s .args .v .height - 1) (omega arith))
+loop-again : tie.Need-loop-again Inv-loop μ-loop
+loop-again c =
+    let q = c .before in
+    let l = q .before .before .before in
+    round-goes-on (l .before .before .pre) (l .loop .inv)
+    (said (q .before .edges-ok .result) (q .if1 .left) (q .before .edges-ok .ensures))
+    (c .after .ensures)
 
-column-ok-requires : tie.Need-column-ok-requires
-column-ok-requires c κs = search needs
-
-returns-3 : tie.Need-returns-3
-returns-3 c =
-    let s = c .before .before .before .before .before .before .before .before in
-    λ t. unsaid (c .before .column-ok .result) (c .if3 .taken) (c .before .column-ok .ensures) (right-part (s .pre) t)
-
-returns-4 : tie.Need-returns-4
-returns-4 c =
-    let q2 = c .before .before in
-    let q1 = q2 .before .before .before in
-    around (q1 .before .before .before .pre)
-    (said (q1 .before .row-ok .result) (q1 .if1 .left) (q1 .before .row-ok .ensures))
-    (said (q2 .before .row-ok2 .result) (q2 .if2 .left) (q2 .before .row-ok2 .ensures))
-    (said (c .before .column-ok .result) (c .if3 .left) (c .before .column-ok .ensures))
+returns-2 : tie.Need-returns-2 Inv-loop μ-loop
+returns-2 c = all (c .before .loop .inv .passed) (omega arith)
 
 pub rim-ok-spec : {M : Type 1} → statement M
 rim-ok-spec =
     tie.close
     (tie.spec
-    row-ok-requires
+    Inv-loop
+    μ-loop
+    loop-holds
+    edges-ok-requires
     returns
-    sub-row-ok
-    row-ok-requires-2
-    returns-2
-    column-ok-requires
-    returns-3
-    returns-4)
+    after-requires
+    loop-less
+    loop-again
+    returns-2)
