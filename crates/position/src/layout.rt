@@ -193,6 +193,15 @@ pub fn hex_byte(p: &[u8], v: View, h: usize, f: usize) -> usize
     )
 }
 
+// The same of a hex that is known to be on the map.
+pub fn map_byte(p: &[u8], v: View, h: usize, f: usize) -> usize
+    requires { ⌜ Laid (now p) v × (f < hexSize) × (h < v .hexes) ⌝ }
+    ensures { λ r. ⌜ Read (hexByte (now (p .entry)) h f) 256 r ⌝ }
+{
+    let hexes = RESULTS + RESULTS_HEAD + COLUMN_SIZE * v.columns + MAP_HEAD;
+    wide(p[hexes + HEX_SIZE * h + f])
+}
+
 pub fn unit_byte(p: &[u8], v: View, u: usize, f: usize) -> usize
     requires { ⌜ Laid (now p) v × (f < unitSize) ⌝ }
     ensures { λ r. ⌜ Read (unitByte (now (p .entry)) u f) 256 r ⌝ }

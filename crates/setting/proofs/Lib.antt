@@ -1,1 +1,2 @@
 pub mod Rims
+pub mod Hexes

@@ -1,5 +1,5 @@
 // Whether the map keeps its lines of document 01.
-ghost use Prim.Native.Nat.{ℕ, _<_};
+ghost use Prim.Native.Nat.{ℕ, _+_, _≤_, _<_};
 ghost use Rattle.position.specs.Board.{ground};
 ghost use Rattle.setting.specs.Setting.{EdgeOk, HexOk, MapOk};
 ghost use Rattle.setting.specs.Rim.{EdgesOk};
@@ -7,26 +7,43 @@ ghost use Rattle.position.specs.Laid.{Laid, Says};
 use grid::Beside;
 use grid::rim;
 use position::View;
-use position::read;
+use position::layout;
 
+// Each number of a hex is measured, whatever the one before it says: without a branch between them the compiler measures many at once.
 fn hex_ok(p: &[u8], v: View, h: usize) -> bool
-    requires { ⌜ Laid (now p) v ⌝ }
+    requires { ⌜ Laid (now p) v × (h < v .hexes) ⌝ }
     ensures { λ r. ⌜ Says r (HexOk (ground (now (p .entry))) h) ⌝ }
 {
-    if 15 < read::terrain(p, v, h) {
-        return false;
+    let terrain = layout::map_byte(p, v, h, layout::TERRAIN) <= 15;
+    let surface = layout::map_byte(p, v, h, layout::SURFACE) <= 3;
+    let flags = layout::map_byte(p, v, h, layout::FLAGS) <= 7;
+    let country = layout::map_byte(p, v, h, layout::COUNTRY) <= 2;
+    let sides = layout::map_byte(p, v, h, layout::SIDES) <= 63;
+    terrain & surface & flags & country & sides
+}
+
+// The sixteen hexes from hex `first` on, all of them whatever the first one says, for the same reason.
+fn sixteen_ok(p: &[u8], v: View, first: usize) -> bool
+    requires { ⌜ Laid (now p) v × (first + 16 ≤ v .hexes) ⌝ }
+    ensures { λ r. ⌜ Says r ((k : ℕ) → k < 16 → HexOk (ground (now (p .entry))) (first + k)) ⌝ }
+{
+    let mut fit = true;
+    for k in 0..16 {
+        fit &= hex_ok(p, v, first + k);
     }
-    if 3 < read::surface(p, v, h) {
-        return false;
-    }
-    if 7 < read::flags(p, v, h) {
-        return false;
-    }
-    if 2 < read::country(p, v, h) {
-        return false;
-    }
-    if 63 < read::sides(p, v, h) {
-        return false;
+    fit
+}
+
+// The hexes from hex `first` on, one by one: all before it are as they should be.
+fn rest_ok(p: &[u8], v: View, first: usize) -> bool
+    requires { ⌜ Laid (now p) v × (first ≤ v .hexes) × ((h : ℕ) → h < first → HexOk (ground (now p)) h) ⌝ }
+    ensures { λ r. ⌜ Says r ((h : ℕ) → h < ground (now (p .entry)) .hexes → HexOk (ground (now (p .entry))) h) ⌝ }
+{
+    let hexes = v.hexes;
+    for h in first..hexes {
+        if !hex_ok(p, v, h) {
+            return false;
+        }
     }
     true
 }
@@ -36,12 +53,14 @@ fn hexes_ok(p: &[u8], v: View) -> bool
     ensures { λ r. ⌜ Says r ((h : ℕ) → h < ground (now (p .entry)) .hexes → HexOk (ground (now (p .entry))) h) ⌝ }
 {
     let hexes = v.hexes;
-    for h in 0..hexes {
-        if !hex_ok(p, v, h) {
+    let mut h = 0;
+    while h + 16 <= hexes {
+        if !sixteen_ok(p, v, h) {
             return false;
         }
+        h += 16;
     }
-    true
+    rest_ok(p, v, h)
 }
 
 // A stored side that no hex lies beyond is 0.
