@@ -1,6 +1,6 @@
 -- Laws of the way round the rim: where it begins, and what it passes over has no stored side at the map's edge.
 -- Assumes nothing.
-use Prim.Native.Nat.{ℕ, _*_, _<_}
+use Prim.Native.Nat.{ℕ, zero, suc, _*_, _<_}
 use mathlib.Core.Path.{_≡_, sym, subst, ap₂, _∙_}
 use mathlib.Core.List.{List}
 use native.Mathlib.Omega.{arith}
@@ -10,12 +10,22 @@ use Rattle.grid.specs.Rim.{RimHex, RimNext}
 use Rattle.grid.proofs.Rims.{rim-first}
 use Rattle.position.specs.declared.View.{View}
 use Rattle.position.specs.Layout.{hexes}
-use Rattle.position.specs.Board.{ground}
+use Rattle.position.specs.Board.{Map, ground}
+use Rattle.position.specs.Ground.{stored}
 use Rattle.position.specs.Laid.{Laid}
 use Rattle.position.proofs.Answers.{Passed, none-yet}
 use Rattle.position.proofs.Shapes.{sizes}
 use Rattle.position.proofs.Sides.{beside-view}
 use Rattle.setting.specs.Rim.{EdgesOk}
+
+-- a hex with nothing at any of its sides has nothing at the map's edge
+pub all-plain : (m : Map) (h : ℕ) → m .sides h ≡ 0 → EdgesOk m h
+all-plain m h e d l = record { plain = λ o. none d }
+  where
+    none : (d : ℕ) → stored m h d ≡ 0
+    none zero = unfold stored in omega arith
+    none (suc zero) = unfold stored in omega arith
+    none (suc (suc d)) = unfold stored in omega arith
 
 -- every hex before h has passed, and h is a hex of the rim if it is one at all
 pub record Round (p : List ℕ) (v : View) (h : ℕ) : Type 0 where

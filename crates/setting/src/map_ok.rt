@@ -8,6 +8,7 @@ use grid::Beside;
 use grid::rim;
 use position::View;
 use position::layout;
+use position::read;
 
 // Each number of a hex is measured, whatever the one before it says: without a branch between them the compiler measures many at once.
 fn hex_ok(p: &[u8], v: View, h: usize) -> bool
@@ -77,10 +78,14 @@ fn edge_ok(p: &[u8], v: View, h: usize, d: usize) -> bool
     true
 }
 
+// The three sides of a hex. Most hexes have nothing at any side, and so there is nothing to look for beyond.
 fn edges_ok(p: &[u8], v: View, h: usize) -> bool
     requires { ⌜ Laid (now p) v ⌝ }
     ensures { λ r. ⌜ Says r (EdgesOk (ground (now (p .entry))) h) ⌝ }
 {
+    if read::sides(p, v, h) == 0 {
+        return true;
+    }
     for d in 0..3 {
         if !edge_ok(p, v, h, d) {
             return false;
