@@ -55,30 +55,28 @@ fn all_of(p: &[u8], v: View, r: usize, f: usize) -> bool
     true
 }
 
-// Whether the units of role `r` are of one force: that of the first of them.
-fn one_force(p: &[u8], v: View, r: usize) -> bool
-    requires { ⌜ Laid (now p) v ⌝ }
+// Whether the units of role `r` are of one force: that of the first of them, `u`.
+fn one_force(p: &[u8], v: View, r: usize, u: usize) -> bool
+    requires { ⌜ Laid (now p) v × HolderOf (board (now p)) r u ⌝ }
     ensures { λ x. ⌜ Says x (OneForce (board (now (p .entry))) r) ⌝ }
 {
     let count = v.count;
-    let u = holder(p, v, r);
     if count <= u {
         return true;
     }
     all_of(p, v, r, forces::force_of(p, v, u))
 }
 
-// Whether the force of role 1 is another than that of role 2.
-fn apart(p: &[u8], v: View) -> bool
+// Whether the force of role 1 is another than that of role 2: `u` and `w` are the first that have them.
+fn apart(p: &[u8], v: View, u: usize, w: usize) -> bool
     requires { ⌜ Laid (now p) v × OneForce (board (now p)) 1 × OneForce (board (now p)) 2 ⌝ }
+    requires { ⌜ HolderOf (board (now p)) 1 u × HolderOf (board (now p)) 2 w ⌝ }
     ensures { λ x. ⌜ Says x (RolesApart (board (now (p .entry)))) ⌝ }
 {
     let count = v.count;
-    let u = holder(p, v, role::OWES);
     if count <= u {
         return true;
     }
-    let w = holder(p, v, role::ADVANCES);
     if count <= w {
         return true;
     }
@@ -92,13 +90,15 @@ pub fn roles_ok(p: &[u8], v: View) -> bool
     requires { ⌜ Laid (now p) v ⌝ }
     ensures { λ x. ⌜ Says x (RolesOk (board (now (p .entry)))) ⌝ }
 {
-    if !one_force(p, v, role::OWES) {
+    let u = holder(p, v, role::OWES);
+    let w = holder(p, v, role::ADVANCES);
+    if !one_force(p, v, role::OWES, u) {
         return false;
     }
-    if !one_force(p, v, role::ADVANCES) {
+    if !one_force(p, v, role::ADVANCES, w) {
         return false;
     }
-    if !apart(p, v) {
+    if !apart(p, v, u, w) {
         return false;
     }
     true

@@ -7,11 +7,8 @@ use Rattle.acceptance.proofs.Roles.{nobody, all-one, one-all}
 use Rattle.roles.proofs.one_force.Statement.{statement}
 use Rattle.roles.proofs.one_force.Tie as tie
 
-holder-requires : tie.Need-holder-requires
-holder-requires c κs = search needs
-
 returns : tie.Need-returns
-returns c = λ u l w m d e. nobody (c .before .holder .ensures) (omega arith) u l d
+returns c = λ u l w m d e. nobody (c .before .before .pre .1) (omega arith) u l d
 
 force-of-requires : tie.Need-force-of-requires
 force-of-requires c κs = search needs
@@ -21,9 +18,8 @@ all-of-requires c κs = search needs
 
 returns-2 : tie.Need-returns-2
 returns-2 c =
-    let h = c .before .before .before .holder .ensures in
+    let h = c .before .before .before .before .pre .1 in
     told (c .all-of .result) (all-one h) (one-all h (c .before .force-of .ensures) (omega arith)) (c .all-of .ensures)
 
 pub one-force-spec : {M : Type 1} → statement M
-one-force-spec =
-    tie.close (tie.spec holder-requires returns force-of-requires all-of-requires returns-2)
+one-force-spec = tie.close (tie.spec returns force-of-requires all-of-requires returns-2)

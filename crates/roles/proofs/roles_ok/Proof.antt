@@ -5,6 +5,12 @@ use Rattle.position.proofs.Answers.{said, unsaid}
 use Rattle.roles.proofs.roles_ok.Statement.{statement}
 use Rattle.roles.proofs.roles_ok.Tie as tie
 
+holder-requires : tie.Need-holder-requires
+holder-requires c κs = search needs
+
+holder-requires-2 : tie.Need-holder-requires-2
+holder-requires-2 c κs = search needs
+
 one-force-requires : tie.Need-one-force-requires
 one-force-requires c κs = search needs
 
@@ -19,10 +25,14 @@ returns-2 c = λ t. unsaid (c .before .one-force2 .result) (c .if2 .taken) (c .b
 
 apart-requires : tie.Need-apart-requires
 apart-requires c κs =
-    let q = c .before .before in (
-      c .before .before .before .before .before .pre,
-      said (q .before .one-force .result) (q .if1 .left) (q .before .one-force .ensures),
-      said (c .before .one-force2 .result) (c .if2 .left) (c .before .one-force2 .ensures),
+    let q = c .before .before in
+    let h = q .before .before in (
+      (
+        h .before .before .before .pre,
+        said (q .before .one-force .result) (q .if1 .left) (q .before .one-force .ensures),
+        said (c .before .one-force2 .result) (c .if2 .left) (c .before .one-force2 .ensures),
+      ),
+      (h .before .holder .ensures, h .holder2 .ensures),
     )
 
 returns-3 : tie.Need-returns-3
@@ -42,6 +52,8 @@ pub roles-ok-spec : {M : Type 1} → statement M
 roles-ok-spec =
     tie.close
     (tie.spec
+    holder-requires
+    holder-requires-2
     one-force-requires
     returns
     one-force-requires-2
