@@ -2,7 +2,7 @@
 -- Assumes nothing.
 use Prim.Native.Nat.{ℕ, _+_, _≤_, _<_}
 use mathlib.Core.Path.{_≡_, sym, subst}
-use mathlib.Core.Bool.{true, false}
+use mathlib.Core.Bool.{Bool, true, false}
 use mathlib.Core.List.{List}
 use lib.ListN.{length, getD}
 use borrow.Author.Tests.{lt-ltb, le-ltb}
@@ -61,9 +61,9 @@ module _ (p : List ℕ) (b : Board) (u : ℕ) (l : Leg) (x k : ℕ) where
 
 -- past a step, to where it leads and what it comes to
 pub gone-step :
-    (b : Board) (u : ℕ) {p path : List ℕ} {i at spent total : ℕ} {first : Leg}
+    (b : Board) (u : ℕ) {p path : List ℕ} {i at spent total : ℕ} {there zone : Bool} {first : Leg}
     → Gone p (step b u) (afterStep b) first path i (leg at spent) → i < length path
-    → Onward p (step b u (leg at spent) (getD path i 0) (i + 1)) (afterStep b (leg at spent) (getD path i 0) .spent) total
+    → Onward p (step b u (leg at spent) (getD path i 0) (i + 1)) (afterStep b (leg at spent) (getD path i 0) .spent) there total zone
     → Gone p (step b u) (afterStep b) first path (i + 1) (leg (getD path i 0) total)
 unfolding afterStep
 gone-step b u {p} {path} {i} {first = first} o l w =

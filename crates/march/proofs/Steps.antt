@@ -1,18 +1,22 @@
 -- Laws of one step: what it costs, the working allowance, and the step's tests by cases.
 -- Assumes nothing.
 use Prim.Native.Nat.{ℕ, _≤_, _<_}
-use mathlib.Core.Path.{_≡_, ap₂, _∙_}
+use mathlib.Core.Path.{_≡_, sym, ap₂, _∙_}
 use mathlib.Core.Bool.{Bool, true, false, not}
 use native.Mathlib.Omega.{arith}
-use borrow.Author.Tests.{lt-ltb, le-ltb, eq-eqb, ne-eqb}
+use borrow.Author.Tests.{lt-ltb, le-ltb, eq-eqb, ne-eqb, not-true}
+use Rattle.grid.specs.declared.Beside.the-variants.{At}
+use Rattle.position.specs.Tally.{any}
 use Rattle.position.specs.Bits.{has, supplied}
 use Rattle.position.specs.Layout.{river, majorRiver}
 use Rattle.position.specs.Board.{Board, forceOf}
-use Rattle.position.specs.Ground.{riverSide, majorRiverSide, joined, standable}
+use Rattle.position.specs.Ground.{riverSide, majorRiverSide, next, bearing, joined, standable}
 use Rattle.position.specs.Laid.{Read}
-use Rattle.position.proofs.Tallies.{not-both, either}
-use Rattle.field.specs.Scene.{scene}
-use Rattle.field.specs.Zone.{enemyZone}
+use Rattle.position.proofs.Tallies.{any-false, any-never}
+use Rattle.position.proofs.Sides.{reaches, is-at}
+use Rattle.position.proofs.Bearings.{bearing-joined, bearing-reaches}
+use Rattle.field.specs.Scene.{Scene, scene}
+use Rattle.field.specs.Zone.{standsOn, vacant, neutralOn, holdsNeutral, enemyZone}
 use Rattle.field.specs.Working.{working}
 use Rattle.field.proofs.Workings.{working-most}
 use Rattle.march.specs.Step.{sideCost}
@@ -51,15 +55,26 @@ module _ (b : Board) (u : ℕ) (l : Leg) (k : ℕ) where
   unfolding leavesZone
   leaves-later m = simp (lt-ltb 1 k m)
 
--- a step between joined hexes, and between others
+-- a step in the direction of the hex, and where there is none
 module _ (b : Board) (h x : ℕ) where
-  pub no-step-joined : joined (b .map) h x ≡ true → noStep b h x ≡ not (standable b x)
-  unfolding noStep
-  no-step-joined e = simp e
+  turned : bearing (b .map) h x < 6 → joined (b .map) h x ≡ true
+  turned l = sym (bearing-joined (b .map) h x) ∙ lt-ltb (bearing (b .map) h x) 6 l
 
-  pub no-step-apart : joined (b .map) h x ≡ false → noStep b h x ≡ true
-  unfolding noStep
-  no-step-apart e = simp e
+  pub turned-next : bearing (b .map) h x < 6 → next (b .map) h (bearing (b .map) h x) ≡ At x
+  unfolding reaches
+  turned-next l = is-at (next (b .map) h (bearing (b .map) h x)) x (bearing-reaches (b .map) h x (turned l))
 
-  pub step-joined : noStep b h x ≡ false → joined (b .map) h x ≡ true
-  step-joined e = either (joined (b .map) h x) (λ f. f) (λ f. not-both (noStep b h x) (no-step-apart f) e)
+  pub no-step-there : bearing (b .map) h x < 6 → noStep b h x ≡ not (standable b x)
+  unfolding noStep
+  no-step-there l = simp (turned l)
+
+  pub no-step-apart : 6 ≤ bearing (b .map) h x → noStep b h x ≡ true
+  unfolding noStep
+  no-step-apart l = simp (sym (bearing-joined (b .map) h x) ∙ le-ltb (bearing (b .map) h x) 6 l)
+
+-- nobody is neutral where nobody stands
+pub no-neutral : (s : Scene) (f h : ℕ) → vacant s h ≡ true → holdsNeutral s f h ≡ false
+unfolding vacant holdsNeutral neutralOn
+no-neutral s f h e =
+    any-never (neutralOn s f h) (s .count)
+    (λ u l. simp (any-false (standsOn s h) (s .count) u (not-true (any (standsOn s h) (s .count)) e) l))

@@ -6,9 +6,9 @@ pub enum Moved {
     Refused(usize, usize),
 }
 
-// What tests along the way answer: on, with what the move has spent, or a refusal.
+// What the tests of a step answer: on, with what the move has spent and whether it is now in an Enemy zone, or a refusal.
 pub enum Way {
-    On(usize),
+    On(usize, bool),
     Stop(usize, usize),
 }
 

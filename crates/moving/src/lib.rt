@@ -61,18 +61,22 @@ fn forbidden(p: &[u8], v: View, u: usize) -> bool
     bits::has(bits::MOVED, read::marks(p, v, u))
 }
 
-// The questions of every step, along the path.
+// The questions of every step, along the path. A zone at the start is free, so the first step leaves none.
 fn steps(p: &[u8], v: View, u: usize, path: &[u16]) -> Path
     requires { ⌜ Laid (now p) v × (length (now path) < 31) ⌝ }
     ensures { λ r. ⌜ PathOf (now (p .entry)) (steps (board (now (p .entry))) u (now (path .entry))) r ⌝ }
 {
     let mut at = read::hex(p, v, u);
     let mut spent = 0;
+    let mut leaves = false;
     for i in 0..path.len() {
         let x = path[i] as usize;
-        match stepping::one_step(p, v, u, at, spent, x, i + 1) {
+        match stepping::one_step(p, v, u, at, spent, leaves, x, i + 1) {
             Way::Stop(n, k) => return Path::Stop(n, k),
-            Way::On(total) => spent = total,
+            Way::On(total, zone) => {
+                spent = total;
+                leaves = zone;
+            }
         }
         at = x;
     }

@@ -1,12 +1,14 @@
 // One step of a move: what it costs, and its questions in their order.
 ghost use mathlib.Core.Path.{_≡_};
-ghost use mathlib.Core.Bool.{true};
 ghost use Prim.Native.Nat.{_+_, _<_};
-ghost use Rattle.position.specs.Board.{board, ground};
-ghost use Rattle.position.specs.Ground.{joined};
+ghost use Rattle.position.specs.Board.{board, ground, forceOf};
+ghost use Rattle.position.specs.Ground.{bearing};
 ghost use Rattle.position.specs.Laid.{Laid, Read};
+ghost use Rattle.field.specs.Scene.{scene};
+ghost use Rattle.field.specs.Zone.{holdsNeutral, enemyZone};
+ghost use Rattle.paint.specs.Paint.{Marked};
 ghost use Rattle.march.specs.Step.{sideCost, stepCost};
-ghost use Rattle.march.specs.Move.{allowed, leavesZone, noStep, step, afterStep, leg};
+ghost use Rattle.march.specs.Move.{allowed, leavesZone, step, afterStep, leg};
 ghost use Rattle.march.specs.Judged.{WayOf};
 use field::unit;
 use field::zone;
@@ -38,60 +40,63 @@ fn side_cost(p: &[u8], v: View, s: usize) -> usize
     0
 }
 
-// What a step from hex `h` to hex `x` costs, where one may be made.
-fn step_cost(p: &[u8], v: View, h: usize, x: usize) -> usize
-    requires { ⌜ Laid (now p) v × (joined (ground (now p)) h x ≡ true) ⌝ }
+// What a step from hex `h` to hex `x` costs, which lies in direction `d`.
+fn step_cost(p: &[u8], v: View, h: usize, x: usize, d: usize) -> usize
+    requires { ⌜ Laid (now p) v × (d < 6) × (d ≡ bearing (ground (now p)) h x) ⌝ }
     ensures { λ r. ⌜ Read (stepCost (board (now (p .entry))) h x) 512 r ⌝ }
 {
-    let d = ground::bearing(p, v, h, x);
     let terrain = read::terrain(p, v, x);
-    read::cost(p, v, terrain) + side_cost(p, v, ground::side(p, v, h, d))
+    read::cost(p, v, terrain) + side_cost(p, v, ground::between(p, v, h, x, d))
 }
 
-// Whether the step at place `k` leaves an Enemy zone that the move has entered.
-fn leaves_zone(p: &[u8], v: View, u: usize, at: usize, k: usize) -> bool
-    requires { ⌜ Laid (now p) v ⌝ }
-    ensures { λ r. ⌜ r ≡ leavesZone (board (now (p .entry))) u (leg at 0) k ⌝ }
+// Whether hex `x`, which has the marks `m`, holds a force that is neutral to force `f`. Where nobody stands, no unit has to be asked.
+fn neutral_there(p: &[u8], v: View, f: usize, x: usize, m: usize) -> bool
+    requires { ⌜ Laid (now p) v × Marked (scene (board (now p))) f x m ⌝ }
+    ensures { λ r. ⌜ r ≡ holdsNeutral (scene (board (now (p .entry)))) f x ⌝ }
 {
-    if k <= 1 {
-        return false;
+    if bits::has(paint::HELD, m) {
+        return zone::holds_neutral(p, v, f, x);
     }
-    paint::zone_at(p, v, forces::force_of(p, v, u), at)
+    false
 }
 
-// Whether no step may be made from hex `h` to hex `x`.
-fn no_step(p: &[u8], v: View, h: usize, x: usize) -> bool
-    requires { ⌜ Laid (now p) v ⌝ }
-    ensures { λ r. ⌜ r ≡ noStep (board (now (p .entry))) h x ⌝ }
-{
-    if ground::joined(p, v, h, x) {
-        return !ground::standable(p, v, x);
-    }
-    true
-}
-
-// The questions of the step to hex `x`, at place `k`: 9, 7, 8, 18, 10.
-pub fn one_step(p: &[u8], v: View, u: usize, at: usize, spent: usize, x: usize, k: usize) -> Way
-    requires { ⌜ Laid (now p) v × (spent < 256) ⌝ }
+// The questions of the step to hex `x`, at place `k`: 9, 7, 8, 18, 10. Whether it leaves an Enemy zone that the move has entered, the
+// step before has told: one look at the hex entered shows its Enemies and its zone.
+pub fn one_step(
+    p: &[u8],
+    v: View,
+    u: usize,
+    at: usize,
+    spent: usize,
+    leaves: bool,
+    x: usize,
+    k: usize,
+) -> Way
+    requires { ⌜ Laid (now p) v × (spent < 256) × (leaves ≡ leavesZone (board (now p)) u (leg at spent) k) ⌝ }
     ensures { λ r.
-        ⌜ WayOf (now (p .entry)) (step (board (now (p .entry))) u (leg at spent) x k) (afterStep (board (now (p .entry))) (leg at spent) x .spent) r ⌝ }
+        ⌜ WayOf (now (p .entry)) (step (board (now (p .entry))) u (leg at spent) x k) (afterStep (board (now (p .entry))) (leg at spent) x .spent) (enemyZone (scene (board (now (p .entry)))) (forceOf (board (now (p .entry))) u) x) r ⌝ }
 {
-    if leaves_zone(p, v, u, at, k) {
+    if leaves {
         return Way::Stop(9, k);
     }
-    if no_step(p, v, at, x) {
+    let d = ground::bearing(p, v, at, x);
+    if 6 <= d {
+        return Way::Stop(7, k);
+    }
+    if !ground::standable(p, v, x) {
         return Way::Stop(7, k);
     }
     let f = forces::force_of(p, v, u);
-    if zone::holds_enemy(p, v, f, x) {
+    let marks = paint::look(p, v, f, x);
+    if bits::has(paint::ENEMY, marks) {
         return Way::Stop(8, k);
     }
-    if zone::holds_neutral(p, v, f, x) {
+    if neutral_there(p, v, f, x, marks) {
         return Way::Stop(18, k);
     }
-    let total = spent + step_cost(p, v, at, x);
+    let total = spent + step_cost(p, v, at, x, d);
     if allowed(p, v, u) < total {
         return Way::Stop(10, k);
     }
-    Way::On(total)
+    Way::On(total, bits::has(paint::ZONE, marks))
 }
