@@ -1,10 +1,11 @@
-//! The cases that are measured: each call on each ground.
+//! The cases that are measured: each call on each ground, retreats among friends, and each call with two players.
 
 use crate::scenes::{Ground, Scene, TINY};
 use crate::stagings::{self, Staged};
 use host::contents::written;
-use host::order::Order;
+use host::order::{Answer, Order};
 use host::position::{COMBAT, LAND_MOVEMENT, MECHANISED};
+use host::referee::rule;
 
 pub struct Case {
     pub call: &'static str,
@@ -34,6 +35,16 @@ const CALLS: [Call; 10] = [
     ("close", stagings::close),
 ];
 
+/// Retreats of a group with friends all round it.
+const AMONG_FRIENDS: [Call; 3] = [
+    ("retreat, one push", stagings::one_push),
+    ("retreat, the push is not sent", stagings::none_sent),
+    ("retreat, trapped", stagings::trapped),
+];
+
+/// The invaders have one player, the US and Canada the other.
+const TWO_PLAYERS: [u8; 4] = [0, 0, 0, 3];
+
 fn case((call, staging): &Call, scene: &Scene) -> Case {
     let (position, order) = staging(scene);
     Case {
@@ -59,7 +70,35 @@ pub fn tiny() -> Vec<Case> {
     CALLS.iter().map(|call| case(call, &scene)).collect()
 }
 
+/// The retreats among friends, on the largest open map.
+pub fn among_friends() -> Vec<Case> {
+    let (side, count) = SIZES[2];
+    let scene = Ground::Open.scene(side, count);
+    AMONG_FRIENDS.iter().map(|call| case(call, &scene)).collect()
+}
+
+/// Every call on the largest front, where the desk names two players.
+pub fn two_players() -> Vec<Case> {
+    let (side, count) = SIZES[2];
+    let mut scene = Ground::Front.scene(side, count);
+    scene.land.desk.players = Some(TWO_PLAYERS);
+    CALLS.iter().map(|call| case(call, &scene)).collect()
+}
+
 impl Case {
+    /// What the second referee answers.
+    pub fn answer(&self) -> Answer {
+        rule(&mut self.position.clone(), &self.order, &mut self.lent())
+    }
+
+    /// The number of its refusal, 0 where it accepts.
+    pub fn refusal(&self) -> u64 {
+        match self.answer() {
+            Answer::Refused(refusal) => refusal.number.into(),
+            _ => 0,
+        }
+    }
+
     /// The buffer or scratch that the call borrows.
     pub fn lent(&self) -> Vec<u8> {
         vec![0xa5; if self.order.call().borrows() { self.hexes } else { 0 }]
@@ -69,14 +108,8 @@ impl Case {
 #[cfg(test)]
 mod tests {
     use super::*;
-    use host::order::Answer;
     use host::position::NONE;
-    use host::referee::rule;
-    use host::refusal::{Refusal, NO_WAY};
-
-    fn answer(case: &Case) -> Answer {
-        rule(&mut case.position.clone(), &case.order, &mut case.lent())
-    }
+    use host::refusal::{Refusal, NO_WAY, PUSHES_NOT_LEGAL};
 
     fn all() -> Vec<Case> {
         SIZES.into_iter().flat_map(|(side, count)| cases(side, count)).chain(tiny()).collect()
@@ -84,8 +117,8 @@ mod tests {
 
     #[test]
     fn every_case_is_accepted() {
-        for case in all() {
-            assert!(!matches!(answer(&case), Answer::Refused(_)), "{}, {}", case.call, case.ground);
+        for case in all().into_iter().chain(two_players()) {
+            assert!(!matches!(case.answer(), Answer::Refused(_)), "{}, {}", case.call, case.ground);
         }
     }
 
@@ -94,6 +127,7 @@ mod tests {
         for (side, count) in SIZES {
             assert!(cases(side, count).iter().all(|case| case.units == count));
         }
+        assert!(among_friends().into_iter().chain(two_players()).all(|case| case.units == SIZES[2].1));
     }
 
     #[test]
@@ -108,7 +142,16 @@ mod tests {
     #[test]
     fn no_retreat_finds_a_route() {
         let retreats = all().into_iter().filter(|case| matches!(case.order, Order::Retreat { .. }));
-        assert!(retreats.map(|case| answer(&case)).all(|answer| answer == Answer::Destroyed));
+        assert!(retreats.map(|case| case.answer()).all(|answer| answer == Answer::Destroyed));
+    }
+
+    #[test]
+    fn retreats_among_friends_are_ruled_on_as_named() {
+        let [one, unsent, trapped] = among_friends().try_into().map_err(|_| "three retreats").unwrap();
+        assert!(matches!(one.answer(), Answer::Retreated { .. }));
+        assert!(matches!(one.order, Order::Retreat { pushes, .. } if pushes.len() == 1));
+        assert_eq!(unsent.answer(), Answer::Refused(Refusal { number: PUSHES_NOT_LEGAL, place: 0 }));
+        assert_eq!(trapped.answer(), Answer::Destroyed);
     }
 
     /// The sixth road stands at the end of the position: without it no road serves.
@@ -119,7 +162,7 @@ mod tests {
                 let sixth = case.position.len() - 8;
                 case.position.truncate(sixth);
                 case.position.extend([NONE; 4].map(u16::to_le_bytes).concat());
-                assert_eq!(answer(&case), Answer::Refused(Refusal { number: NO_WAY, place: 0 }));
+                assert_eq!(case.answer(), Answer::Refused(Refusal { number: NO_WAY, place: 0 }));
             }
         }
     }

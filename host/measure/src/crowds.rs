@@ -3,11 +3,10 @@
 
 use crate::cases::{Case, SIZES};
 use crate::scenes::{infantry, Ground, Scene, PAL};
-use crate::stagings::part_route;
+use crate::stagings::{lost, pushed};
 use host::contents::written;
 use host::order::Order;
 use host::position::{Desk, Position, Unit, ALL_SEA, COMBAT, OWES, RETREATS, TRIED};
-use host::pushes::{Step, Way};
 use host::unit_type::SUPPLY_UNIT;
 
 /// Who holds the hexes up to six from the middle, row by row: 0 nobody, 1 a stack of three, 2 a supply unit, which
@@ -39,24 +38,14 @@ fn packed(scene: &Scene, count: usize, pattern: &str) -> Position {
     position
 }
 
-/// A series of steps that push three stacks each.
-fn three_each(way: &Way) -> Option<Vec<Step>> {
-    if way.is_done() {
-        return Some(Vec::new());
-    }
-    let steps = way.steps().into_iter().filter(|step| step.pushes.len() == 3);
-    steps.into_iter().find_map(|step| Some([vec![step.clone()], three_each(&way.after(&step))?].concat()))
-}
-
-fn case(call: &'static str, position: &Position, route: Vec<u16>, pushes: Vec<u16>) -> Case {
-    let hex = position.units[0].hex;
+fn case(call: &'static str, position: &Position, order: Order) -> Case {
     Case {
         call,
         ground: "crowd",
         hexes: position.map.hexes.len(),
         units: position.units.len(),
         position: written(position),
-        order: Order::Retreat { hex, route, pushes },
+        order,
     }
 }
 
@@ -66,12 +55,9 @@ pub fn crowds() -> Vec<Case> {
     let scene = Ground::Open.scene(side, count);
     let none = packed(&scene, count, NONE_SERVES);
     let some = packed(&scene, count, THREE_EACH);
-    let steps = three_each(&Way::from(&some, scene.middle(), &[0, 1, 2])).expect("three stacks can be pushed a step");
-    let route = steps.iter().map(|step| step.to as u16).collect();
-    let pushes = steps.iter().flat_map(|step| &step.pushes).map(|&hex| hex as u16).collect();
     vec![
-        case("retreat, no pushes serve", &none, part_route(&none, scene.middle()), Vec::new()),
-        case("retreat, nine pushes", &some, route, pushes),
+        case("retreat, no pushes serve", &none, lost(&none)),
+        case("retreat, nine pushes", &some, pushed(&some, [3, 3, 3])),
     ]
 }
 

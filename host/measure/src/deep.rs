@@ -1,6 +1,6 @@
 //! The calls whose stack is measured: every case, and every order on a desk with six roads, which the check follows.
 
-use crate::cases::{cases, tiny, Case, SIZES};
+use crate::cases::{among_friends, cases, tiny, two_players, Case, SIZES};
 use crate::crowds::crowds;
 use host::order::{Call, Order};
 use std::fmt::Write;
@@ -20,7 +20,8 @@ fn on_roads() -> Vec<Case> {
 /// All of them.
 pub fn deep() -> Vec<Case> {
     let sizes = SIZES.into_iter().flat_map(|(side, count)| cases(side, count));
-    sizes.chain(tiny()).chain(crowds()).chain(on_roads()).collect()
+    let others = [tiny(), two_players(), among_friends(), crowds(), on_roads()];
+    sizes.chain(others.into_iter().flatten()).collect()
 }
 
 /// A buffer's bytes as an argument.

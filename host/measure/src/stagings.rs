@@ -1,4 +1,4 @@
-//! Each call staged on a scene: a position, and an order that is accepted there.
+//! Each call staged on a scene: a position, and an order that is given there.
 
 use crate::scenes::{infantry, Scene, CANADA, PAL, US};
 use host::order::Order;
@@ -6,6 +6,7 @@ use host::part_routes::part_routes;
 use host::position::{
     Desk, Position, Route, Unit, ADVANCES, COMBAT, LOSSES, MAY_ADVANCE, OWES, RETREATS, SUPPLIED, TRIED,
 };
+use host::pushes::{Step, Way};
 use host::retreat::owing_group;
 use host::unit_type::SUPPLY_UNIT;
 
@@ -57,21 +58,77 @@ pub fn attack(scene: &Scene) -> Staged {
     (position, order)
 }
 
-/// The first part route of a group that is to be destroyed, as it is sent.
-pub fn part_route(position: &Position, start: usize) -> Vec<u16> {
-    part_routes(position, start, &owing_group(position, start))[0].iter().map(|&hex| hex as u16).collect()
+/// Three in the middle owe three hexes, and these others stand near.
+fn beaten(scene: &Scene, others: Vec<Unit>) -> Position {
+    let group = vec![in_role(infantry(PAL, scene.middle()), OWES); 3];
+    let mut position = scene.staged([group, others].concat());
+    position.desk = Desk { phase: COMBAT, stage: RETREATS, owed_retreat: 3, ..position.desk };
+    position
 }
 
-/// The units in the middle owe three hexes, and supply units of theirs, which cannot be pushed, hold all at that
-/// distance: no route of the whole search serves, and no push. They are lost at the end of a part route.
+/// The group of the first unit is destroyed at the end of its first part route.
+pub fn lost(position: &Position) -> Order {
+    let hex = position.units[0].hex;
+    let start = usize::from(hex);
+    let route = &part_routes(position, start, &owing_group(position, start))[0];
+    Order::Retreat { hex, route: route.iter().map(|&hex| hex as u16).collect(), pushes: Vec::new() }
+}
+
+/// A series of steps that push so many stacks each.
+fn series(way: &Way, stacks: &[usize]) -> Option<Vec<Step>> {
+    let Some((&first, rest)) = stacks.split_first() else { return Some(Vec::new()) };
+    let steps = way.steps().into_iter().filter(|step| step.pushes.len() == first);
+    steps.into_iter().find_map(|step| Some([vec![step.clone()], series(&way.after(&step), rest)?].concat()))
+}
+
+/// The group of the first unit retreats by steps that push so many stacks each.
+pub fn pushed(position: &Position, stacks: [usize; 3]) -> Order {
+    let hex = position.units[0].hex;
+    let start = usize::from(hex);
+    let way = Way::from(position, start, &owing_group(position, start));
+    let steps = series(&way, &stacks).expect("so many stacks can be pushed");
+    let route = steps.iter().map(|step| step.to as u16).collect();
+    let pushes = steps.iter().flat_map(|step| &step.pushes).map(|&hex| hex as u16).collect();
+    Order::Retreat { hex, route, pushes }
+}
+
+/// Supply units of theirs, which cannot be pushed, hold all hexes at the distance that is owed: no route of the whole
+/// search serves, and no push.
 pub fn retreat(scene: &Scene) -> Staged {
-    let group = vec![in_role(infantry(PAL, scene.middle()), OWES); 3];
     let supply_unit = |hex: usize| Unit::new(PAL, SUPPLY_UNIT, hex as u16, 5, 0);
-    let friends = scene.hexes(|far| far == 3).into_iter().map(supply_unit).collect();
-    let mut position = scene.staged([group, friends].concat());
-    position.desk = Desk { phase: COMBAT, stage: RETREATS, owed_retreat: 3, ..position.desk };
-    let route = part_route(&position, scene.middle());
-    (position, Order::Retreat { hex: scene.middle() as u16, route, pushes: Vec::new() })
+    let position = beaten(scene, scene.hexes(|far| far == 3).into_iter().map(supply_unit).collect());
+    let order = lost(&position);
+    (position, order)
+}
+
+/// Three of the group's force on each hex beside it.
+fn friends(scene: &Scene) -> Vec<Unit> {
+    scene.hexes(|far| far == 1).into_iter().flat_map(|hex| [infantry(PAL, hex); 3]).collect()
+}
+
+/// Friends stand all round the group, and the hexes behind them are vacant: with one push it gets away.
+pub fn one_push(scene: &Scene) -> Staged {
+    let position = beaten(scene, friends(scene));
+    let order = pushed(&position, [1, 0, 0]);
+    (position, order)
+}
+
+/// The same, but the push is not sent, and the order is refused.
+pub fn none_sent(scene: &Scene) -> Staged {
+    let (position, mut order) = one_push(scene);
+    if let Order::Retreat { pushes, .. } = &mut order {
+        pushes.clear();
+    }
+    (position, order)
+}
+
+/// Friends stand all round the group, and Enemies at a distance of three: their zones cover every hex that a stack could
+/// be pushed to.
+pub fn trapped(scene: &Scene) -> Staged {
+    let enemies = scene.hexes(|far| far == 3).into_iter().map(|hex| infantry(US, hex)).collect();
+    let position = beaten(scene, [friends(scene), enemies].concat());
+    let order = lost(&position);
+    (position, order)
 }
 
 /// Eighteen units owe the losses of an exchange and are all named.

@@ -3,7 +3,7 @@
 //! prints the tables from the files that those two and `counter.c` wrote.
 
 use host::referee::rule;
-use measure::cases::{cases, tiny, Case, SIZES};
+use measure::cases::{among_friends, cases, tiny, two_players, Case, SIZES};
 use measure::crowds::crowds;
 use measure::deep::line;
 use measure::figures::{figures, Figures};
@@ -14,10 +14,24 @@ use std::time::Instant;
 /// A case and what it took.
 type Row = (Case, Figures);
 
-/// The cases of each size, of the tiny map, and the crowds.
-fn groups() -> [Vec<Case>; 5] {
-    let [small, middle, large] = SIZES.map(|(side, count)| cases(side, count));
-    [small, middle, large, tiny(), crowds()]
+/// The cases of each size.
+fn of_sizes() -> [Vec<Case>; 3] {
+    SIZES.map(|(side, count)| cases(side, count))
+}
+
+/// The other cases, by the title of their table.
+fn others() -> [(&'static str, Vec<Case>); 4] {
+    [
+        ("Tiny map", tiny()),
+        ("Two players", two_players()),
+        ("Retreats among friends", among_friends()),
+        ("Crowd", crowds()),
+    ]
+}
+
+/// All of them, in the order of the tables.
+fn all() -> Vec<Case> {
+    of_sizes().into_iter().chain(others().map(|(_, cases)| cases)).flatten().collect()
 }
 
 /// Nanoseconds of one call of the second referee, over enough calls to last a twentieth of a second.
@@ -102,27 +116,32 @@ fn short_table(title: &str, rows: &[Row]) {
 fn print_tables(figures: Vec<Figures>) {
     let timed = figures.iter().all(|figures| figures.time.is_some());
     let mut figures = figures.into_iter();
-    let [small, middle, large, tiny, crowds] =
-        groups().map(|cases| cases.into_iter().zip(figures.by_ref()).collect::<Vec<Row>>());
+    let mut rows = |cases: Vec<Case>| cases.into_iter().zip(figures.by_ref()).collect::<Vec<Row>>();
+    let [small, middle, large] = of_sizes().map(&mut rows);
     let of_sizes = [small.as_slice(), &middle, &large];
     instruction_table(of_sizes);
-    println!();
     if timed {
-        time_table(of_sizes);
         println!();
+        time_table(of_sizes);
     }
-    short_table("Tiny map", &tiny);
-    println!();
-    short_table("Crowd", &crowds);
+    for (title, cases) in others() {
+        println!();
+        short_table(title, &rows(cases));
+    }
 }
 
 fn main() -> Result<(), Box<dyn Error>> {
     let files: Vec<String> = std::env::args().skip(1).map(read_to_string).collect::<Result<_, _>>()?;
-    match files.as_slice() {
-        [] => groups().iter().flatten().for_each(|case| println!("{}", line(case))),
-        [answers, counts] => print_tables(figures(answers, counts, None)?),
-        [answers, counts, times] => print_tables(figures(answers, counts, Some(times))?),
+    let (answers, counts, times) = match files.as_slice() {
+        [] => {
+            all().iter().for_each(|case| println!("{}", line(case)));
+            return Ok(());
+        }
+        [answers, counts] => (answers, counts, None),
+        [answers, counts, times] => (answers, counts, Some(times.as_str())),
         _ => return Err("bench [ANSWERS COUNTS [TIMES]]".into()),
-    }
+    };
+    let refusals: Vec<u64> = all().iter().map(Case::refusal).collect();
+    print_tables(figures(&refusals, answers, counts, times)?);
     Ok(())
 }
