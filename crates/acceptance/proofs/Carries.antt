@@ -8,6 +8,7 @@ use lib.Dec.{ltb, eqb}
 use Rattle.position.specs.Bits.{marksEnd, has, tried}
 use Rattle.position.specs.Tally.{tally, any}
 use Rattle.position.specs.Kind.{force}
+use Rattle.position.specs.Layout.{routeCount}
 use Rattle.position.specs.Board.{Board, Counter, Units, Desk, nowhere, forceOf}
 use Rattle.position.specs.Ground.{standable}
 use Rattle.position.specs.Crowd.{crowd, holders, owesAt, owingHexes, filled, routes}
@@ -99,7 +100,7 @@ module _ {b c : Board} (f : Fixed b c) where
 
     pub routes-by : routes c ≡ routes b
     unfolding routes filled
-    routes-by = λ i. tally (λ r. not (eqb (e i r 0) nowhere)) 6
+    routes-by = λ i. tally (λ r. not (eqb (e i r 0) nowhere)) routeCount
 
     link-by : (r j : ℕ) → LinkOk b r j → LinkOk c r j
     link-by r j o = record { front = rw e (o .front); step = rw (e, f .map) (o .step) }

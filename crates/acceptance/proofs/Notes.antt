@@ -10,6 +10,7 @@ use lib.Seq.{getD-set-same, getD-set-other}
 use lib.Dec.{eqb}
 use borrow.Author.Tests.{eq-eqb, ne-eqb, eqb-true}
 use Rattle.position.specs.Tally.{tally, any}
+use Rattle.position.specs.Layout.{routeCount}
 use Rattle.position.specs.Board.{Board}
 use Rattle.position.specs.Crowd.{owesAt, owingHexes}
 use Rattle.position.specs.Role as Role
@@ -68,7 +69,7 @@ module _ (s : List ℕ) (h : ℕ) where
     pub note-fresh : among s k h ≡ false → k < length s → NoteOf s (set s k h) k h (k + 1)
     note-fresh e l = record { long = length-set s k h; known = λ p. not-both _ p e; fresh = λ p. refl; here = λ m. among-set k l }
 
-    pub note-full : among s k h ≡ false → k ≡ 6 → NoteOf s s k h 7
+    pub note-full : among s k h ≡ false → k ≡ routeCount → NoteOf s s k h (routeCount + 1)
     note-full e l = record { long = refl; known = λ p. not-both _ p e; fresh = λ p. omega arith; here = λ m. absurd (omega arith) }
 
 module _ (b : Board) (u : ℕ) where
@@ -97,7 +98,7 @@ unfolding owingHexes heads
 owing-hexes-is b = refl
 
 module _ {b : Board} where
-  pub noted-none : (s : List ℕ) → length s ≡ 6 → Noted b 0 0 s
+  pub noted-none : (s : List ℕ) → length s ≡ routeCount → Noted b 0 0 s
   noted-none s l = record { long = l; many = sym (tally-zero _); here = λ h. among-none s h ∙ sym (any-zero _) }
 
   module _ {u k : ℕ} {s : List ℕ} (o : Noted b u k s) where
@@ -119,7 +120,7 @@ module _ {b : Board} where
           (λ p. n .known p ∙ o .many ∙ sym (tally-miss _ u (heads-late b u (q ∙ p))))
           (λ p. omega (arith, n .fresh p, tally-hit (heads b) u (heads-yes b u e (q ∙ p))))
 
-      pub noted-more : r < 7 → Noted b (u + 1) r t
+      pub noted-more : r ≤ routeCount → Noted b (u + 1) r t
       noted-more l =
           record {
             long = n .long ∙ o .long;
@@ -128,7 +129,7 @@ module _ {b : Board} where
           }
 
       -- a seventh hex
-      pub noted-over : 6 < r → u < b .units .count → UpToSeven (owingHexes b) 7
+      pub noted-over : routeCount < r → u < b .units .count → UpToSeven (owingHexes b) 7
       noted-over q l =
           let g = tally-grows (heads b) (u + 1) (b .units .count) (omega arith) in
           record {
@@ -137,7 +138,7 @@ module _ {b : Board} where
             over = λ m. omega (arith, many-more, owing-hexes-is b);
           }
 
-    pub noted-all : u ≡ b .units .count → k < 7 → UpToSeven (owingHexes b) k
+    pub noted-all : u ≡ b .units .count → k ≤ routeCount → UpToSeven (owingHexes b) k
     noted-all e l =
         record {
           small = omega arith;

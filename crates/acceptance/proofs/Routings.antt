@@ -7,6 +7,7 @@ use native.Mathlib.Omega.{arith}
 use native.Mathlib.Numerals.{add-one}
 use lib.Dec.{eqb}
 use borrow.Author.Tests.{lt-ltb, eq-eqb, ne-eqb}
+use Rattle.position.specs.Layout.{routeCount, routeHexes}
 use Rattle.position.specs.Board.{Board, nowhere}
 use Rattle.position.specs.Ground.{standable}
 use Rattle.position.specs.Crowd.{filled, routes}
@@ -35,15 +36,15 @@ module _ (b : Board) (r w x y z : ℕ) where
   abbrev written : Board
   written = change b (routed r w x y z)
 
-  pub route-there : r < 6 → (j : ℕ) → written .desk .route r j ≡ ofFour j w x y z
+  pub route-there : r < routeCount → (j : ℕ) → written .desk .route r j ≡ ofFour j w x y z
   unfolding change reroute
-  route-there l j = simp (lt-ltb r 6 l, eq-eqb r r refl)
+  route-there l j = simp (lt-ltb r routeCount l, eq-eqb r r refl)
 
   route-else : (i : ℕ) → (i ≡ r → ⊥) → (j : ℕ) → written .desk .route i j ≡ b .desk .route i j
   unfolding change reroute
   route-else i n j = simp (ne-eqb i r n, and-false)
 
-  pub filled-there : r < 6 → (w ≡ nowhere → ⊥) → filled written r ≡ true
+  pub filled-there : r < routeCount → (w ≡ nowhere → ⊥) → filled written r ≡ true
   unfolding filled
   filled-there l n = ap (λ (k : ℕ). not (eqb k nowhere)) (route-there l 0) ∙ ap not (ne-eqb w nowhere n)
 
@@ -52,7 +53,7 @@ module _ (b : Board) (r w x y z : ℕ) where
   filled-else i n = ap (λ (k : ℕ). not (eqb k nowhere)) (route-else i n 0)
 
   pub routes-written :
-      r < 6 → (w ≡ nowhere → ⊥) → ((i : ℕ) → i + 1 ≡ r → filled b i ≡ true) → ((j : ℕ) → j < 4 → PlaceOk written r j)
+      r < routeCount → (w ≡ nowhere → ⊥) → ((i : ℕ) → i + 1 ≡ r → filled b i ≡ true) → ((j : ℕ) → j < routeHexes → PlaceOk written r j)
       → RoutesOk b → RoutesOk written
   routes-written l n before path o i m =
       record {
@@ -75,7 +76,7 @@ alone-after h (suc (suc zero)) = refl
 alone-after h (suc (suc (suc j))) = refl
 
 -- a hex alone as a route
-module _ (b : Board) (r h : ℕ) (l : r < 6) (s : standable b h ≡ true) where
+module _ (b : Board) (r h : ℕ) (l : r < routeCount) (s : standable b h ≡ true) where
   abbrev lone : Board
   lone = change b (routed r h nowhere nowhere nowhere)
 
@@ -124,33 +125,33 @@ module _ (b : Board) where
 
   pub routes-none : routes (change b unrouted) ≡ 0
   unfolding routes
-  routes-none = tally-nought (filled (change b unrouted)) 6 (λ r _. empty r)
+  routes-none = tally-nought (filled (change b unrouted)) routeCount (λ r _. empty r)
 
 -- Filled routes come first: those below their number are filled, the others are not.
 module _ {b : Board} (o : RoutesOk b) where
-  first-filled : (i : ℕ) → i + 1 < 6 → filled b (i + 1) ≡ true → filled b i ≡ true
+  first-filled : (i : ℕ) → i + 1 < routeCount → filled b (i + 1) ≡ true → filled b i ≡ true
   first-filled i l = o i (omega arith) .first
 
   pub routes-filled : (i : ℕ) → i < routes b → filled b i ≡ true
   unfolding routes
-  routes-filled i l = front-passes (filled b) 6 first-filled i (omega (arith, tally-most (filled b) 6)) l
+  routes-filled i l = front-passes (filled b) routeCount first-filled i (omega (arith, tally-most (filled b) routeCount)) l
 
-  pub routes-empty : (i : ℕ) → routes b ≤ i → i < 6 → filled b i ≡ false
+  pub routes-empty : (i : ℕ) → routes b ≤ i → i < routeCount → filled b i ≡ false
   unfolding routes
-  routes-empty i l m = either (filled b i) (λ e. absurd (omega (arith, front-counted (filled b) 6 first-filled i m e))) (λ e. e)
+  routes-empty i l m = either (filled b i) (λ e. absurd (omega (arith, front-counted (filled b) routeCount first-filled i m e))) (λ e. e)
 
 -- a route written where none was is one more
 pub routes-more :
-    (b : Board) (r w x y z : ℕ) → r < 6 → (w ≡ nowhere → ⊥) → filled b r ≡ false
+    (b : Board) (r w x y z : ℕ) → r < routeCount → (w ≡ nowhere → ⊥) → filled b r ≡ false
     → routes (change b (routed r w x y z)) ≡ routes b + 1
 unfolding routes
 routes-more b r w x y z l n e =
     let s = filled (change b (routed r w x y z)) in
     let t = filled b in
-    let h = tally-but-hit s r 6 l (filled-there b r w x y z l n) in
-    let m = tally-but-miss t r 6 e in
+    let h = tally-but-hit s r routeCount l (filled-there b r w x y z l n) in
+    let m = tally-but-miss t r routeCount e in
     let k =
-    tally-same (but s r) (but t r) 6
+    tally-same (but s r) (but t r) routeCount
     (λ i _.
     same-or i r
     (λ q. but-self s r i q ∙ sym (but-self t r i q))

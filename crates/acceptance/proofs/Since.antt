@@ -6,6 +6,7 @@ use mathlib.Core.Path.{_≡_, refl, sym, ap, _∙_}
 use mathlib.Core.Bool.{true}
 use native.Mathlib.Omega.{arith}
 use lib.Dec.{ltb}
+use Rattle.position.specs.Layout.{routeCount, routeHexes}
 use Rattle.position.specs.Board.{Board, Desk, nowhere}
 use Rattle.position.specs.Crowd.{filled}
 use Rattle.position.specs.Change.{Change}
@@ -119,8 +120,8 @@ module _ {b c : Board} (most : b .map .hexes ≤ nowhere) (s : Since b c) where
       (routes-ok-by (fixed-change c (staged t n x)) refl (s .routes))
 
   pub since-routed :
-      (r w x y z : ℕ) → r < 6 → (w ≡ nowhere → ⊥) → ((i : ℕ) → i + 1 ≡ r → filled c i ≡ true)
-      → ((j : ℕ) → j < 4 → PlaceOk (change c (routed r w x y z)) r j) → Since b (change c (routed r w x y z))
+      (r w x y z : ℕ) → r < routeCount → (w ≡ nowhere → ⊥) → ((i : ℕ) → i + 1 ≡ r → filled c i ≡ true)
+      → ((j : ℕ) → j < routeHexes → PlaceOk (change c (routed r w x y z)) r j) → Since b (change c (routed r w x y z))
   unfolding change
   since-routed r w x y z l n before path =
       since-desk (withRoutes (c .desk) (reroute (c .desk .route) r w x y z)) refl refl refl

@@ -5,6 +5,7 @@ use mathlib.Core.Bool.{false, not, true}
 use mathlib.Core.List.{List}
 use mathlib.Core.Path.{_∙_, _≡_, ap, refl}
 use borrow.Author.Tests.{eq-eqb, ne-eqb}
+use Rattle.position.specs.Layout.{routeCount, routeHexes}
 use Rattle.position.specs.Board.{Board, board}
 use Rattle.position.specs.Change.{make, makes}
 use Rattle.position.specs.Change.Change.{assigned, placed}
@@ -37,15 +38,15 @@ module _ (b : Board) (u : ℕ) where
     follow-apart e = simp e
 
     pub follow-beside :
-        joined (b .map) (b .units .state .hex u) (b .desk .route r 0) ≡ true → canFollow b u hex r ≡ any (clearTo b u hex r) 4
+        joined (b .map) (b .units .state .hex u) (b .desk .route r 0) ≡ true → canFollow b u hex r ≡ any (clearTo b u hex r) routeHexes
     unfolding canFollow
     follow-beside e = simp e
 
-  pub some-route : (hex : ℕ) → any (canFollow b u hex) 6 ≡ true → noRoute b u hex ≡ false
+  pub some-route : (hex : ℕ) → any (canFollow b u hex) routeCount ≡ true → noRoute b u hex ≡ false
   unfolding noRoute
   some-route hex e = ap not e
 
-  pub route-none : (hex : ℕ) → any (canFollow b u hex) 6 ≡ false → noRoute b u hex ≡ true
+  pub route-none : (hex : ℕ) → any (canFollow b u hex) routeCount ≡ false → noRoute b u hex ≡ true
   unfolding noRoute
   route-none hex e = ap not e
 

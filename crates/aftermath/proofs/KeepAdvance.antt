@@ -7,6 +7,7 @@ use mathlib.Core.List.{List, [], _∷_}
 use native.Mathlib.Omega.{arith}
 use lib.Dec.{eqb, leb, ltb}
 use borrow.Author.Tests.{eqb-true, leb-false, not-false, not-true}
+use Rattle.position.specs.Layout.{routeCount, routeHexes}
 use Rattle.position.specs.Board.{Board, board, forceOf, nowhere}
 use Rattle.position.specs.Crowd.{others}
 use Rattle.position.specs.Ground.{joined, standable}
@@ -47,15 +48,15 @@ use Rattle.aftermath.proofs.KeepStage.{Lessened, all-freed, lawful-then
 record Reached (b : Board) (u hex : ℕ) : Type 0 where
   route : ℕ
   place : ℕ
-  filled : route < 6
-  within : place < 4
+  filled : route < routeCount
+  within : place < routeHexes
   is : b .desk .route route place ≡ hex
   free : shut b u hex ≡ false
 
 module _ (b : Board) (u hex : ℕ) where
-  follow-leads : (r : ℕ) → canFollow b u hex r ≡ true → any (clearTo b u hex r) 4 ≡ true
+  follow-leads : (r : ℕ) → canFollow b u hex r ≡ true → any (clearTo b u hex r) routeHexes ≡ true
   unfolding canFollow
-  follow-leads r e = both-yes (joined (b .map) (b .units .state .hex u) (b .desk .route r 0)) (any (clearTo b u hex r) 4) e .1
+  follow-leads r e = both-yes (joined (b .map) (b .units .state .hex u) (b .desk .route r 0)) (any (clearTo b u hex r) routeHexes) e .1
 
   clear-parts : (r j : ℕ) → clearTo b u hex r j ≡ true → (b .desk .route r j ≡ hex) × (any (heldAt b u r) (j + 1) ≡ false)
   unfolding clearTo
@@ -77,8 +78,8 @@ module _ (b : Board) (u hex : ℕ) where
   reached : noRoute b u hex ≡ false → Reached b u hex
   unfolding noRoute
   reached e =
-      let r = any-some (canFollow b u hex) 6 (not-false (any (canFollow b u hex) 6) e) in
-      let j = any-some (clearTo b u hex (r .at)) 4 (follow-leads (r .at) (r .passes)) in
+      let r = any-some (canFollow b u hex) routeCount (not-false (any (canFollow b u hex) routeCount) e) in
+      let j = any-some (clearTo b u hex (r .at)) routeHexes (follow-leads (r .at) (r .passes)) in
       let x = clear-parts (r .at) (j .at) (j .passes) in
       record {
         route = r .at;

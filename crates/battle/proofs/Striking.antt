@@ -9,6 +9,7 @@ use lib.ListN.{length}
 use lib.Dec.{eqb}
 use borrow.Author.Tests.{eqb-true, eqb-false}
 use Rattle.position.specs.Bits.{with, fought}
+use Rattle.position.specs.Layout.{routeCount}
 use Rattle.position.specs.Board.{Board, nowhere}
 use Rattle.position.specs.Ground.{standable}
 use Rattle.position.specs.Crowd.{filled}
@@ -87,12 +88,12 @@ pub record Footing (b : Board) (h : ℕ) : Type 0 where
 
 module _ (b : Board) where
   pub routes-all :
-      (hs : List ℕ) (r : ℕ) → r + length hs ≤ 6 → Each (Footing b) hs → (d : Board) → Fixed b d
+      (hs : List ℕ) (r : ℕ) → r + length hs ≤ routeCount → Each (Footing b) hs → (d : Board) → Fixed b d
       → ((i : ℕ) → i < r → filled d i ≡ true) → RoutesOk d → RoutesOk (changes d (routedFrom r hs))
   unfolding routedFrom changes
   routes-all [] r l h d f before o = o
   routes-all (x ∷ xs) r l h d f before o =
-      let m : r < 6 = omega arith in
+      let m : r < routeCount = omega arith in
       let n = h .0 .hex in
       let c = change d (routed r x nowhere nowhere nowhere) in
       let w = routes-lone d r x m (standable-by f x ∙ h .0 .stands) n (λ i e. before i (omega arith)) o in

@@ -9,6 +9,7 @@ use lib.Dec.{eqb, leb, ltb}
 use lib.ListN.{getD, length}
 use borrow.Author.Tests.{eqb-true, not-false}
 use Rattle.grid.proofs.Walks.{same-zero}
+use Rattle.position.specs.Layout.{routeCount}
 use Rattle.position.specs.Board.{Board, Desk, board, forceOf, nowhere}
 use Rattle.position.specs.Crowd.{filled, holders, owesAt, owingHexes, routes}
 use Rattle.position.specs.Ground.{standable}
@@ -115,14 +116,14 @@ module _ (b : Board) (h x y z : ℕ) where
 -- routes are counted on the desk
 routes-desk : (b c : Board) → c .desk ≡ b .desk → routes c ≡ routes b
 unfolding routes filled
-routes-desk b c e = ap (λ (d : Desk). tally (λ r. not (eqb (d .route r 0) nowhere)) 6) e
+routes-desk b c e = ap (λ (d : Desk). tally (λ r. not (eqb (d .route r 0) nowhere)) routeCount) e
 
 -- where somebody owes, a hex does
 holds-some : (b : Board) → (holders b Role.owes ≡ 0 → ⊥) → 1 ≤ owingHexes b
 unfolding holders
 holds-some b n =
     let s = tally-some (λ u. eqb (b .units .state .role u) Role.owes) (b .units .count) (omega arith) in
-    owing-some b (s .at) (s .below) (eqb-true (b .units .state .role (s .at)) 1 (s .passes))
+    owing-some b (s .at) (s .below) (eqb-true (b .units .state .role (s .at)) Role.owes (s .passes))
 
 -- a retreat starts at no distance
 pub far-start : (b : Board) (h : ℕ) → landOf b h .far h ≡ 0

@@ -7,6 +7,7 @@ use mathlib.Core.List.{List, _∷_}
 use native.Mathlib.Omega.{arith}
 use native.Mathlib.Numerals.{add-one}
 use lib.ListN.{getD, length}
+use Rattle.position.specs.Layout.{routeCount}
 use Rattle.position.specs.Board.{Board, nowhere}
 use Rattle.position.specs.Ground.{joined, standable}
 use Rattle.position.specs.Crowd.{routes}
@@ -104,7 +105,7 @@ module _ {b : Board} (start : ℕ) (most : b .map .hexes ≤ nowhere) where
 module _
     (b : Board)
     (r w x y z : ℕ)
-    (l : r < 6)
+    (l : r < routeCount)
     (s : standable b w ≡ true)
     (f : (j : ℕ) → (ofFour (suc j) w x y z ≡ nowhere → ⊥) → Follows b (ofFour j w x y z) (ofFour (suc j) w x y z)) where
   abbrev written : Board
@@ -137,7 +138,7 @@ module _
       }
 
 -- "k plus filled routes is at most 6": while a hex owes there is room for a route
-pub routes-room : {b : Board} → Lawful b → b .desk .battle .stage ≡ Stage.retreats → routes b < 6
+pub routes-room : {b : Board} → Lawful b → b .desk .battle .stage ≡ Stage.retreats → routes b < routeCount
 routes-room l e = let o = l .stage .during .retreats e in omega (arith, o .some, o .room)
 
 -- the next route is written

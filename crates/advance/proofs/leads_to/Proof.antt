@@ -5,6 +5,7 @@ use mathlib.Core.Path.{_∙_, sym}
 use native.Mathlib.Omega.{arith}
 use borrow.Author.Needs.{needs}
 use Rattle.position.proofs.Tallies.{any-true}
+use Rattle.position.specs.Layout.{routeHexes}
 use Rattle.position.specs.Board.{board}
 use Rattle.field.proofs.Zones.{None, none-at-all, none-yet, one-more}
 use Rattle.aftermath.specs.Advance.{clearTo}
@@ -12,10 +13,10 @@ use Rattle.advance.proofs.leads_to.Statement.{statement}
 use Rattle.advance.proofs.leads_to.Tie as tie
 
 abbrev Inv-loop : tie.InvT-loop
-Inv-loop p v u hex r j₀ j = None (clearTo (board p) u hex r) j 4
+Inv-loop p v u hex r j₀ j = None (clearTo (board p) u hex r) j routeHexes
 
 abbrev μ-loop : tie.MeasureT-loop
-μ-loop p v u hex r j₀ j = 4 - j
+μ-loop p v u hex r j₀ j = routeHexes - j
 
 loop-holds : tie.Need-loop-holds Inv-loop μ-loop
 loop-holds c = none-yet

@@ -5,6 +5,7 @@ use mathlib.Core.Path.{_∙_, sym}
 use native.Mathlib.Omega.{arith}
 use borrow.Author.Needs.{needs}
 use Rattle.position.proofs.Tallies.{any-true}
+use Rattle.position.specs.Layout.{routeCount}
 use Rattle.position.specs.Board.{board}
 use Rattle.field.proofs.Zones.{None, none-at-all, none-yet, one-more}
 use Rattle.aftermath.specs.Advance.{canFollow}
@@ -13,10 +14,10 @@ use Rattle.advance.proofs.no_route.Statement.{statement}
 use Rattle.advance.proofs.no_route.Tie as tie
 
 abbrev Inv-loop : tie.InvT-loop
-Inv-loop p v u hex r₀ r = None (canFollow (board p) u hex) r 6
+Inv-loop p v u hex r₀ r = None (canFollow (board p) u hex) r routeCount
 
 abbrev μ-loop : tie.MeasureT-loop
-μ-loop p v u hex r₀ r = 6 - r
+μ-loop p v u hex r₀ r = routeCount - r
 
 loop-holds : tie.Need-loop-holds Inv-loop μ-loop
 loop-holds c = none-yet

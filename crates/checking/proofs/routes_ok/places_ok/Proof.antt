@@ -4,16 +4,17 @@ use Prim.Native.Nat.{_-_}
 use native.Mathlib.Omega.{arith}
 use borrow.Author.Needs.{needs}
 use Rattle.acceptance.specs.Accepted.{PlaceOk}
+use Rattle.position.specs.Layout.{routeHexes}
 use Rattle.position.specs.Board.{board}
 use Rattle.position.proofs.Answers.{said, unsaid, Passed, none-yet, one-more, all, not-all}
 use Rattle.checking.proofs.routes_ok.places_ok.Statement.{statement}
 use Rattle.checking.proofs.routes_ok.places_ok.Tie as tie
 
 abbrev Inv-loop : tie.InvT-loop
-Inv-loop p v r j₀ j = Passed (PlaceOk (board p) r) j 4
+Inv-loop p v r j₀ j = Passed (PlaceOk (board p) r) j routeHexes
 
 abbrev μ-loop : tie.MeasureT-loop
-μ-loop p v r j₀ j = 4 - j
+μ-loop p v r j₀ j = routeHexes - j
 
 loop-holds : tie.Need-loop-holds Inv-loop μ-loop
 loop-holds c = none-yet

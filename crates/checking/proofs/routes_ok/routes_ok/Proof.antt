@@ -4,16 +4,17 @@ use Prim.Native.Nat.{_-_}
 use native.Mathlib.Omega.{arith}
 use borrow.Author.Needs.{needs}
 use Rattle.acceptance.specs.Accepted.{RouteOk}
+use Rattle.position.specs.Layout.{routeCount}
 use Rattle.position.specs.Board.{board}
 use Rattle.position.proofs.Answers.{said, unsaid, Passed, none-yet, one-more, all, not-all}
 use Rattle.checking.proofs.routes_ok.routes_ok.Statement.{statement}
 use Rattle.checking.proofs.routes_ok.routes_ok.Tie as tie
 
 abbrev Inv-loop : tie.InvT-loop
-Inv-loop p v r₀ r = Passed (RouteOk (board p)) r 6
+Inv-loop p v r₀ r = Passed (RouteOk (board p)) r routeCount
 
 abbrev μ-loop : tie.MeasureT-loop
-μ-loop p v r₀ r = 6 - r
+μ-loop p v r₀ r = routeCount - r
 
 loop-holds : tie.Need-loop-holds Inv-loop μ-loop
 loop-holds c = none-yet

@@ -5,6 +5,7 @@ use Prim.Native.Nat.{_-_, _≤_}
 use mathlib.Core.Path.{refl, sym}
 use native.Mathlib.Omega.{arith}
 use borrow.Author.Needs.{needs}
+use Rattle.position.specs.Layout.{routeCount}
 use Rattle.position.specs.Board.{board}
 use Rattle.acceptance.specs.Noted.{Noted}
 use Rattle.acceptance.proofs.Notes.{noted-none, noted-past, noted-more, noted-over, noted-all}
@@ -12,7 +13,7 @@ use Rattle.stages.proofs.owing.owing_hexes.Statement.{statement}
 use Rattle.stages.proofs.owing.owing_hexes.Tie as tie
 
 abbrev Inv-loop : tie.InvT-loop
-Inv-loop p v count seen₀ k₀ u₀ seen k u = (u ≤ count) × (k ≤ 6) × Noted (board p) u k seen
+Inv-loop p v count seen₀ k₀ u₀ seen k u = (u ≤ count) × (k ≤ routeCount) × Noted (board p) u k seen
 
 abbrev μ-loop : tie.MeasureT-loop
 μ-loop p v count seen₀ k₀ u₀ seen k u = count - u
