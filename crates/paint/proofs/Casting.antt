@@ -1,6 +1,6 @@
 -- Zones from the casters outward: what one caster covers, and that the units cover one by one what lies in an Enemy zone.
 -- Assumes nothing.
-use Prim.Native.Nat.{ℕ, _+_, _*_, _%_, _≤_, _<_}
+use Prim.Native.Nat.{ℕ, _+_, _%_, _≤_, _<_}
 use mathlib.Core.Path.{_≡_, refl, sym, ap, _∙_}
 use mathlib.Core.Bool.{Bool, true, false, not, _&&_, _||_, and-false}
 use native.Mathlib.Omega.{arith}
@@ -13,7 +13,7 @@ use Rattle.grid.specs.declared.Nearby.the-variants as N
 use Rattle.grid.specs.declared.Spot.{Spot}
 use Rattle.grid.specs.Map.{neighbourOf}
 use Rattle.grid.specs.Spot.{SpotOf, NearOf}
-use Rattle.grid.proofs.Laws.{opposite, from-map}
+use Rattle.grid.proofs.Laws.{opposite}
 use Rattle.position.specs.Tally.{any}
 use Rattle.position.specs.Kind.{castsZone}
 use Rattle.position.specs.Board.{Map}
@@ -220,12 +220,3 @@ module _ (s : Scene) (f h : ℕ) where
       either (enemyZone s f h)
       (λ e. covered e ∙ sym e)
       (λ e. either (any (zoneBy s f h) (s .count)) (λ q. not-both (enemyZone s f h) (covering q) e) (λ q. q ∙ sym e))
-
-  -- none lies off the map
-  pub zone-off : s .map .width * s .map .height ≤ h → enemyZone s f h ≡ false
-  zone-off l =
-      either (enemyZone s f h)
-      (λ e.
-      let c = zone-from s f h e .from in
-      absurd (omega (arith, from-map (s .map .width) (s .map .height) h (c .direction) (c .hex) (c .next) .below)))
-      (λ e. e)

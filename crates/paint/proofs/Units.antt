@@ -15,7 +15,7 @@ use Rattle.position.specs.Tally.{any}
 use Rattle.position.specs.Bits.{has}
 use Rattle.position.specs.declared.View.{View}
 use Rattle.position.specs.Layout.{byte, hex}
-use Rattle.position.specs.Laid.{Laid, Says}
+use Rattle.position.specs.Laid.{Laid}
 use Rattle.position.specs.Board.{Board, board, forceOf, enemy}
 use Rattle.position.specs.Ground.{beside, isAt}
 use Rattle.position.proofs.Tallies.{not-both, either, any-zero, any-step, any-same, any-never}
@@ -57,15 +57,6 @@ use Rattle.paint.proofs.Casting.{zone-units}
 -- whether a unit's force is Enemy, as it was asked
 pub enemy-told : (b : Board) (f u : ℕ) {g : ℕ} {r t : Bool} → g ≡ forceOf b u → r ≡ enemy b f g → r ≡ t → scene b .enemy f (forceIn (scene b) u) ≡ t
 enemy-told b f u e q z = ap (enemy b f) (sym (e ∙ force-in b u)) ∙ sym q ∙ z
-
--- an answer that is yes, and one that is no
-pub yes : {A : Type 0} (b : Bool) → b ≡ true → Says b A → A
-yes true e s = s
-yes false e s = not-both false e refl
-
-pub nay : {A : Type 0} (b : Bool) → b ≡ false → Says b A → A → ⊥
-nay true e s = not-both true refl e
-nay false e s = s
 
 -- the marks that stamps are made with
 pub zone-stamp : Stamp 1

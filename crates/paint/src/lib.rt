@@ -9,7 +9,6 @@ ghost use lib.ListN.{length, replicate};
 ghost use Rattle.position.specs.Board.{board};
 ghost use Rattle.position.specs.Laid.{Laid};
 ghost use Rattle.field.specs.Scene.{scene};
-ghost use Rattle.field.specs.Zone.{enemyZone};
 ghost use Rattle.grid.specs.Region.{Before, Past};
 ghost use Rattle.paint.specs.Room.{Room};
 ghost use Rattle.paint.specs.Paint.{Adds, Shows, Marked, says, saysBelow};
@@ -17,7 +16,6 @@ use grid::near;
 use grid::region;
 use grid::region::Region;
 use position::View;
-use position::bits;
 use position::layout;
 use position::read;
 
@@ -59,10 +57,10 @@ fn paint_unit(
     ensures { λ _. ⌜ Adds (v .width) (v .height) at (says (scene (board (now (p .entry)))) f u) (now (buf .entry)) (now (buf .exit)) ⌝ }
 {
     let h = read::hex(p, v, u);
-    if h < from {
+    if to <= h {
         return;
     }
-    if to <= h {
+    if h < from {
         return;
     }
     let s = near::spot(v.width, v.height, h);
@@ -126,16 +124,4 @@ pub fn look(p: &[u8], v: View, f: usize, h: usize) -> usize
 {
     let mut buf = [0u8; 1];
     look_in(p, v, f, h, &mut buf)
-}
-
-// Whether hex `h` lies in an Enemy zone of force `f`.
-pub fn zone_at(p: &[u8], v: View, f: usize, h: usize) -> bool
-    requires { ⌜ Laid (now p) v ⌝ }
-    ensures { λ r. ⌜ r ≡ enemyZone (scene (board (now (p .entry)))) f h ⌝ }
-{
-    let hexes = v.hexes;
-    if hexes <= h {
-        return false;
-    }
-    bits::has(ZONE, look(p, v, f, h))
 }

@@ -1,7 +1,7 @@
 -- What the plot's answers say of an order.
 -- Assumes nothing.
 use Prim.Native.Nat.{ℕ, _≤_}
-use mathlib.Core.Path.{_≡_, ap, ap₂, _∙_}
+use mathlib.Core.Path.{_≡_, ap, ap₂}
 use mathlib.Core.Bool.{Bool, true, false, cond, _&&_}
 use mathlib.Core.List.{List}
 use native.Mathlib.Omega.{arith}
@@ -13,10 +13,7 @@ use Rattle.grid.specs.Map.{On}
 use Rattle.grid.specs.Region.{placeOf, placeIn, Round}
 use Rattle.position.specs.Board.{Board}
 use Rattle.position.proofs.Tallies.{same-or}
-use Rattle.chains.specs.Stand.{stand}
-use Rattle.chains.specs.Series.{landOf}
-use Rattle.chains.specs.Follows.{follows, legalPushes}
-use Rattle.chains.specs.Serves.{pushesServe}
+use Rattle.chains.specs.Follows.{legalPushes}
 use Rattle.plot.specs.Search.{servesIn}
 use Rattle.plot.specs.Follow.{placesFrom, followsIn}
 use Rattle.pushes.specs.declared.Served.{Served}

@@ -18,15 +18,15 @@ returns : tie.Need-returns
 returns c =
     let outset = c .before .before .before .before in
     let a = outset .args in
-    let x = (c .before .hex) in
-    adds-none (unit-away (outset .pre .0) (a .f) (a .u) (x .result) (x .ensures .is) (outset .pre .2 .each (x .result) (omega arith)))
+    let x = c .before .hex in
+    adds-none (unit-away (outset .pre .0) (a .f) (a .u) (x .result) (x .ensures .is) (outset .pre .3 .each (x .result) (omega arith)))
 
 returns-2 : tie.Need-returns-2
 returns-2 c =
     let outset = c .before .before .before .before .before in
     let a = outset .args in
-    let x = (c .before .before .hex) in
-    adds-none (unit-away (outset .pre .0) (a .f) (a .u) (x .result) (x .ensures .is) (outset .pre .3 .each (x .result) (omega arith)))
+    let x = c .before .before .hex in
+    adds-none (unit-away (outset .pre .0) (a .f) (a .u) (x .result) (x .ensures .is) (outset .pre .2 .each (x .result) (omega arith)))
 
 spot-requires : tie.Need-spot-requires
 spot-requires c κs =
@@ -34,38 +34,38 @@ spot-requires c κs =
     on-view (outset .pre .0) _ (omega (arith, outset .pre .3 .most, area-view (outset .pre .0 .view)))
 
 aside-requires : tie.Need-aside-requires
-aside-requires c κs = ((c .spot) .ensures .0, (c .before .before .before .before .before .before) .pre .1 .region)
+aside-requires c κs = (c .spot .ensures .0, c .before .before .before .before .before .before .pre .1 .region)
 
 returns-3 : tie.Need-returns-3
 returns-3 c =
     let outset = c .before .before .before .before .before .before .before .before in
     let a = outset .args in
-    let s = (c .before .before .spot) in
-    adds-none (unit-away (outset .pre .0) (a .f) (a .u) (s .result .hex) (s .ensures .1 ∙ (c .before .before .before .before .before .hex) .ensures .is) ((c .before .aside) .ensures ((c .if3) .taken)))
+    let s = c .before .before .spot in
+    adds-none (unit-away (outset .pre .0) (a .f) (a .u) (s .result .hex) (s .ensures .1 ∙ c .before .before .before .before .before .hex .ensures .is) (c .before .aside .ensures (c .if3 .taken)))
 
 stand-requires : tie.Need-stand-requires
 stand-requires c κs =
     let outset = c .before .before .before .before .before .before .before .before .before in
-    let o = (c .before .before .before .spot) .ensures in
-    (outset .pre .0, outset .pre .1, record { spot = o .0; here = o .1 ∙ (c .before .before .before .before .before .before .hex) .ensures .is })
+    let o = c .before .before .before .spot .ensures in
+    (outset .pre .0, outset .pre .1, record { spot = o .0; here = o .1 ∙ c .before .before .before .before .before .before .hex .ensures .is })
 
 cast-requires : tie.Need-cast-requires
 cast-requires c κs =
     let outset = c .before .before .before .before .before .before .before .before .before .before .before .before .before in
-    let o = (c .before .before .before .before .before .before .before .spot) .ensures in (
+    let o = c .before .before .before .before .before .before .before .spot .ensures in (
       outset .pre .0,
-      room-kept (outset .pre .1) ((c .before .before .before .stand) .ensures .long),
-      record { spot = o .0; here = o .1 ∙ (c .before .before .before .before .before .before .before .before .before .before .hex) .ensures .is },
+      room-kept (outset .pre .1) (c .before .before .before .stand .ensures .long),
+      record { spot = o .0; here = o .1 ∙ c .before .before .before .before .before .before .before .before .before .before .hex .ensures .is },
     )
 
 same-length : tie.Need-same-length
-same-length c = (c .before .before .cast) .ensures .long ∙ (c .before .before .before .before .before .before .stand) .ensures .long
+same-length c = c .before .before .cast .ensures .long ∙ c .before .before .before .before .before .before .stand .ensures .long
 
 returns-4 : tie.Need-returns-4
 returns-4 c =
-    let a = (c .before .before .before .before .before .before .before .before .before .before .before .before .before .before .before .before) .args in
+    let a = c .before .before .before .before .before .before .before .before .before .before .before .before .before .before .before .before .args in
     let b = board (a .p .now) in
-    adds-as (adds-also ((c .before .before .before .before .before .before .stand) .ensures) ((c .before .before .cast) .ensures)) (λ k h i. says-parts (scene b) (a .f) (a .u) k h)
+    adds-as (adds-also (c .before .before .before .before .before .before .stand .ensures) (c .before .before .cast .ensures)) (λ k h i. says-parts (scene b) (a .f) (a .u) k h)
 
 pub paint-unit-spec : {M : Type 1} → statement M
 paint-unit-spec =

@@ -10,13 +10,13 @@ use Rattle.grid.proofs.region.aside.Statement.{statement}
 use Rattle.grid.proofs.region.aside.Tie as tie
 
 add-column : tie.Need-add-column
-add-column c = omega (arith, spot-column ((c .before) .pre .0), (c .before) .pre .0 .on .wide64)
+add-column c = omega (arith, spot-column (c .before .pre .0), c .before .pre .0 .on .wide64)
 
 add-if1 : tie.Need-add-if1
-add-if1 c = omega (arith, spot-column ((c .before) .pre .0), (c .before) .pre .0 .on .wide64)
+add-if1 c = omega (arith, spot-column (c .before .pre .0), c .before .pre .0 .on .wide64)
 
 returns : tie.Need-returns
-returns c = λ e. away-left ((c .before .before .before) .args .s .hex) (omega (arith, (c .before .before .before) .pre .0 .column))
+returns c = λ e. away-left (c .before .before .before .args .s .hex) (omega (arith, c .before .before .before .pre .0 .column))
 
 add-result : tie.Need-add-result
 add-result c = search needs

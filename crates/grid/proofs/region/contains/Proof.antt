@@ -11,10 +11,10 @@ use Rattle.grid.proofs.region.contains.Statement.{statement}
 use Rattle.grid.proofs.region.contains.Tie as tie
 
 add-column : tie.Need-add-column
-add-column c = omega (arith, spot-column ((c .before) .pre .0), (c .before) .pre .0 .on .wide64)
+add-column c = omega (arith, spot-column (c .before .pre .0), c .before .pre .0 .on .wide64)
 
 add-row : tie.Need-add-row
-add-row c = omega (arith, spot-row ((c .before .before) .pre .0), (c .before .before) .pre .0 .on .high64)
+add-row c = omega (arith, spot-row (c .before .before .pre .0), c .before .before .pre .0 .on .high64)
 
 returns : tie.Need-returns
 returns c =

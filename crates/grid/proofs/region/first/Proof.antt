@@ -24,7 +24,7 @@ mul-result c =
     omega (arith, small {a = a .at .top - 8 - 1} {b = a .w} (omega (arith, outset .pre .1 .top)) (outset .pre .0 .wide64))
 
 returns-2 : tie.Need-returns-2
-returns-2 c = before-top ((c .before .before .before) .pre .0 .wide) (omega arith)
+returns-2 c = before-top (c .before .before .before .pre .0 .wide) (omega arith)
 
 pub first-spec : {M : Type 1} → statement M
 first-spec = tie.close (tie.spec returns sub-result sub-result-2 mul-result returns-2)

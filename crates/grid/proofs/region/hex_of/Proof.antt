@@ -10,7 +10,7 @@ use Rattle.grid.proofs.region.hex_of.Statement.{statement}
 use Rattle.grid.proofs.region.hex_of.Tie as tie
 
 rem-column : tie.Need-rem-column
-rem-column c = let a = (c .before) .args in positive (a .i) (a .at .wide) (a .at .high) ((c .before) .pre .2)
+rem-column c = let a = c .before .args in positive (a .i) (a .at .wide) (a .at .high) (c .before .pre .2)
 
 add-column : tie.Need-add-column
 add-column c =
@@ -19,7 +19,7 @@ add-column c =
     omega (arith, mod-lt (a .i) (positive (a .i) (a .at .wide) (a .at .high) (outset .pre .2)), outset .pre .1 .wide)
 
 div-row : tie.Need-div-row
-div-row c = let a = (c .before .before .before) .args in positive (a .i) (a .at .wide) (a .at .high) ((c .before .before .before) .pre .2)
+div-row c = let a = c .before .before .before .args in positive (a .i) (a .at .wide) (a .at .high) (c .before .before .before .pre .2)
 
 add-row : tie.Need-add-row
 add-row c =

@@ -6,14 +6,14 @@ use Rattle.grid.proofs.region.one.Statement.{statement}
 use Rattle.grid.proofs.region.one.Tie as tie
 
 add-t4 : tie.Need-add-t4
-add-t4 c = omega (arith, spot-column ((c .before) .pre), (c .before) .pre .on .wide64)
+add-t4 c = omega (arith, spot-column (c .before .pre), c .before .pre .on .wide64)
 
 add-t5 : tie.Need-add-t5
-add-t5 c = omega (arith, spot-row ((c .before .before) .pre), (c .before .before) .pre .on .high64)
+add-t5 c = omega (arith, spot-row (c .before .before .pre), c .before .before .pre .on .high64)
 
 returns : tie.Need-returns
 returns c =
-    let o = (c .before .before) .pre in
+    let o = c .before .before .pre in
     record {
       ok =
           record {

@@ -15,7 +15,7 @@ sub-under : tie.Need-sub-under
 sub-under c = search needs
 
 mul-result : tie.Need-mul-result
-mul-result c = let o = (c .before .before) .pre .0 in omega (arith, small (o .wide64) (o .high64))
+mul-result c = let o = c .before .before .pre .0 in omega (arith, small (o .wide64) (o .high64))
 
 returns : tie.Need-returns
 returns c = past-map
@@ -33,7 +33,7 @@ mul-result-2 c =
     )
 
 returns-2 : tie.Need-returns-2
-returns-2 c = past-bottom ((c .before .before) .pre .0 .wide) ((c .before .before) .pre .1) (omega arith)
+returns-2 c = past-bottom (c .before .before .pre .0 .wide) (c .before .before .pre .1) (omega arith)
 
 pub past-spec : {M : Type 1} → statement M
 past-spec =

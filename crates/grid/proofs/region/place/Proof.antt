@@ -10,7 +10,7 @@ use Rattle.grid.proofs.region.place.Statement.{statement}
 use Rattle.grid.proofs.region.place.Tie as tie
 
 add-result : tie.Need-add-result
-add-result c = omega (arith, spot-row ((c .before) .pre .0), (c .before) .pre .0 .on .high64)
+add-result c = omega (arith, spot-row (c .before .pre .0), c .before .pre .0 .on .high64)
 
 sub-result : tie.Need-sub-result
 sub-result c = search needs
@@ -25,7 +25,7 @@ mul-result c =
     omega (arith, small {a = a .s .row + 8 - a .at .top} {b = a .at .wide} (omega (arith, o .row, i .bottom, k .high)) (k .wide))
 
 add-result-2 : tie.Need-add-result-2
-add-result-2 c = omega (arith, spot-column ((c .before .before .before .before) .pre .0), (c .before .before .before .before) .pre .0 .on .wide64)
+add-result-2 c = omega (arith, spot-column (c .before .before .before .before .pre .0), c .before .before .before .before .pre .0 .on .wide64)
 
 sub-result-2 : tie.Need-sub-result-2
 sub-result-2 c = search needs

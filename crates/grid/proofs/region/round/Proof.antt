@@ -9,7 +9,7 @@ use Rattle.grid.proofs.region.round.Statement.{statement}
 use Rattle.grid.proofs.region.round.Tie as tie
 
 add-west : tie.Need-add-west
-add-west c = omega (arith, spot-column ((c .before) .pre .0), (c .before) .pre .0 .on .wide64)
+add-west c = omega (arith, spot-column (c .before .pre .0), c .before .pre .0 .on .wide64)
 
 sub-west : tie.Need-sub-west
 sub-west c = search needs
@@ -18,7 +18,7 @@ sub-t7 : tie.Need-sub-t7
 sub-t7 c = search needs
 
 add-t8 : tie.Need-add-t8
-add-t8 c = omega (arith, spot-row ((c .before .before) .pre .0), (c .before .before) .pre .0 .on .high64)
+add-t8 c = omega (arith, spot-row (c .before .before .pre .0), c .before .before .pre .0 .on .high64)
 
 sub-t9 : tie.Need-sub-t9
 sub-t9 c = search needs
@@ -36,7 +36,7 @@ add-t13 : tie.Need-add-t13
 add-t13 c = search needs
 
 returns : tie.Need-returns
-returns c = round-is ((c .before .before) .pre .0) ((c .before .before) .pre .1) _ refl refl refl refl
+returns c = round-is (c .before .before .pre .0) (c .before .before .pre .1) _ refl refl refl refl
 
 pub round-spec : {M : Type 1} → statement M
 round-spec =

@@ -1,7 +1,6 @@
 -- `region::whole` meets its contract: its columns and rows are the map's.
 -- Assumes nothing.
 use mathlib.Core.Path.{refl}
-use native.Mathlib.Omega.{arith}
 use Rattle.grid.proofs.Regions.{whole-is}
 use Rattle.grid.proofs.region.whole.Statement.{statement}
 use Rattle.grid.proofs.region.whole.Tie as tie

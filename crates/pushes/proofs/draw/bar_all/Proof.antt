@@ -19,10 +19,10 @@ abbrev μ-loop : tie.MeasureT-loop
 μ-loop p v at f room₀ count u₀ room u = count - u
 
 loop-holds : tie.Need-loop-holds Inv-loop μ-loop
-loop-holds c = let a = (c .before .before) .args in (omega arith, adds-none (λ k h i. below-none (board (a .p .now)) (a .f) k h))
+loop-holds c = let a = c .before .before .args in (omega arith, adds-none (λ k h i. below-none (board (a .p .now)) (a .f) k h))
 
 bar-requires : tie.Need-bar-requires Inv-loop μ-loop
-bar-requires c κs = ((c .before .before .before .before .before) .pre .0, room-kept ((c .before .before .before .before .before) .pre .1) ((c .before .before .loop) .inv .1 .long))
+bar-requires c κs = (c .before .before .before .before .before .pre .0, room-kept (c .before .before .before .before .before .pre .1) (c .before .before .loop .inv .1 .long))
 
 add-u : tie.Need-add-u Inv-loop μ-loop
 add-u c = search needs
@@ -32,18 +32,18 @@ loop-less c = search needs
 
 loop-again : tie.Need-loop-again Inv-loop μ-loop
 loop-again c =
-    let a = (c .before .before .before .before .before .before .before .before) .args in (
+    let a = c .before .before .before .before .before .before .before .before .args in (
       omega arith,
-      adds-as (adds-also ((c .before .before .before .before .before .loop) .inv .1) ((c .before .before .bar) .ensures)) (λ k h i. below-step (board (a .p .now)) (a .f) ((c .before .before .before .before .before .loop) .u) k h),
+      adds-as (adds-also (c .before .before .before .before .before .loop .inv .1) (c .before .before .bar .ensures)) (λ k h i. below-step (board (a .p .now)) (a .f) (c .before .before .before .before .before .loop .u) k h),
     )
 
 same-length : tie.Need-same-length Inv-loop μ-loop
-same-length c = (c .before .loop) .inv .1 .long
+same-length c = c .before .loop .inv .1 .long
 
 returns : tie.Need-returns Inv-loop μ-loop
 returns c =
-    let a = (c .before .before .before .before) .args in
-    adds-as ((c .before .loop) .inv .1) (λ k h i. ap (λ (u : ℕ). barsBelow (board (a .p .now)) (a .f) u k h) (omega arith))
+    let a = c .before .before .before .before .args in
+    adds-as (c .before .loop .inv .1) (λ k h i. ap (λ (u : ℕ). barsBelow (board (a .p .now)) (a .f) u k h) (omega arith))
 
 pub bar-all-spec : {M : Type 1} → statement M
 bar-all-spec =

@@ -23,10 +23,10 @@ show-requires c κs =
     (outset .pre .0, round-room (outset .pre .1) (blank-long 182 (outset .pre .2)), blank-all 182 (outset .pre .2))
 
 loop-holds : tie.Need-loop-holds Inv-loop μ-loop
-loop-holds c = (omega arith, drawing-none ((c .before .room) .given ∙ blank-long 182 ((c .before .before .before .before .before .before) .pre .2)) ((c .before .before .show) .ensures))
+loop-holds c = (omega arith, drawing-none (c .before .room .given ∙ blank-long 182 (c .before .before .before .before .before .before .pre .2)) (c .before .before .show .ensures))
 
 slice-read-wide : tie.Need-slice-read-wide Inv-loop μ-loop
-slice-read-wide c = omega (arith, (c .before .before .loop) .inv .1 .long)
+slice-read-wide c = omega (arith, c .before .before .loop .inv .1 .long)
 
 wide-requires : tie.Need-wide-requires Inv-loop μ-loop
 wide-requires c κs = search needs
@@ -39,14 +39,14 @@ byte-for-requires c κs =
       outset .pre .0,
       r .ok,
       omega (arith, ap₂ (λ (m n : ℕ). m * n) (r .wide) (r .high)),
-      subst (ShownIn (board (a .p .now)) (a .f) (a .at) ((c .before .before .before .loop) .i)) (sym ((c .wide) .ensures .is)) (shown-in ((c .before .before .before .loop) .inv .1)),
+      subst (ShownIn (board (a .p .now)) (a .f) (a .at) (c .before .before .before .loop .i)) (sym (c .wide .ensures .is)) (shown-in (c .before .before .before .loop .inv .1)),
     )
 
 cast-room : tie.Need-cast-room Inv-loop μ-loop
-cast-room c = omega (arith, (c .byte-for) .ensures .1)
+cast-room c = omega (arith, c .byte-for .ensures .1)
 
 slice-write-room : tie.Need-slice-write-room Inv-loop μ-loop
-slice-write-room c = omega (arith, (c .before .before .before .before .loop) .inv .1 .long)
+slice-write-room c = omega (arith, c .before .before .before .before .loop .inv .1 .long)
 
 add-i : tie.Need-add-i Inv-loop μ-loop
 add-i c = search needs
@@ -55,15 +55,15 @@ loop-less : tie.Need-loop-less Inv-loop μ-loop
 loop-less c = search needs
 
 loop-again : tie.Need-loop-again Inv-loop μ-loop
-loop-again c = (omega arith, drawing-more ((c .before .before .before .before .loop) .inv .1) _ (omega arith) ((c .byte-for) .ensures .0))
+loop-again c = (omega arith, drawing-more (c .before .before .before .before .loop .inv .1) _ (omega arith) (c .byte-for .ensures .0))
 
 same-length : tie.Need-same-length Inv-loop μ-loop
-same-length c = omega (arith, (c .before .loop) .inv .1 .long, blank-long 182 ((c .before .before .before .before .before .before .before .before) .pre .2))
+same-length c = omega (arith, c .before .loop .inv .1 .long, blank-long 182 (c .before .before .before .before .before .before .before .before .pre .2))
 
 returns : tie.Need-returns Inv-loop μ-loop
 returns c =
-    let view = (c .before .before .before .before .before .before .before .before) .pre .0 .view in
-    drawn ((c .before .loop) .inv .1) (omega arith) (rw (view .width, view .height) at ((c .before .before .before .before .before .before .before .before) .pre .1))
+    let view = c .before .before .before .before .before .before .before .before .pre .0 .view in
+    drawn (c .before .loop .inv .1) (omega arith) (rw (view .width, view .height) at (c .before .before .before .before .before .before .before .before .pre .1))
 
 pub draw-spec : {M : Type 1} → statement M
 draw-spec =
