@@ -18,7 +18,7 @@ use Rattle.position.specs.Layout.{byte, hex}
 use Rattle.position.specs.Laid.{Laid}
 use Rattle.position.specs.Board.{Board, board, forceOf, enemy}
 use Rattle.position.specs.Ground.{beside, isAt}
-use Rattle.position.proofs.Tallies.{not-both, either, any-zero, any-step, any-same, any-never}
+use Rattle.position.proofs.Tallies.{either, any-zero, any-step, any-same, any-never}
 use Rattle.position.proofs.Sides.{is-at}
 use Rattle.position.proofs.Cells.{byte-empty}
 use Rattle.field.specs.Scene.{Scene, scene, forceIn}
