@@ -4,4 +4,5 @@ pub mod Sweeps
 pub mod Looks
 pub mod Goings
 pub mod Trails
+pub mod Joins
 pub mod Runs

@@ -17,38 +17,38 @@ use Rattle.position.specs.Ground as Ground
 use Rattle.position.specs.Ground.{blockedSide}
 use Rattle.position.proofs.Sides.{off-at, next-over, next-blocked, next-beside, beside-view, area-view}
 use Rattle.position.proofs.Tallies.{same-or}
-use Rattle.walk.specs.Trail.{Seen, Opens, Shut, First}
+use Rattle.walk.specs.Trail.{Opens, Shut, First}
 use Rattle.walk.proofs.Steps.{at-at}
 
--- in direction d of hex a: off the map, at a hex that is seen, over a blocked side, and else
-module _ (m : Map) (f : ℕ → ℕ) (a d : ℕ) where
-  pub shut-off : Ground.beside m a d ≡ Off → Shut (Ground.next m) f a d
+-- in direction d of hex a: off the map, over a blocked side, at a hex that is marked otherwise, and else
+module _ (m : Map) (f : ℕ → ℕ) (x a d : ℕ) where
+  pub shut-off : Ground.beside m a d ≡ Off → Shut (Ground.next m) f x a d
   shut-off e n q = off-at e (next-over m a d n q)
 
-  pub shut-blocked : Ground.side m a d ≡ blockedSide → Shut (Ground.next m) f a d
+  pub shut-blocked : Ground.side m a d ≡ blockedSide → Shut (Ground.next m) f x a d
   shut-blocked e n q = off-at (next-blocked m a d e) q
 
   module _ (b : ℕ) (e : Ground.beside m a d ≡ At b) where
-    pub shut-seen : Seen (f b) → Shut (Ground.next m) f a d
-    shut-seen s n q = subst (λ (k : ℕ). Seen (f k)) (at-at e (next-over m a d n q)) s
+    pub shut-other : (f b ≡ x → ⊥) → Shut (Ground.next m) f x a d
+    shut-other s n q = subst (λ (k : ℕ). f k ≡ x → ⊥) (at-at e (next-over m a d n q)) s
 
-    pub opens : (Ground.side m a d ≡ blockedSide → ⊥) → f b ≡ 1 → Opens (Ground.next m) f a d
-    opens u n = record { hex = b; fresh = record { there = next-beside m a d u ∙ e; new = n } }
+    pub opens : (Ground.side m a d ≡ blockedSide → ⊥) → f b ≡ x → Opens (Ground.next m) f x a d
+    opens u n = record { hex = b; leads = record { there = next-beside m a d u ∙ e; marked = n } }
 
 -- the first direction, from the last to the first
-module _ {next : ℕ → ℕ → Beside} {f : ℕ → ℕ} {a c : ℕ} where
-  pub first-none : First next f a c 6 6
+module _ {next : ℕ → ℕ → Beside} {f : ℕ → ℕ} {m a c : ℕ} where
+  pub first-none : First next f m a c 6 6
   first-none = record { most = omega arith; past = λ e p q r. absurd (omega arith); found = λ p. absurd (omega arith) }
 
-  pub first-here : (k : ℕ) → k < 6 → Opens next f a k → First next f a c k k
+  pub first-here : (k : ℕ) → k < 6 → Opens next f m a k → First next f m a c k k
   first-here k l o = record { most = omega arith; past = λ e p q r. absurd (omega arith); found = λ p. o }
 
-  pub first-on : (k : ℕ) {r : ℕ} → (c ≤ k → Shut next f a k) → First next f a c (suc k) r → First next f a c k r
+  pub first-on : (k : ℕ) {r : ℕ} → (c ≤ k → Shut next f m a k) → First next f m a c (suc k) r → First next f m a c k r
   first-on k s o =
       record {
         most = o .most;
         past = λ e p q l. same-or e k
-            (λ z. subst (Shut next f a) (sym z) (s (omega arith)))
+            (λ z. subst (Shut next f m a) (sym z) (s (omega arith)))
             (λ n. o .past e p (omega arith) l);
         found = o .found;
       }

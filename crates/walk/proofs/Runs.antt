@@ -1,26 +1,27 @@
--- Laws of the functions of the walk, over the list of the marks: what a step keeps and that it leaves less to do, the walk from one source,
+-- Laws of the functions of the walk, over the list of the marks: what a step keeps and that it leaves less to do, the walk from one hex,
 -- the walks from all, the last pass, and the whole.
 -- Assumes nothing.
 use Prim.Native.Nat.{ℕ, _+_, _-_, _%_, _≤_, _<_}
 use mathlib.Core.Path.{_≡_, refl, sym, _∙_, ap, subst}
 use mathlib.Core.Bool.{cond}
 use mathlib.Core.List.{List}
-use mathlib.Core.Logic.{inl, inr}
+use mathlib.Core.Logic.{_⊎_, inl, inr}
 use native.Mathlib.Omega.{arith}
 use lib.ListN.{length, set, length-set}
 use lib.Dec.{ltb}
-use borrow.Author.Count.{below-more}
 use borrow.Author.Tests.{lt-ltb, le-ltb}
 use Rattle.grid.specs.declared.Beside.{Beside}
 use Rattle.grid.specs.declared.Beside.the-variants.{At}
 use Rattle.position.proofs.Tallies.{same-or}
 use Rattle.walk.specs.Chain.{mark, Chain, OneIf, Reached}
 use Rattle.walk.specs.Chain.Chain.{source, beside}
-use Rattle.walk.specs.Trail.{enteredBy, Ready, Step, Last, Faith, Rest, Kept, Flooded, SourceFrom, Seeded, Done, Settled}
+use Rattle.walk.specs.Trail.{enteredBy, Ready, Step, Last, Faith, Rest, Kept, Flooded, Apart, Sown, Seeded, Done, Settled}
+use Rattle.walk.specs.Swept.{None, Joined, Swept, Walked}
 use Rattle.walk.specs.Trail.Step.{down, back}
 use Rattle.walk.proofs.Marks.{le-or, mark-set, mark-in, weigh, weigh-less}
 use Rattle.position.proofs.Sides.{off-at}
 use Rattle.walk.proofs.Steps.{TwoWay}
+use Rattle.walk.proofs.Joins.{swept-grades, swept-kept, swept-on, swept-back}
 use Rattle.walk.proofs.Trails.{all-shut, faith-upd, Way, way-start, way-down, way-back, way-over, complete}
 
 -- what is left to do at a hex, by its mark: to enter it, and to leave it
@@ -76,7 +77,7 @@ module _ {next home : ℕ → ℕ → Beside} (g : TwoWay next home) (l : List �
 
   pub step-kept : {out : List ℕ} {b e : ℕ} → Step next home l a c out b e → Kept next l out
   step-kept {b = b} (down d p w z e) =
-      let o = w .new in
+      let o = w .marked in
       kept-set l b (enteredBy d) e (mark-in l b (omega arith)) (omega arith)
       (λ f₀ t.
       let k : mark l b ≡ f₀ b = t .kept b (omega arith) in
@@ -85,9 +86,9 @@ module _ {next home : ℕ → ℕ → Beside} (g : TwoWay next home) (l : List �
 
   pub step-way : {out : List ℕ} {b e : ℕ} → Step next home l a c out b e → Way next home (mark out) b e
   step-way {out} {b} (down d p w z e) =
-      let o = w .new in
+      let o = w .marked in
       subst (Way next home (mark out) b) (sym z)
-      (way-down next home d y (mark-set l b (enteredBy d) e (mark-in l b (omega arith))) p (w .there) (under-six b d (w .there)) (w .new)
+      (way-down next home d y (mark-set l b (enteredBy d) e (mark-in l b (omega arith))) p (w .there) (under-six b d (w .there)) (w .marked)
       (g .over b ((d + 3) % 6) a (g .turn a d b (w .there))))
     where
       under-six : (b d : ℕ) → next a d ≡ At b → d < 6
@@ -104,7 +105,7 @@ module _ {next home : ℕ → ℕ → Beside} (g : TwoWay next home) (l : List �
 
   pub step-falls : {out : List ℕ} {b e : ℕ} → Step next home l a c out b e → weigh work out < weigh work l
   step-falls {b = b} (down d p w z e) =
-      let o = w .new in
+      let o = w .marked in
       weigh-less work l b (enteredBy d) e (mark-in l b (omega arith))
       (omega (arith, work-new (mark l b) (omega arith), work-entered (enteredBy d) (omega arith)))
   step-falls (back p h z e) =
@@ -113,8 +114,8 @@ module _ {next home : ℕ → ℕ → Beside} (g : TwoWay next home) (l : List �
       weigh-less work l a (mark l a + 7) e way-in
       (omega (arith, work-entered (mark l a) o, work-entered (mark l a + 7) (omega arith)))
 
--- a walk from one source
-module _ {next home : ℕ → ℕ → Beside} (g : TwoWay next home) (l : List ℕ) (i : ℕ) (two : mark l i ≡ 2) where
+-- a walk from an open hex that has a source beside it
+module _ {next home : ℕ → ℕ → Beside} (g : TwoWay next home) (l : List ℕ) (i : ℕ) (one : mark l i ≡ 1) where
   pub start-in : i < length l
   start-in = mark-in l i (omega arith)
 
@@ -123,99 +124,89 @@ module _ {next home : ℕ → ℕ → Beside} (g : TwoWay next home) (l : List �
 
   pub flooded :
       {buf out : List ℕ} {a c : ℕ}
+      → Joined next (mark l) i
       → Kept next (set l i 56) buf
       → Way next home (mark buf) a c
       → Last next home buf a c out
       → Flooded next l i out
-  flooded {buf} {out} {a} {c} k y s =
+  flooded {buf} {out} {a} {c} j k y s =
       let u = mark-set l i 56 refl start-in in
       let k′ = kept-trans k (last-kept g buf a c y s) in
+      let o = j .opens .leads in
+      let two = o .marked in
+      let b = j .opens .hex in
       let start : Kept next l (set l i 56) =
-      kept-set l i 56 refl start-in (omega arith) (λ f₀ t. let z : mark l i ≡ f₀ i = t .kept i (omega arith) in source (omega arith)) in
+      kept-set l i 56 refl start-in (omega arith)
+      (λ f₀ t.
+      let z : mark l i ≡ f₀ i = t .kept i (omega arith) in
+      let x : mark l b ≡ f₀ b = t .kept b (omega arith) in
+      beside (j .dir) (omega arith) (o .there) (source (omega arith))) in
       record {
         kept = kept-trans start k′;
         rest = last-rest g buf a c y s;
         start = le-or 8 (mark out i) (λ p. p) (λ p. let z = u .at in absurd (omega (arith, k′ .grown i p)));
       }
 
--- the walks from the sources below hex i
-pub record Seeding (next : ℕ → ℕ → Beside) (l : List ℕ) (i : ℕ) (buf : List ℕ) : Type 0 where
-  pub kept : Kept next l buf
-  pub rest : Rest next (mark buf)
-  pub none : (k : ℕ) → k < i → mark buf k ≡ 2 → ⊥
-  pub most : i ≤ length buf
+-- the walks from the hexes from a up to b
+module _ {next : ℕ → ℕ → Beside} where
+  -- marks that a run of steps leaves below 8 are those that were
+  apart-kept : {l out : List ℕ} → Kept next l out → (k : ℕ) → Apart next (mark l) k → Apart next (mark out) k
+  apart-kept {l} {out} t k n e d b x y = n (sym (t .grown k (omega arith)) ∙ e) d b x (sym (t .grown b (omega arith)) ∙ y)
 
--- the same, and hex i is a source itself, if any is left
-pub record Sowing (next : ℕ → ℕ → Beside) (l : List ℕ) (i : ℕ) (buf : List ℕ) : Type 0 where
-  pub past : Seeding next l i buf
-  pub there : i < length buf → mark buf i ≡ 2
+  pub sown-none : {l : List ℕ} {a b : ℕ} → Rest next (mark l) → ((k : ℕ) → a ≤ k → k < b → Apart next (mark l) k) → Sown next l a b l
+  sown-none {l} y n = record { kept = kept-refl l; rest = y; none = n }
 
--- no source is left below hex i of the marks f
-pub record Sought (f : ℕ → ℕ) (a n i : ℕ) : Type 0 where
-  pub after : a ≤ i
-  pub most : i ≤ n
-  pub none : (k : ℕ) → a ≤ k → k < i → f k ≡ 2 → ⊥
+  pub sown-one : {l : List ℕ} {a : ℕ} → Rest next (mark l) → Apart next (mark l) a → Sown next l a (a + 1) l
+  sown-one {l} {a} y n = sown-none y (λ k p q. subst (Apart next (mark l)) (omega arith) n)
 
-module _ {f : ℕ → ℕ} {a n : ℕ} where
-  pub sought-none : a ≤ n → Sought f a n a
-  sought-none p = record { after = omega arith; most = p; none = λ k q r. absurd (omega arith) }
-
-  pub sought-pass : {i : ℕ} → Sought f a n i → i < n → (f i ≡ 2 → ⊥) → Sought f a n (i + 1)
-  sought-pass {i} s p m =
+  pub sown-flood : {l out : List ℕ} {a : ℕ} → Flooded next l a out → Sown next l a (a + 1) out
+  sown-flood {out = out} {a = a} f =
       record {
-        after = omega (arith, s .after);
-        most = omega arith;
-        none = λ k q r c. same-or k i (λ e. m (ap f (sym e) ∙ c)) (λ d. s .none k q (omega arith) c);
+        kept = f .kept;
+        rest = f .rest;
+        none = λ k p q e. let z : k ≡ a = omega arith in absurd (omega (arith, ap (mark out) z, f .start));
       }
 
-  pub sought-found : {i : ℕ} → Sought f a n i → f i ≡ 2 → SourceFrom f a n i
-  sought-found s e = record { after = s .after; most = s .most; none = s .none; there = λ p. e }
+  pub sown-on :
+      {l buf out : List ℕ} {a b b′ c c′ : ℕ}
+      → b′ ≤ b
+      → c ≤ c′
+      → Sown next l a b buf
+      → Sown next buf b′ c′ out
+      → Sown next l a c out
+  sown-on {b = b} p q s t =
+      record {
+        kept = kept-trans (s .kept) (t .kept);
+        rest = t .rest;
+        none = λ k x y. le-or b k (λ z. t .none k (omega arith) (omega arith)) (λ z. apart-kept (t .kept) k (s .none k x z));
+      }
 
-  pub sought-all : {i : ℕ} → Sought f a n i → n ≤ i → SourceFrom f a n i
-  sought-all s p = record { after = s .after; most = s .most; none = s .none; there = λ q. absurd (omega arith) }
+  pub sown-less : {l out : List ℕ} {a b c : ℕ} → c ≤ b → Sown next l a b out → Sown next l a c out
+  sown-less p s = record { kept = s .kept; rest = s .rest; none = λ k x y. s .none k x (omega arith) }
 
-module _ {next : ℕ → ℕ → Beside} {l : List ℕ} where
-  pub seed-none : Rest next (mark l) → Seeding next l 0 l
-  seed-none c = record { kept = kept-refl l; rest = c; none = λ k p. absurd (omega arith); most = omega arith }
-
-  -- hex r is the next source
-  pub seed-from : {i r : ℕ} {buf out : List ℕ} → out ≡ buf → Seeding next l i buf → SourceFrom (mark buf) i (length buf) r → Sowing next l r out
-  seed-from {i} {r} {buf} e s f =
-      rw e
-      (record {
-        past = record {
-          kept = s .kept;
-          rest = s .rest;
-          none = λ k q c. le-or i k (λ p. f .none k p q c) (λ p. s .none k p c);
-          most = f .most;
-        };
-        there = f .there;
-      })
-
-  pub seed-turn :
-      {i : ℕ} {buf out out′ : List ℕ}
-      → out′ ≡ out
-      → i < length buf
-      → Seeding next l i buf
-      → Flooded next buf i out
-      → Seeding next l (i + 1) out′
-  seed-turn {i} {buf} {out} e p s f =
-      rw e
-      (record {
-        kept = kept-trans (s .kept) (f .kept);
-        rest = f .rest;
-        none = below-more (λ k. mark out k ≡ 2 → ⊥) i
-            (λ k q c. s .none k q (omega (arith, f .kept .grown k (omega arith))))
-            (λ c. absurd (omega (arith, f .start)));
-        most = omega (arith, f .kept .same);
-      })
-
-  pub seed-all : {i : ℕ} {buf : List ℕ} → length buf ≤ i → Seeding next l i buf → Seeded next l buf
-  seed-all {i} {buf} p s =
+  pub sown-all : {l out : List ℕ} (n : ℕ) → length l ≤ n → Sown next l 0 n out → Seeded next l out
+  sown-all {out = out} n p s =
       record {
         kept = s .kept;
         rest = s .rest;
-        none = λ k e. s .none k (omega (arith, mark-in buf k (omega arith))) e;
+        none = λ k e. s .none k (omega arith) (omega (arith, s .kept .same, mark-in out k (omega arith))) e;
+      }
+
+  -- where there is no source, and where there is no open hex but sources, there is nothing to walk from
+  pub seeded-sourceless : {l : List ℕ} {n : ℕ} → Rest next (mark l) → length l ≡ n → None (mark l) 0 n 2 → Seeded next l l
+  seeded-sourceless {l} y e s =
+      record {
+        kept = kept-refl l;
+        rest = y;
+        none = λ k o d b x t. s b (omega arith) (omega (arith, mark-in l b (omega arith))) t;
+      }
+
+  pub seeded-full : {l : List ℕ} {n : ℕ} → Rest next (mark l) → length l ≡ n → None (mark l) 0 n 1 → Seeded next l l
+  seeded-full {l} y e s =
+      record {
+        kept = kept-refl l;
+        rest = y;
+        none = λ k o. absurd (s k (omega arith) (omega (arith, mark-in l k (omega arith))) o);
       }
 
 -- the last pass, up to hex i
@@ -251,24 +242,47 @@ pub settle-all : {l out : List ℕ} {i : ℕ} → length out ≤ i → Settling 
 settle-all p s = record { same = s .same; each = λ k q. s .done k (omega (arith, s .same)) }
 
 -- the whole, from grades
-module _ {next : ℕ → ℕ → Beside} (l : List ℕ) (grades : (k : ℕ) → mark l k ≤ 2) where
-  pub graded-rest : Rest next (mark l)
-  graded-rest =
-      record {
-        looked = λ k d p q. absurd (omega (arith, grades k));
-        over = λ k p. absurd (omega (arith, grades k));
-      }
+pub graded-rest : {next : ℕ → ℕ → Beside} (l : List ℕ) → ((k : ℕ) → mark l k ≤ 2) → Rest next (mark l)
+graded-rest l grades =
+    record {
+      looked = λ k d p q. absurd (omega (arith, grades k));
+      over = λ k p. absurd (omega (arith, grades k));
+    }
 
-  pub walked : {home : ℕ → ℕ → Beside} {buf out : List ℕ} → TwoWay next home → Seeded next l buf → Settled buf out → Reached next l out
-  walked {home} {buf} {out} g s t =
+module _ {next home : ℕ → ℕ → Beside} (g : TwoWay next home) {l mid : List ℕ} (grades : (k : ℕ) → mark l k ≤ 2) (w : Swept next l mid) where
+  -- sweeps, and then walks
+  pub walked : {out : List ℕ} → Seeded next mid out → Walked next l out
+  walked {out} s =
       record {
-        same = t .same ∙ s .kept .same;
-        each = λ k p. each k (t .each k (omega (arith, s .kept .same)));
+        same = s .kept .same ∙ w .same;
+        each = λ k. le-or 2 (mark out k)
+            (λ p. inl (p, sound k p))
+            (λ p. inr (p, λ y. absurd (omega (arith, complete g (swept-grades w grades) faith (s .rest) (s .none) (swept-on w y)))));
+        kept = λ k p. s .kept .grown k (omega arith) ∙ swept-kept w k (omega (arith, s .kept .grown k (omega arith)));
       }
     where
-      faith : Faith next (mark l) (mark buf)
-      faith = s .kept .faith (mark l) (record { kept = λ k p. refl; sound = λ k p. absurd (omega (arith, grades k)) })
+      faith : Faith next (mark mid) (mark out)
+      faith =
+          s .kept .faith (mark mid)
+          (record { kept = λ k p. refl; sound = λ k p. absurd (omega (arith, swept-grades w grades k)) })
 
-      each : (k : ℕ) → Done (mark buf k) (mark out k) → OneIf (Chain next (mark l) k) (mark out k)
-      each k (inl d) = inl (d .1, faith .sound k (d .0))
-      each k (inr d) = inr (d .1, λ y. let x = d .0 in absurd (omega (arith, complete g grades faith (s .rest) (s .none) y)))
+      sound : (k : ℕ) → 2 ≤ mark out k → Chain next (mark l) k
+      sound k p =
+          le-or 8 (mark out k)
+          (λ q. swept-back w (faith .sound k q))
+          (λ q. w .sound k (omega (arith, faith .kept k q, swept-grades w grades k)))
+
+-- and the marks settled
+pub reached : {next : ℕ → ℕ → Beside} {l mid out : List ℕ} → Walked next l mid → Settled mid out → Reached next l out
+reached {next} {l} {mid} {out} w t =
+    record { same = t .same ∙ w .same; each = λ k p. each k (w .each k) (t .each k (omega (arith, w .same))) }
+  where
+    each :
+        (k : ℕ)
+        → ((2 ≤ mark mid k) × Chain next (mark l) k) ⊎ ((mark mid k < 2) × (Chain next (mark l) k → ⊥))
+        → Done (mark mid k) (mark out k)
+        → OneIf (Chain next (mark l) k) (mark out k)
+    each k (inl c) (inl d) = inl (d .1, c .1)
+    each k (inl c) (inr d) = let x = c .0 in let y = d .0 in absurd (omega arith)
+    each k (inr c) (inl d) = let x = c .0 in let y = d .0 in absurd (omega arith)
+    each k (inr c) (inr d) = inr (d .1, c .1)

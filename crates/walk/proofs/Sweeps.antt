@@ -29,7 +29,7 @@ found l (At b) e = record { hex = b; there = refl; from = eqb-true (mark l b) 2 
 found l Off e = not-both false e refl
 
 -- chains under other grades
-chain-by :
+pub chain-by :
     {next : ℕ → ℕ → Beside} {f g : ℕ → ℕ}
     → ((k : ℕ) → 0 < f k → 0 < g k)
     → ((k : ℕ) → f k ≡ 2 → Chain next g k)

@@ -10,7 +10,7 @@ use Rattle.grid.specs.declared.Beside.the-variants.{At, Off}
 use Rattle.position.proofs.Tallies.{same-or}
 use Rattle.walk.specs.Chain.{Chain}
 use Rattle.walk.specs.Chain.Chain.{source, beside}
-use Rattle.walk.specs.Trail.{enteredBy, afterHome, Seen, Shut, First, Faith, Looked, Rest}
+use Rattle.walk.specs.Trail.{enteredBy, afterHome, Shut, First, Faith, Looked, Rest, Apart}
 use Rattle.walk.proofs.Marks.{le-or, Upd}
 use Rattle.position.proofs.Sides.{off-at}
 use Rattle.walk.proofs.Steps.{at-at, TwoWay}
@@ -25,15 +25,15 @@ none m = elim m [ ]
 
 -- the walk is done with the directions of hex a that are below c: no step in one of them enters a hex
 abbrev pub Below : (ℕ → ℕ → Beside) → (ℕ → ℕ) → ℕ → ℕ → Type 0
-Below next f a c = (d : ℕ) → d < c → Shut next f a d
+Below next f a c = (d : ℕ) → d < c → Shut next f 1 a d
 
--- and with all of them
+-- with those below c and with those from c on it is done with all of them
 pub all-shut :
-    {next home : ℕ → ℕ → Beside} {f : ℕ → ℕ} {a c : ℕ}
+    {next home : ℕ → ℕ → Beside} {f : ℕ → ℕ} {m a c : ℕ}
     → TwoWay next home
-    → Below next f a c
-    → First next f a c 0 6
-    → (d : ℕ) → Shut next f a d
+    → ((d : ℕ) → d < c → Shut next f m a d)
+    → First next f m a c 0 6
+    → (d : ℕ) → Shut next f m a d
 all-shut {a = a} {c = c} g y o d =
     le-or (d + 1) c
     (λ p. y d (omega arith))
@@ -41,14 +41,11 @@ all-shut {a = a} {c = c} g y o d =
 
 -- one mark is written, which is then that of an entered hex
 module _ (next : ℕ → ℕ → Beside) {f f′ : ℕ → ℕ} {i v : ℕ} (u : Upd f i v f′) (big : 8 ≤ v) where
-  seen-upd : (k : ℕ) → Seen (f k) → Seen (f′ k)
-  seen-upd k s p =
-      same-or k i
-      (λ e. let z = ap f′ e ∙ u .at in absurd (omega arith))
-      (λ n. s (sym (u .off k n) ∙ p))
-
-  shut-upd : (a d : ℕ) → Shut next f a d → Shut next f′ a d
-  shut-upd a d s n e = seen-upd n (s n e)
+  shut-upd : (a d : ℕ) → Shut next f 1 a d → Shut next f′ 1 a d
+  shut-upd a d s n e p =
+      same-or n i
+      (λ c. let z = ap f′ c ∙ u .at in absurd (omega arith))
+      (λ c. s n e (sym (u .off n c) ∙ p))
 
   pub faith-upd : {f₀ : ℕ → ℕ} → Faith next f₀ f → Chain next f₀ i → Faith next f₀ f′
   faith-upd {f₀} t s =
@@ -61,11 +58,11 @@ module _ (next : ℕ → ℕ → Beside) {f f′ : ℕ → ℕ} {i v : ℕ} (u :
             (λ n. let z = u .off k n in t .sound k (omega arith));
       }
 
-  looked-upd : Looked next f → (v % 8 ≡ 7 → (d : ℕ) → Shut next f i d) → Looked next f′
+  looked-upd : Looked next f → (v % 8 ≡ 7 → (d : ℕ) → Shut next f 1 i d) → Looked next f′
   looked-upd l new k d q r =
       shut-upd k d
       (same-or k i
-      (λ c. let z = ap f′ c ∙ u .at in subst (λ (n : ℕ). Shut next f n d) (sym c) (new (omega arith) d))
+      (λ c. let z = ap f′ c ∙ u .at in subst (λ (n : ℕ). Shut next f 1 n d) (sym c) (new (omega arith) d))
       (λ n. let z = u .off k n in l k d (omega arith) (omega arith)))
 
 module _ (next home : ℕ → ℕ → Beside) where
@@ -99,7 +96,7 @@ module _ (next home : ℕ → ℕ → Beside) where
       → Trail f a s
       → f′ a / 8 ≡ f a / 8
       → ((k : ℕ) → Mem k s → f′ k ≡ f k)
-      → ((k d : ℕ) → Shut next f k d → Shut next f′ k d)
+      → ((k d : ℕ) → Shut next f 1 k d → Shut next f′ 1 k d)
       → Trail f′ a s
   trail-kept (first {a = a} e) q m t = first (ap (λ (n : ℕ). home a (n - 1)) q ∙ e)
   trail-kept {f′ = f′} (from {a = a} {b = b} e n p o w r) q m t =
@@ -113,7 +110,7 @@ module _ (next home : ℕ → ℕ → Beside) where
   trail-in (from e n p o w r) k (there m) = trail-in r k m
 
   -- the walk leaves hex a
-  module _ {f f′ : ℕ → ℕ} {a c : ℕ} (y : Way f a c) (u : Upd f a (f a + 7) f′) (shut : (d : ℕ) → Shut next f a d) where
+  module _ {f f′ : ℕ → ℕ} {a c : ℕ} (y : Way f a c) (u : Upd f a (f a + 7) f′) (shut : (d : ℕ) → Shut next f 1 a d) where
     entered : 8 ≤ f a
     entered = y .entered
 
@@ -171,7 +168,7 @@ module _ (next home : ℕ → ℕ → Beside) where
       {f f′ : ℕ → ℕ} {a c v : ℕ} (d : ℕ)
       → Way f a c
       → Upd f v (enteredBy d) f′
-      → First next f a c 0 d
+      → First next f 1 a c 0 d
       → next a d ≡ At v
       → d < 6
       → f v ≡ 1
@@ -208,10 +205,10 @@ module _ (next home : ℕ → ℕ → Beside) where
       not-back n m (there t) = m t
 
       -- the directions before d are done with, and in d lies v, which is entered now
-      before : (j : ℕ) → j < d → Shut next f a j
+      before : (j : ℕ) → j < d → Shut next f 1 a j
       before j l = le-or (j + 1) c (λ r. y .below j (omega arith)) (λ r. p .past j (omega arith) (omega arith) l)
 
-      here-seen : (j : ℕ) → j ≡ d → f′ v ≡ enteredBy d → Shut next f′ a j
+      here-seen : (j : ℕ) → j ≡ d → f′ v ≡ enteredBy d → Shut next f′ 1 a j
       here-seen j r i k z s = let g = ap f′ (at-at x (ap (next a) (sym r) ∙ z)) in absurd (omega arith)
 
 module _ {next home : ℕ → ℕ → Beside} (g : TwoWay next home) where
@@ -229,20 +226,24 @@ module _ {next home : ℕ → ℕ → Beside} (g : TwoWay next home) where
         under = λ k q r. same-or k a here (λ n. let x = u .off k n in absurd (omega (arith, y .over k (omega arith))));
       }
 
-  -- where no walk is under way and no source is left, every supplied hex was entered
+  -- where no walk is under way and no open hex has a source beside it, every supplied hex is a source or was entered
   pub complete :
       {f₀ f : ℕ → ℕ}
       → ((k : ℕ) → f₀ k ≤ 2)
       → Faith next f₀ f
       → Rest next f
-      → ((k : ℕ) → f k ≡ 2 → ⊥)
-      → {a : ℕ} → Chain next f₀ a → 8 ≤ f a
-  complete {f = f} most t y none (source {a = a} e) = le-or 8 (f a) (λ p. p) (λ p. absurd (none a (t .kept a p ∙ e)))
+      → ((k : ℕ) → Apart next f k)
+      → {a : ℕ} → Chain next f₀ a → 2 ≤ f a
+  complete {f = f} most t y none (source {a = a} e) = le-or 8 (f a) (λ p. omega arith) (λ p. omega (arith, t .kept a p))
   complete {f = f} most t y none (beside {a = a} {b = b} d p e s) =
-      let ih : 8 ≤ f b = complete most t y none s in
-      let seen = y .looked b ((d + 3) % 6) ih (y .over b ih) a (g .turn a d b e) in
-      le-or 8 (f a) (λ r. r)
+      le-or 2 (f a) (λ q. q)
+      (λ q.
+      let z = t .kept a (omega arith) in
+      let one : f a ≡ 1 = omega arith in
+      le-or 8 (f b)
+      (λ r. absurd (y .looked b ((d + 3) % 6) r (y .over b r) a (g .turn a d b e) one))
       (λ r.
-      let z = t .kept a r in
-      let m = most a in
-      le-or (f a) 1 (λ q. absurd (seen (omega arith))) (λ q. absurd (none a (omega arith))))
+      let x = t .kept b r in
+      let m = most b in
+      let ih : 2 ≤ f b = complete most t y none s in
+      absurd (none a one d b e (omega arith))))

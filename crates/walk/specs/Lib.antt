@@ -1,4 +1,5 @@
 pub mod Chain
 pub mod Sweep
 pub mod Trail
+pub mod Swept
 pub mod Examples

@@ -27,32 +27,28 @@ enteredBy d = 8 * ((d + 3) % 6 + 1)
 abbrev pub afterHome : ℕ → ℕ
 afterHome d = (d + 3) % 6 + 1
 
--- a mark that asks for nothing more: any but that of an open hex that was not entered. A source is entered by the walk that starts there.
-abbrev pub Seen : ℕ → Type 0
-Seen m = m ≡ 1 → ⊥
-
--- the step from hex a in direction d leads to hex n, which is open and was not entered
-pub record Fresh (next : ℕ → ℕ → Beside) (f : ℕ → ℕ) (a d n : ℕ) : Type 0 where
+-- the step from hex a in direction d leads to hex n, which is marked m: 1 an open hex that was not entered, 2 a source
+pub record Leads (next : ℕ → ℕ → Beside) (f : ℕ → ℕ) (m a d n : ℕ) : Type 0 where
   pub there : next a d ≡ At n
-  pub new : f n ≡ 1
+  pub marked : f n ≡ m
 
--- it leads to such a hex, and to none
-pub record Opens (next : ℕ → ℕ → Beside) (f : ℕ → ℕ) (a d : ℕ) : Type 0 where
+-- it leads to a hex that is so marked, and to none
+pub record Opens (next : ℕ → ℕ → Beside) (f : ℕ → ℕ) (m a d : ℕ) : Type 0 where
   pub hex : ℕ
-  pub fresh : Fresh next f a d hex
+  pub leads : Leads next f m a d hex
 
-abbrev pub Shut : (ℕ → ℕ → Beside) → (ℕ → ℕ) → ℕ → ℕ → Type 0
-Shut next f a d = (n : ℕ) → next a d ≡ At n → Seen (f n)
+abbrev pub Shut : (ℕ → ℕ → Beside) → (ℕ → ℕ) → ℕ → ℕ → ℕ → Type 0
+Shut next f m a d = (n : ℕ) → next a d ≡ At n → f n ≡ m → ⊥
 
-abbrev pub FreshOf : (ℕ → ℕ → Beside) → (ℕ → ℕ) → ℕ → ℕ → Bool → Type 0
-FreshOf next f a d true = Opens next f a d
-FreshOf next f a d false = Shut next f a d
+abbrev pub LeadsOf : (ℕ → ℕ → Beside) → (ℕ → ℕ) → ℕ → ℕ → ℕ → Bool → Type 0
+LeadsOf next f m a d true = Opens next f m a d
+LeadsOf next f m a d false = Shut next f m a d
 
--- d is the first direction, neither below c nor below k, in which a step from hex a enters a hex; 6 if there is none
-pub record First (next : ℕ → ℕ → Beside) (f : ℕ → ℕ) (a c k d : ℕ) : Type 0 where
+-- d is the first direction, neither below c nor below k, in which a step from hex a leads to a hex marked m; 6 if there is none
+pub record First (next : ℕ → ℕ → Beside) (f : ℕ → ℕ) (m a c k d : ℕ) : Type 0 where
   pub most : d ≤ 6
-  pub past : (e : ℕ) → c ≤ e → k ≤ e → e < d → Shut next f a e
-  pub found : d < 6 → Opens next f a d
+  pub past : (e : ℕ) → c ≤ e → k ≤ e → e < d → Shut next f m a e
+  pub found : d < 6 → Opens next f m a d
 
 -- what a step asks for: a hex that was entered and not left
 pub record Ready (l : List ℕ) (a : ℕ) : Type 0 where
@@ -79,13 +75,13 @@ EnterOf w h l a d out Over = neighbourOf w h a d ≡ Off
 pub data Step (next home : ℕ → ℕ → Beside) (l : List ℕ) (a c : ℕ) (out : List ℕ) (b e : ℕ) : Type 0 where
   down :
       (d : ℕ)
-      → First next (mark l) a c 0 d
-      → Fresh next (mark l) a d b
+      → First next (mark l) 1 a c 0 d
+      → Leads next (mark l) 1 a d b
       → e ≡ 0
       → out ≡ set l b (enteredBy d)
       → Step next home l a c out b e
   back :
-      First next (mark l) a c 0 6
+      First next (mark l) 1 a c 0 6
       → home a (mark l a / 8 - 1) ≡ At b
       → e ≡ afterHome (mark l a / 8 - 1)
       → out ≡ set l a (mark l a + 7)
@@ -93,7 +89,7 @@ pub data Step (next home : ℕ → ℕ → Beside) (l : List ℕ) (a c : ℕ) (o
 
 -- and the last one
 pub record Last (next home : ℕ → ℕ → Beside) (l : List ℕ) (a c : ℕ) (out : List ℕ) : Type 0 where
-  pub none : First next (mark l) a c 0 6
+  pub none : First next (mark l) 1 a c 0 6
   pub nowhere : home a (mark l a / 8 - 1) ≡ Off
   pub left : out ≡ set l a (mark l a + 7)
 
@@ -108,7 +104,7 @@ pub record Faith (next : ℕ → ℕ → Beside) (f₀ f : ℕ → ℕ) : Type 0
 
 -- of each hex that was left, no step enters a hex any more
 abbrev pub Looked : (ℕ → ℕ → Beside) → (ℕ → ℕ) → Type 0
-Looked next f = (k d : ℕ) → 8 ≤ f k → f k % 8 ≡ 7 → Shut next f k d
+Looked next f = (k d : ℕ) → 8 ≤ f k → f k % 8 ≡ 7 → Shut next f 1 k d
 
 -- no walk is under way: each hex that was entered was left
 pub record Rest (next : ℕ → ℕ → Beside) (f : ℕ → ℕ) : Type 0 where
@@ -121,28 +117,31 @@ pub record Kept (next : ℕ → ℕ → Beside) (l out : List ℕ) : Type 0 wher
   pub grown : (k : ℕ) → mark out k < 8 → mark out k ≡ mark l k
   pub faith : (f₀ : ℕ → ℕ) → Faith next f₀ (mark l) → Faith next f₀ (mark out)
 
--- what a walk from the source a leaves
+-- what a walk from hex a leaves
 pub record Flooded (next : ℕ → ℕ → Beside) (l : List ℕ) (a : ℕ) (out : List ℕ) : Type 0 where
   pub kept : Kept next l out
   pub rest : Rest next (mark out)
   pub start : 8 ≤ mark out a
 
--- hex r is the first source from hex a on; it is n, the number of hexes, where none is left
-pub record SourceFrom (f : ℕ → ℕ) (a n r : ℕ) : Type 0 where
-  pub after : a ≤ r
-  pub most : r ≤ n
-  pub none : (k : ℕ) → a ≤ k → k < r → f k ≡ 2 → ⊥
-  pub there : r < n → f r ≡ 2
+-- hex k has no source beside it, or it is closed or supplied already
+abbrev pub Apart : (ℕ → ℕ → Beside) → (ℕ → ℕ) → ℕ → Type 0
+Apart next f k = f k ≡ 1 → (d : ℕ) → Shut next f 2 k d
 
--- what the walks from all sources leave
+-- what the walks from the hexes from a up to b leave
+pub record Sown (next : ℕ → ℕ → Beside) (l : List ℕ) (a b : ℕ) (out : List ℕ) : Type 0 where
+  pub kept : Kept next l out
+  pub rest : Rest next (mark out)
+  pub none : (k : ℕ) → a ≤ k → k < b → Apart next (mark out) k
+
+-- what the walks from all hexes leave
 pub record Seeded (next : ℕ → ℕ → Beside) (l out : List ℕ) : Type 0 where
   pub kept : Kept next l out
   pub rest : Rest next (mark out)
-  pub none : (k : ℕ) → mark out k ≡ 2 → ⊥
+  pub none : (k : ℕ) → Apart next (mark out) k
 
--- the last pass: 1 for a hex that was entered, 0 for another
+-- the last pass: 1 for a hex that is a source or was entered, 0 for another
 abbrev pub Done : ℕ → ℕ → Type 0
-Done m n = ((8 ≤ m) × (n ≡ 1)) ⊎ ((m < 8) × (n ≡ 0))
+Done m n = ((2 ≤ m) × (n ≡ 1)) ⊎ ((m < 2) × (n ≡ 0))
 
 pub record Settled (l out : List ℕ) : Type 0 where
   pub same : length out ≡ length l

@@ -76,7 +76,7 @@ pub fn step(p: &[u8], v: View, buf: &mut [u8], s: Spot, from: usize) -> Going
     ensures { λ r.
         ⌜ StepOf (v .width) (v .height) (next (ground (now (p .entry)))) (beside (ground (now (p .entry)))) (now (buf .entry)) (s .hex) from (now (buf .exit)) r ⌝ }
 {
-    let dir = look::look_0(p, v, buf, s, from);
+    let dir = look::look_0(p, v, buf, s, from, 1);
     if 6 <= dir {
         return leave(v, buf, s);
     }

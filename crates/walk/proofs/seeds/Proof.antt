@@ -1,49 +1,47 @@
--- `seeds` meets its contract. The invariant: what steps keep is kept, no walk is under way, no source is left below hex i, and hex i is one, if
--- any is left.
+-- `seeds` meets its contract. The invariant: the walks from the hexes of the rows before row `row`.
 -- Assumes nothing.
-use Prim.Native.Nat.{_-_}
-use mathlib.Core.Path.{refl, _∙_}
+use Prim.Native.Nat.{_-_, _*_}
+use mathlib.Core.Path.{_∙_}
 use native.Mathlib.Omega.{arith}
-use lib.ListN.{length}
 use borrow.Author.Needs.{needs}
 use Rattle.position.specs.Board.{ground}
 use Rattle.position.specs.Ground.{next}
-use Rattle.walk.proofs.Runs.{Sowing, seed-none, seed-from, seed-turn, seed-all}
+use Rattle.position.proofs.Sides.{area-view}
+use Rattle.walk.specs.Trail.{Sown}
+use Rattle.walk.proofs.Joins.{row-past, row-next}
+use Rattle.walk.proofs.Runs.{sown-none, sown-on, sown-all}
 use Rattle.walk.proofs.seeds.Statement.{statement}
 use Rattle.walk.proofs.seeds.Tie as tie
 
 abbrev Inv-loop : tie.InvT-loop
-Inv-loop p v buf₀ i₀ buf i = Sowing (next (ground p)) buf₀ i buf
+Inv-loop p v buf₀ h row₀ buf row = Sown (next (ground p)) buf₀ 0 (row * v .width) buf
 
 abbrev μ-loop : tie.MeasureT-loop
-μ-loop p v buf₀ i₀ buf i = length buf₀ - i
-
-source-requires : tie.Need-source-requires Inv-loop μ-loop
-source-requires c κs = search needs
+μ-loop p v buf₀ h row₀ buf row = h - row
 
 loop-holds : tie.Need-loop-holds Inv-loop μ-loop
-loop-holds c = seed-from refl (seed-none (c .before .before .before .before .pre .1 .1)) (c .source .ensures)
+loop-holds c = sown-none (c .before .before .pre .1) (λ k p q. absurd (omega arith))
 
-flood-requires : tie.Need-flood-requires Inv-loop μ-loop
-flood-requires c κs = (c .before .before .before .before .before .before .before .pre .0, (c .before .before .loop .inv .past .kept .same ∙ c .before .before .before .before .before .before .before .pre .1 .0, (c .before .before .loop .inv .past .rest, c .before .before .loop .inv .there (c .before .loop-test .taken))))
+seed-row-requires : tie.Need-seed-row-requires Inv-loop μ-loop
+seed-row-requires c κs = let s = c .before .before .before .before .before .pre .0 in ((s .0, c .before .before .loop .inv .kept .same ∙ s .1, c .before .loop-test .taken), c .before .before .loop .inv .rest)
 
-add-source : tie.Need-add-source Inv-loop μ-loop
-add-source c = search needs
-
-source-requires-2 : tie.Need-source-requires-2 Inv-loop μ-loop
-source-requires-2 c κs = omega (arith, c .before .before .before .flood .ensures .kept .same)
+add-row : tie.Need-add-row Inv-loop μ-loop
+add-row c = search needs
 
 loop-less : tie.Need-loop-less Inv-loop μ-loop
-loop-less c = omega (arith, c .source2 .ensures .after, c .before .before .before .before .before .before .before .loop .inv .past .kept .same)
+loop-less c = search needs
 
 loop-again : tie.Need-loop-again Inv-loop μ-loop
-loop-again c = seed-from refl (seed-turn refl (c .before .before .before .before .before .before .loop-test .taken) (c .before .before .before .before .before .before .before .loop .inv .past) (c .before .before .before .before .flood .ensures)) (c .source2 .ensures)
+loop-again c = let z = row-next (c .before .before .before .before .before .loop .row) (c .before .before .before .before .before .before .before .before .args .v .width) in sown-on (omega arith) (omega arith) (c .before .before .before .before .before .loop .inv) (c .before .before .seed-row .ensures)
 
 same-length : tie.Need-same-length Inv-loop μ-loop
-same-length c = c .before .loop .inv .past .kept .same
+same-length c = c .before .loop .inv .kept .same
 
 returns : tie.Need-returns Inv-loop μ-loop
-returns c = seed-all (c .loop-test .left) (c .before .loop .inv .past)
+returns c =
+    let s = c .before .before .before .before .pre .0 in
+    let z = row-past (c .before .before .before .before .args .v .width) (c .loop-test .left) in
+    sown-all _ (omega (arith, s .1, area-view (s .0 .view))) (c .before .loop .inv)
 
 pub seeds-spec : {M : Type 1} → statement M
 seeds-spec =
@@ -51,11 +49,9 @@ seeds-spec =
     (tie.spec
     Inv-loop
     μ-loop
-    source-requires
     loop-holds
-    flood-requires
-    add-source
-    source-requires-2
+    seed-row-requires
+    add-row
     loop-less
     loop-again
     same-length

@@ -1,4 +1,4 @@
--- `look_0` meets its contract: it is the first direction if a step enters a hex there, and else the first one after it is.
+-- `look_0` meets its contract: it is the first direction if a step leads to such a hex there, and else the first one after it is.
 -- Assumes nothing.
 use mathlib.Core.Logic.{⊎-elim}
 use native.Mathlib.Omega.{arith}
@@ -10,11 +10,11 @@ use Rattle.walk.proofs.look.look_0.Tie as tie
 north-requires : tie.Need-north-requires
 north-requires c κs = search needs
 
-fresh-requires : tie.Need-fresh-requires
-fresh-requires c κs = search needs
+leads-requires : tie.Need-leads-requires
+leads-requires c κs = search needs
 
 returns : tie.Need-returns
-returns c = first-here 0 (omega arith) (rw (c .if2 .taken) at (c .before .fresh .ensures))
+returns c = first-here 0 (omega arith) (rw (c .if2 .taken) at (c .before .leads .ensures))
 
 look-1-requires : tie.Need-look-1-requires
 look-1-requires c κs = search needs
@@ -26,4 +26,4 @@ returns-2 c =
     (c .look-1 .ensures)
 
 pub look-0-spec : {M : Type 1} → statement M
-look-0-spec = tie.close (tie.spec north-requires fresh-requires returns look-1-requires returns-2)
+look-0-spec = tie.close (tie.spec north-requires leads-requires returns look-1-requires returns-2)

@@ -1,4 +1,4 @@
--- `look_1` meets its contract: it is the first direction if a step enters a hex there, and else the first one after it is.
+-- `look_1` meets its contract: it is the first direction if a step leads to such a hex there, and else the first one after it is.
 -- Assumes nothing.
 use mathlib.Core.Logic.{⊎-elim}
 use native.Mathlib.Omega.{arith}
@@ -10,11 +10,11 @@ use Rattle.walk.proofs.look.look_1.Tie as tie
 north-east-requires : tie.Need-north-east-requires
 north-east-requires c κs = search needs
 
-fresh-requires : tie.Need-fresh-requires
-fresh-requires c κs = search needs
+leads-requires : tie.Need-leads-requires
+leads-requires c κs = search needs
 
 returns : tie.Need-returns
-returns c = first-here 1 (omega arith) (rw (c .if2 .taken) at (c .before .fresh .ensures))
+returns c = first-here 1 (omega arith) (rw (c .if2 .taken) at (c .before .leads .ensures))
 
 look-2-requires : tie.Need-look-2-requires
 look-2-requires c κs = search needs
@@ -27,4 +27,4 @@ returns-2 c =
 
 pub look-1-spec : {M : Type 1} → statement M
 look-1-spec =
-    tie.close (tie.spec north-east-requires fresh-requires returns look-2-requires returns-2)
+    tie.close (tie.spec north-east-requires leads-requires returns look-2-requires returns-2)

@@ -1,4 +1,4 @@
--- `look_3` meets its contract: it is the first direction if a step enters a hex there, and else the first one after it is.
+-- `look_3` meets its contract: it is the first direction if a step leads to such a hex there, and else the first one after it is.
 -- Assumes nothing.
 use mathlib.Core.Logic.{⊎-elim}
 use native.Mathlib.Omega.{arith}
@@ -10,11 +10,11 @@ use Rattle.walk.proofs.look.look_3.Tie as tie
 south-requires : tie.Need-south-requires
 south-requires c κs = search needs
 
-fresh-requires : tie.Need-fresh-requires
-fresh-requires c κs = search needs
+leads-requires : tie.Need-leads-requires
+leads-requires c κs = search needs
 
 returns : tie.Need-returns
-returns c = first-here 3 (omega arith) (rw (c .if2 .taken) at (c .before .fresh .ensures))
+returns c = first-here 3 (omega arith) (rw (c .if2 .taken) at (c .before .leads .ensures))
 
 look-4-requires : tie.Need-look-4-requires
 look-4-requires c κs = search needs
@@ -26,4 +26,4 @@ returns-2 c =
     (c .look-4 .ensures)
 
 pub look-3-spec : {M : Type 1} → statement M
-look-3-spec = tie.close (tie.spec south-requires fresh-requires returns look-4-requires returns-2)
+look-3-spec = tie.close (tie.spec south-requires leads-requires returns look-4-requires returns-2)

@@ -1,4 +1,4 @@
--- `look_4` meets its contract: it is the first direction if a step enters a hex there, and else the first one after it is.
+-- `look_4` meets its contract: it is the first direction if a step leads to such a hex there, and else the first one after it is.
 -- Assumes nothing.
 use mathlib.Core.Logic.{⊎-elim}
 use native.Mathlib.Omega.{arith}
@@ -10,11 +10,11 @@ use Rattle.walk.proofs.look.look_4.Tie as tie
 south-west-requires : tie.Need-south-west-requires
 south-west-requires c κs = search needs
 
-fresh-requires : tie.Need-fresh-requires
-fresh-requires c κs = search needs
+leads-requires : tie.Need-leads-requires
+leads-requires c κs = search needs
 
 returns : tie.Need-returns
-returns c = first-here 4 (omega arith) (rw (c .if2 .taken) at (c .before .fresh .ensures))
+returns c = first-here 4 (omega arith) (rw (c .if2 .taken) at (c .before .leads .ensures))
 
 look-5-requires : tie.Need-look-5-requires
 look-5-requires c κs = search needs
@@ -27,4 +27,4 @@ returns-2 c =
 
 pub look-4-spec : {M : Type 1} → statement M
 look-4-spec =
-    tie.close (tie.spec south-west-requires fresh-requires returns look-5-requires returns-2)
+    tie.close (tie.spec south-west-requires leads-requires returns look-5-requires returns-2)

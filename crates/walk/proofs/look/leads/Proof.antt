@@ -1,4 +1,4 @@
--- `fresh` meets its contract: off the map, at a hex that is seen and over a blocked side no hex is entered, and any other is.
+-- `leads` meets its contract: off the map, to a hex that is marked otherwise and over a blocked side no step leads to such a hex, and any other does.
 -- Assumes nothing.
 use Prim.Native.Nat.{ℕ, _<_}
 use mathlib.Core.Path.{_≡_, sym, _∙_, subst}
@@ -7,9 +7,9 @@ use Rattle.grid.specs.declared.Beside.the-variants.{At}
 use Rattle.position.specs.Board.{ground}
 use Rattle.position.specs.Ground as Ground
 use Rattle.walk.specs.Chain.{mark}
-use Rattle.walk.proofs.Looks.{shut-off, shut-seen, shut-blocked, opens, near-beside, near-none, near-inside}
-use Rattle.walk.proofs.look.fresh.Statement.{statement}
-use Rattle.walk.proofs.look.fresh.Tie as tie
+use Rattle.walk.proofs.Looks.{shut-off, shut-other, shut-blocked, opens, near-beside, near-none, near-inside}
+use Rattle.walk.proofs.look.leads.Statement.{statement}
+use Rattle.walk.proofs.look.leads.Tie as tie
 
 enum-known-b : tie.Need-enum-known-b
 enum-known-b c = search needs
@@ -20,7 +20,7 @@ enum-told c = search needs
 returns : tie.Need-returns
 returns c =
     let s = c .before .before .before .before in
-    shut-off _ _ _ _ (near-none (s .pre .0 .0 .view) (s .args .s .hex) (s .args .dir) (s .pre .0 .2) (c .enum-told .given .1))
+    shut-off _ _ _ _ _ (near-none (s .pre .0 .0 .view) (s .args .s .hex) (s .args .dir) (s .pre .0 .2) (c .enum-told .given .1))
 
 -- what is known of the hex there
 there : (c : tie.After-known-told) → let s = c .before .before .before .before .before in
@@ -37,7 +37,7 @@ shared-slice-read-if1 c =
 
 returns-2 : tie.Need-returns-2
 unfolding mark
-returns-2 c = shut-seen _ _ _ _ _ (there (c .before .before)) (c .if1 .taken)
+returns-2 c = shut-other _ _ _ _ _ _ (there (c .before .before)) (c .if1 .taken)
 
 between-requires : tie.Need-between-requires
 between-requires c κs =
@@ -45,15 +45,15 @@ between-requires c κs =
     (s .pre .0 .0, s .pre .0 .1, there (c .before .before))
 
 returns-3 : tie.Need-returns-3
-returns-3 c = shut-blocked _ _ _ _ (sym (c .before .between .ensures .is) ∙ c .if2 .taken)
+returns-3 c = shut-blocked _ _ _ _ _ (sym (c .before .between .ensures .is) ∙ c .if2 .taken)
 
 returns-4 : tie.Need-returns-4
 unfolding mark
 returns-4 c =
-    opens _ _ _ _ _ (there (c .before .before .before .before)) (λ q. c .if2 .left (c .before .between .ensures .is ∙ q)) (c .before .before .if1 .left)
+    opens _ _ _ _ _ _ (there (c .before .before .before .before)) (λ q. c .if2 .left (c .before .between .ensures .is ∙ q)) (c .before .before .if1 .left)
 
-pub fresh-spec : {M : Type 1} → statement M
-fresh-spec =
+pub leads-spec : {M : Type 1} → statement M
+leads-spec =
     tie.close
     (tie.spec
     enum-known-b

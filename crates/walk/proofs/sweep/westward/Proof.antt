@@ -1,0 +1,57 @@
+-- `westward` meets its contract. The invariant: what was swept so far, and how far it is still to go.
+-- Assumes nothing.
+use Prim.Native.Nat.{_≤_}
+use mathlib.Core.Path.{_∙_}
+use native.Mathlib.Omega.{arith}
+use borrow.Author.Needs.{needs}
+use Rattle.position.specs.Board.{ground}
+use Rattle.position.specs.Ground.{next}
+use Rattle.walk.specs.Swept.{Swept}
+use Rattle.walk.proofs.Joins.{map-on, swept-none, swept-trans}
+use Rattle.walk.proofs.sweep.westward.Statement.{statement}
+use Rattle.walk.proofs.sweep.westward.Tie as tie
+
+abbrev Inv-loop : tie.InvT-loop
+Inv-loop p v buf₀ row w c₀ buf c = Swept (next (ground p)) buf₀ buf × (c ≤ w)
+
+abbrev μ-loop : tie.MeasureT-loop
+μ-loop p v buf₀ row w c₀ buf c = c
+
+loop-holds : tie.Need-loop-holds Inv-loop μ-loop
+loop-holds c = (swept-none _, omega arith)
+
+sub-c : tie.Need-sub-c Inv-loop μ-loop
+sub-c c = search needs
+
+place-requires : tie.Need-place-requires Inv-loop μ-loop
+place-requires c κs = (map-on (c .before .before .before .before .before .pre .0), c .before .before .before .before .before .pre .2, omega (arith, c .before .before .loop .inv .1))
+
+join-east-requires : tie.Need-join-east-requires Inv-loop μ-loop
+join-east-requires c κs = ((c .before .before .before .before .before .before .pre .0, c .place .ensures .0), c .before .before .before .loop .inv .0 .same ∙ c .before .before .before .before .before .before .pre .1)
+
+loop-less : tie.Need-loop-less Inv-loop μ-loop
+loop-less c = search needs
+
+loop-again : tie.Need-loop-again Inv-loop μ-loop
+loop-again c = (swept-trans (c .before .before .before .before .before .before .loop .inv .0) (c .before .before .join-east .ensures), omega (arith, c .before .before .before .before .before .before .loop .inv .1))
+
+same-length : tie.Need-same-length Inv-loop μ-loop
+same-length c = c .before .loop .inv .0 .same
+
+returns : tie.Need-returns Inv-loop μ-loop
+returns c = c .before .loop .inv .0
+
+pub westward-spec : {M : Type 1} → statement M
+westward-spec =
+    tie.close
+    (tie.spec
+    Inv-loop
+    μ-loop
+    loop-holds
+    sub-c
+    place-requires
+    join-east-requires
+    loop-less
+    loop-again
+    same-length
+    returns)

@@ -1,0 +1,85 @@
+// The rows of the map: where a hex of one stands, and whether any has a mark.
+ghost use mathlib.Core.Path.{_≡_};
+ghost use mathlib.Core.Bool.{false};
+ghost use Prim.Native.Nat.{_+_, _-_, _*_, _<_, _≤_};
+ghost use lib.ListN.{length};
+ghost use Rattle.grid.specs.Map.{On};
+ghost use Rattle.grid.specs.Spot.{SpotOf};
+ghost use Rattle.walk.specs.Chain.{mark};
+ghost use Rattle.walk.specs.Swept.{None, RowApart};
+use grid::Spot;
+use position::View;
+
+// Whether one of the hexes from `from` up to `to` is marked `m`. It goes through all of them, and so many at a time.
+pub fn some(buf: &[u8], from: usize, to: usize, m: u8) -> bool
+    requires { ⌜ to ≤ length (now buf) ⌝ }
+    ensures { λ r. ⌜ (r ≡ false → None (mark (now (buf .entry))) from to m) ⌝ }
+{
+    let mut found = false;
+    for i in from..to {
+        if buf[i] == m {
+            found = true;
+        }
+    }
+    found
+}
+
+// Whether one of the hexes of row `row` is marked `m`.
+pub fn has(v: View, buf: &[u8], row: usize, m: u8) -> bool
+    requires { ⌜ On (v .width) (v .height) 0 × (length (now buf) ≡ v .width * v .height) × (row < v .height) ⌝ }
+    ensures { λ r. ⌜ (r ≡ false → None (mark (now (buf .entry))) (row * v .width) (row * v .width + v .width) m) ⌝ }
+{
+    let first = row * v.width;
+    some(buf, first, first + v.width, m)
+}
+
+// The hex in column `column` of row `row`.
+pub fn place(w: usize, h: usize, row: usize, column: usize) -> Spot
+    requires { ⌜ On w h 0 × (row < h) × (column < w) ⌝ }
+    ensures { λ r. ⌜ SpotOf w h r × (r .hex ≡ row * w + column) ⌝ }
+{
+    Spot {
+        hex: row * w + column,
+        column: column,
+        row: row,
+    }
+}
+
+// Whether the row before row `row` has a source.
+fn source_before(v: View, buf: &[u8], row: usize) -> bool
+    requires { ⌜ On (v .width) (v .height) 0 × (length (now buf) ≡ v .width * v .height) × (row < v .height) ⌝ }
+    ensures { λ r. ⌜ (r ≡ false → None (mark (now (buf .entry))) (row * v .width - v .width) (row * v .width) 2) ⌝ }
+{
+    if row < 1 {
+        return false;
+    }
+    has(v, buf, row - 1, 2)
+}
+
+// Whether the row after it has one.
+fn source_after(v: View, buf: &[u8], row: usize) -> bool
+    requires { ⌜ On (v .width) (v .height) 0 × (length (now buf) ≡ v .width * v .height) × (row < v .height) ⌝ }
+    ensures { λ r. ⌜ (r ≡ false → None (mark (now (buf .entry))) (row * v .width + v .width) (row * v .width + v .width + v .width) 2) ⌝ }
+{
+    if v.height <= row + 1 {
+        return false;
+    }
+    has(v, buf, row + 1, 2)
+}
+
+// Whether an open hex of row `row` may have a source beside it: there is one, and a source lies in its row or beside that.
+pub fn joinable(v: View, buf: &[u8], row: usize) -> bool
+    requires { ⌜ On (v .width) (v .height) 0 × (length (now buf) ≡ v .width * v .height) × (row < v .height) ⌝ }
+    ensures { λ r. ⌜ (r ≡ false → RowApart (v .width) (v .height) (mark (now (buf .entry))) row) ⌝ }
+{
+    if !has(v, buf, row, 1) {
+        return false;
+    }
+    if source_before(v, buf, row) {
+        return true;
+    }
+    if has(v, buf, row, 2) {
+        return true;
+    }
+    source_after(v, buf, row)
+}
