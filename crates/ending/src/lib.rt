@@ -8,6 +8,9 @@ ghost use Rattle.acceptance.specs.Accepted.{Accepted};
 ghost use Rattle.position.specs.Laid.{Laid, Read};
 ghost use Rattle.ruling.specs.Verdict.{Met};
 ghost use Rattle.ruling.specs.Answers.{answerAs};
+ghost use Rattle.position.specs.Kind.{home};
+ghost use Rattle.field.specs.Scene.{scene};
+ghost use Rattle.supply.specs.Traced.{Traced};
 ghost use Rattle.clock.specs.Clock.{nextClock};
 ghost use Rattle.march.specs.EndPhase.{rested, restAll, endRule};
 ghost use Rattle.march.specs.Ending.{ClockOf, JudgesUnit, JudgesAll, JudgesForce, JudgesPhase, Ended};
@@ -62,7 +65,7 @@ fn rest_all(p: &mut [u8], v: View)
     }
 }
 
-// Unit `u`, if it is of nationality `n` and on the map, is marked by what the supply map says of its hex.
+// Unit `u`, if it is of nationality `n` and on the map, is marked by what is traced of its hex.
 fn judge_unit(p: &mut [u8], v: View, n: usize, map: &[u8], u: usize)
     requires { ⌜ Laid (now p) v × (length (now map) ≡ v .hexes) ⌝ }
     ensures { λ _. ⌜ Laid (now (p .exit)) v × JudgesUnit (now (p .entry)) (now (map .entry)) n u (now (p .exit)) ⌝ }
@@ -76,23 +79,33 @@ fn judge_unit(p: &mut [u8], v: View, n: usize, map: &[u8], u: usize)
         return;
     }
     let m = read::marks(p, v, u);
-    if map[h] == 1 {
+    if 2 <= map[h] {
         write::mark(p, v, u, bits::with(bits::SUPPLIED, m));
         return;
     }
     write::mark(p, v, u, bits::without(bits::SUPPLIED, m));
 }
 
-// The mapped units of nationality `n` are marked by its supply.
-fn judge_all(p: &mut [u8], v: View, n: usize, scratch: &mut [u8])
-    requires { ⌜ Laid (now p) v × (length (now scratch) ≡ v .hexes) ⌝ }
+// The mapped units of nationality `n` are marked by its supply, which is traced in `map`.
+fn judge_all(p: &mut [u8], v: View, n: usize, map: &[u8])
+    requires { ⌜ Laid (now p) v × Traced (scene (board (now p))) n (now map) ⌝ }
     ensures { λ _. ⌜ Laid (now (p .exit)) v × JudgesAll (now (p .entry)) n (v .count) (now (p .exit)) ⌝ }
 {
-    supply::fill(p, v, n, scratch);
     let count = v.count;
     for u in 0..count {
-        judge_unit(p, v, n, scratch, u);
+        judge_unit(p, v, n, map, u);
     }
+}
+
+// The mapped units of US and Canada are marked by their supply.
+fn judge_home(p: &mut [u8], v: View, scratch: &mut [u8])
+    requires { ⌜ Laid (now p) v × (length (now scratch) ≡ v .hexes) ⌝ }
+    ensures { λ _. ⌜ JudgesForce (now (p .entry)) home (now (p .exit)) ⌝ }
+{
+    supply::trace(p, v, kind::US, scratch);
+    judge_all(p, v, kind::US, scratch);
+    supply::retrace(p, v, scratch);
+    judge_all(p, v, kind::CANADA, scratch);
 }
 
 // The mapped units of force `f` are marked by their nationalities' supply.
@@ -101,10 +114,10 @@ fn judge_force(p: &mut [u8], v: View, f: usize, scratch: &mut [u8])
     ensures { λ _. ⌜ JudgesForce (now (p .entry)) f (now (p .exit)) ⌝ }
 {
     if f == kind::HOME {
-        judge_all(p, v, kind::US, scratch);
-        judge_all(p, v, kind::CANADA, scratch);
+        judge_home(p, v, scratch);
         return;
     }
+    supply::trace(p, v, f, scratch);
     judge_all(p, v, f, scratch);
 }
 

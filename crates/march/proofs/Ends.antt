@@ -1,13 +1,13 @@
 -- What the parts of the end of a phase add up to: marks and scenes along the changes, a unit judged, a nationality, a force, and all.
 -- Assumes nothing.
 use Prim.Native.Nat.{ℕ, zero, suc, _+_, _%_, _≤_, _<_}
-use mathlib.Core.Path.{_≡_, refl, sym, ap, _∙_}
+use mathlib.Core.Path.{_≡_, refl, sym, ap, subst, _∙_}
 use mathlib.Core.Bool.{Bool, true, false, not, cond}
 use mathlib.Core.List.{List, [], _∷_, _++_}
 use native.Mathlib.Omega.{arith}
 use native.Mathlib.Numerals.{add-one}
-use lib.Dec.{eqb}
-use borrow.Author.Tests.{eqb-true, eq-eqb, ne-eqb}
+use lib.Dec.{leb, eqb}
+use borrow.Author.Tests.{eqb-true, eq-eqb, ne-eqb, le-leb, lt-leb}
 use Rattle.position.specs.Bits.{with, without, supplied, moved, fought, faced}
 use Rattle.position.specs.Layout as Layout
 use Rattle.position.specs.Board.{Board, board, nowhere}
@@ -22,12 +22,11 @@ use Rattle.position.proofs.Front.{shaped-kept}
 use Rattle.position.proofs.Effects.{upd-there, upd-else}
 use Rattle.position.proofs.Changes.{front-makes, board-make, board-makes, makes-snoc, makes-then}
 use Rattle.walk.specs.Chain.{mark}
-use Rattle.walk.proofs.Marks.{tab-at}
 use Rattle.field.specs.Scene.{Scene, scene}
 use Rattle.field.proofs.Scenes.{scene-marks}
 use Rattle.field.proofs.Scenes.Still.{marks as still, clock as still-clock}
 use Rattle.supply.specs.Supply as Supply
-use Rattle.supply.specs.Supply.{supplyMap}
+use Rattle.supply.specs.Traced.{Traced}
 use Rattle.clock.specs.declared.Clock.{Clock}
 use Rattle.clock.specs.Clock.{nextClock, judgesSupply}
 use Rattle.clock.proofs.Turns.{next-by}
@@ -187,12 +186,8 @@ module _ {b c : Board} {n u : ℕ} (w : Waits b c n u) where
       let z : b .units .state .hex u ≡ nowhere → ⊥ = λ g. omega (arith, place) in
       simp (eq-eqb (b .units .counter .nationality u) n (sym nation ∙ e), ne-eqb (b .units .state .hex u) nowhere z)
 
-  told : {map : List ℕ} → map ≡ supplyMap (scene b) n → c .units .state .hex u < c .map .hexes → mark map (c .units .state .hex u) ≡ cond (Supply.supplied (scene b) n (b .units .state .hex u)) 1 0
-  unfolding supplyMap
-  told e l =
-      ap (λ (x : List ℕ). mark x (c .units .state .hex u)) e
-      ∙ tab-at (b .map .hexes) (λ h. cond (Supply.supplied (scene b) n h) 1 0) (c .units .state .hex u) (omega (arith, area))
-      ∙ ap (λ (h : ℕ). cond (Supply.supplied (scene b) n h) 1 0) place
+  told : {map : List ℕ} → Traced (scene b) n map → c .units .state .hex u < c .map .hexes → Supply.supplied (scene b) n (b .units .state .hex u) ≡ leb 2 (mark map (c .units .state .hex u))
+  told t l = ap (Supply.supplied (scene b) n) (sym place) ∙ t .tells (c .units .state .hex u) (omega (arith, area))
 
   judged-yes : c .units .counter .nationality u ≡ n → Supply.supplied (scene b) n (b .units .state .hex u) ≡ true → with supplied (c .units .state .marks u) ≡ judgedMarks b u
   unfolding judgedMarks
@@ -206,14 +201,6 @@ module _ {b c : Board} {n u : ℕ} (w : Waits b c n u) where
       let k = sym nation ∙ e in
       rw (k, t) (ap (without supplied) (w .marks k))
 
-one-true : (t : Bool) → _≡_ {A = ℕ} (cond t 1 0) 1 → t ≡ true
-one-true true e = refl
-one-true false e = absurd (omega arith)
-
-not-one : (t : Bool) → (_≡_ {A = ℕ} (cond t 1 0) 1 → ⊥) → t ≡ false
-not-one true d = absurd (d refl)
-not-one false d = refl
-
 skipped : {p : List ℕ} {t : Bool} (x : Change) → t ≡ false → p ≡ makes p (cond t (x ∷ []) [])
 unfolding makes
 skipped x e = simp e
@@ -222,41 +209,49 @@ taken : {q : List ℕ} {t : Bool} {m m′ : ℕ} (p : List ℕ) (u : ℕ) → t 
 unfolding makes
 taken p u e g h = simp e (h ∙ ap (λ (x : ℕ). make p (marked u x)) g)
 
+-- marks do not matter to zones and supply
+scene-made : {p q : List ℕ} (u m : ℕ) → Shaped p → q ≡ make p (marked u m) → scene (board q) ≡ scene (board p)
+unfolding makes changes
+scene-made {p} u m h g =
+    ap (λ (x : List ℕ). scene (board x)) g ∙ ap scene (board-makes h (marked u m ∷ [])) ∙ scene-marks (board p) {x = marked u m} still
+
 module _ {p map : List ℕ} {n u : ℕ} where
   -- a unit of another nationality, and one that is not on the map
   pub left-other : (Layout.nationality p u ≡ n → ⊥) → JudgesUnit p map n u p
-  left-other d = record { judged = λ b w e. skipped _ (unmapped-other w d) }
+  left-other d = record { judged = λ b w e. skipped _ (unmapped-other w d); scenes = refl }
 
   module _ (k : Layout.nationality p u ≡ n) where
     pub left-off : Layout.hexes p ≤ Layout.hex p u → JudgesUnit p map n u p
-    left-off l = record { judged = λ b w e. skipped _ (unmapped-off w k l) }
+    left-off l = record { judged = λ b w e. skipped _ (unmapped-off w k l); scenes = refl }
 
     -- and one that is
     module _ {q : List ℕ} (h : Shaped p) (l : Layout.hex p u < Layout.hexes p) where
-      pub judged-in : mark map (Layout.hex p u) ≡ 1 → q ≡ make p (marked u (with supplied (Layout.marks p u))) → JudgesUnit p map n u q
-      judged-in one g =
+      pub judged-in : 2 ≤ mark map (Layout.hex p u) → q ≡ make p (marked u (with supplied (Layout.marks p u))) → JudgesUnit p map n u q
+      judged-in two g =
           record {
             judged =
                 λ b w e.
                 taken p u (mapped-on w k (hexes-most h) l)
-                (judged-yes w k (one-true (Supply.supplied (scene b) n (b .units .state .hex u)) (sym (told w e l) ∙ one)))
+                (judged-yes w k (told w e l ∙ le-leb 2 (mark map (Layout.hex p u)) two))
                 g;
+            scenes = scene-made u (with supplied (Layout.marks p u)) h g;
           }
 
-      pub judged-out : (mark map (Layout.hex p u) ≡ 1 → ⊥) → q ≡ make p (marked u (without supplied (Layout.marks p u))) → JudgesUnit p map n u q
+      pub judged-out : mark map (Layout.hex p u) < 2 → q ≡ make p (marked u (without supplied (Layout.marks p u))) → JudgesUnit p map n u q
       judged-out d g =
           record {
             judged =
                 λ b w e.
                 taken p u (mapped-on w k (hexes-most h) l)
-                (judged-no w k (not-one (Supply.supplied (scene b) n (b .units .state .hex u)) (λ z. d (told w e l ∙ z))))
+                (judged-no w k (told w e l ∙ lt-leb 2 (mark map (Layout.hex p u)) d))
                 g;
+            scenes = scene-made u (without supplied (Layout.marks p u)) h g;
           }
 
 -- unit after unit
 pub judges-none : (p : List ℕ) (n : ℕ) → JudgesAll p n 0 p
 unfolding judgeAll makes
-judges-none p n = record { judged = λ b s. refl }
+judges-none p n = record { judged = λ b s. refl; scenes = refl }
 
 -- a unit still waits when those before it are judged
 waits-next : {b c : Board} {n : ℕ} → Since b c n → (u : ℕ) → u < b .units .count → Waits b (changes c (judgeAll b n u)) n u
@@ -269,7 +264,7 @@ scene-judged : (b c : Board) (n k : ℕ) → scene (changes c (judgeAll b n k)) 
 scene-judged b c n k = same-judged b c k n k (λ z. absurd (omega arith)) .scenes
 
 pub judges-next :
-    {p map q r : List ℕ} {n u : ℕ} → Shaped p → u < Layout.count p → map ≡ supplyMap (scene (board p)) n
+    {p map q r : List ℕ} {n u : ℕ} → Shaped p → u < Layout.count p → Traced (scene (board p)) n map
     → JudgesAll p n u q → JudgesUnit q map n u r → JudgesAll p n (u + 1) r
 unfolding judgeAll
 judges-next {p} {map} {q} {r} {n} {u} h l m a g =
@@ -281,11 +276,16 @@ judges-next {p} {map} {q} {r} {n} {u} h l m a g =
           let z : board q ≡ changes (board p) (judgeAll b n u) = ap board e ∙ board-makes h (judgeAll b n u) in
           let full : Layout.count p ≡ b .units .count = ap (λ (y : Scene). y .count) (s .scenes) in
           g .judged b (rw z (waits-next s u (omega arith)))
-          (m ∙ ap (λ (y : Scene). supplyMap y n) (s .scenes))
+          (subst (λ (y : Scene). Traced y n map) (s .scenes) m)
           ∙ ap (λ (y : List ℕ). makes y x) e
           ∙ sym (makes-then (judgeAll b n u) x p)
           ∙ rw (add-one u);
+      scenes = g .scenes ∙ a .scenes;
     }
+
+-- what is traced stays so when units are judged
+pub traced-after : {p q map : List ℕ} {m n k : ℕ} → JudgesAll p n k q → Traced (scene (board p)) m map → Traced (scene (board q)) m map
+traced-after {map = map} {m = m} j = subst (λ (s : Scene). Traced s m map) (sym (j .scenes))
 
 -- units of one nationality still wait when those of another are judged
 since-other : {b c : Board} {m n : ℕ} → (m ≡ n → ⊥) → (k : ℕ) → Since b c m → Since b (changes c (judgeAll b n k)) m
@@ -303,6 +303,9 @@ since-other {b} {c} {m} {n} d k s =
     }
 
 -- force 3 with its two nationalities, and the others
+pub judges-home : {p q : List ℕ} {f : ℕ} → f ≡ 3 → JudgesForce p 3 q → JudgesForce p f q
+judges-home {p} {q} e = subst (λ (f : ℕ). JudgesForce p f q) (sym e)
+
 module _ (p : List ℕ) {k : ℕ} (e : k ≡ Layout.count p) where
   full : {b : Board} {n : ℕ} → Since b (board p) n → k ≡ b .units .count
   full s = e ∙ ap (λ (x : Scene). x .count) (s .scenes)

@@ -11,7 +11,7 @@ use Rattle.position.specs.Board.{Board, board, nowhere}
 use Rattle.position.specs.Change.{makes}
 use Rattle.position.specs.Change.Change.{marked}
 use Rattle.field.specs.Scene.{scene}
-use Rattle.supply.specs.Supply.{supplyMap}
+use Rattle.supply.specs.Traced.{Traced}
 use Rattle.clock.specs.declared.Clock.{Clock}
 use Rattle.march.specs.EndPhase.{rested, judgedMarks, mappedOf, judgeAll, judgeForce, supplyChanges, endChanges}
 
@@ -34,15 +34,17 @@ pub record Since (b b′ : Board) (n : ℕ) : Type 0 where
   pub scenes : scene b′ ≡ scene b
   pub waits : (u : ℕ) → u < b .units .count → Waits b b′ n u
 
--- unit u is judged by the supply map as the call asks, whatever board b the call began with
+-- unit u is judged by what is traced of supply, as the call asks, whatever board b the call began with; zones and supply stay as they were
 pub record JudgesUnit (p map : List ℕ) (n u : ℕ) (q : List ℕ) : Type 0 where
   pub judged :
-      (b : Board) → Waits b (board p) n u → map ≡ supplyMap (scene b) n
+      (b : Board) → Waits b (board p) n u → Traced (scene b) n map
       → q ≡ makes p (cond (mappedOf b n u) (marked u (judgedMarks b u) ∷ []) [])
+  pub scenes : scene (board q) ≡ scene (board p)
 
 -- the units of nationality n below k are judged
 pub record JudgesAll (p : List ℕ) (n k : ℕ) (q : List ℕ) : Type 0 where
   pub judged : (b : Board) → Since b (board p) n → q ≡ makes p (judgeAll b n k)
+  pub scenes : scene (board q) ≡ scene (board p)
 
 -- and so are those of force f
 pub record JudgesForce (p : List ℕ) (f : ℕ) (q : List ℕ) : Type 0 where

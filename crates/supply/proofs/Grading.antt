@@ -7,7 +7,7 @@ use mathlib.Core.List.{List}
 use native.Mathlib.Omega.{arith}
 use lib.Dec.{eqb}
 use lib.ListN.{length}
-use borrow.Author.Tests.{lt-ltb, le-leb, lt-leb, eq-eqb, ne-eqb}
+use borrow.Author.Tests.{lt-ltb, le-ltb, le-leb, lt-leb, eq-eqb, ne-eqb}
 use Rattle.grid.specs.declared.region.Region.{Region}
 use Rattle.grid.specs.Map.{On}
 use Rattle.grid.specs.Region.{Whole}
@@ -20,6 +20,7 @@ use Rattle.walk.specs.Chain.{mark}
 use Rattle.paint.specs.Paint.{Shows, Marked}
 use Rattle.paint.proofs.Bytes.{Pass, pass-all}
 use Rattle.paint.proofs.Units.{marked-zone, marked-enemy, marked-own, marked-depot}
+use Rattle.supply.specs.Traced.{Traced, regradeBy}
 use Rattle.supply.specs.Graded.{MapShows, Grades, openBy, landedBy, sourceBy, gradeBy}
 
 -- what each answer of the tests decides, in the order in which they are asked
@@ -153,4 +154,36 @@ all-graded {s} {n} {i} {l} {m} shows p le =
     record {
       long = p .long ∙ shows .long;
       each = λ h hl. pass-all p (omega (arith, shows .long)) h (omega (arith, shows .long)) ∙ grade-is s n l shows h hl;
+    }
+
+-- US and Canada are one force
+alike : (s : Scene) (h : ℕ) → openTo s canada h ≡ openTo s us h
+unfolding openTo force
+alike s h = refl
+
+-- what is traced for the US, graded for Canada: open alike, and a source by its own country
+module _ (s : Scene) (h : ℕ) where
+  pub regrade-closed : {m : ℕ} → m ≤ 0 → regradeBy s h m ≡ 0
+  unfolding regradeBy
+  regrade-closed {m} p = simp (le-ltb 0 m p)
+
+  module _ {r : Bool} (m : ℕ) (p : 0 < m) (q : r ≡ homeSource s 2 h) where
+    pub regrade-source : r ≡ true → regradeBy s h m ≡ 2
+    unfolding regradeBy
+    regrade-source t = simp (lt-ltb 0 m p, sym q ∙ t)
+
+    pub regrade-open : r ≡ false → regradeBy s h m ≡ 1
+    unfolding regradeBy
+    regrade-open t = simp (lt-ltb 0 m p, sym q ∙ t)
+
+  regrade-is : {l : List ℕ} → Traced s us l → h < s .map .hexes → regradeBy s h (mark l h) ≡ grade s canada h
+  unfolding regradeBy grade source
+  regrade-is t p = simp (lt-ltb h (s .map .hexes) p, sym (t .free h p), alike s h)
+
+pub all-regraded : {s : Scene} {i : ℕ} {l m : List ℕ} → Traced s us l → Pass (regradeBy s) i l m → s .map .hexes ≤ i → Grades s canada m
+unfolding mark
+all-regraded {s} {i} {l} {m} t p le =
+    record {
+      long = p .long ∙ t .long;
+      each = λ h hl. pass-all p (omega (arith, t .long)) h (omega (arith, t .long)) ∙ regrade-is s h t hl;
     }

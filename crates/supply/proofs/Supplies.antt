@@ -1,13 +1,14 @@
 -- The test for supply is right: it is true exactly if a chain leads to a source; and what the walk leaves is its answers.
 -- Assumes nothing.
 use Prim.Native.Nat.{ℕ, _≤_, _<_}
-use mathlib.Core.Path.{_≡_, refl, ap, _∙_}
+use mathlib.Core.Path.{_≡_, refl, sym, ap, _∙_}
 use mathlib.Core.Bool.{Bool, true, false, not, cond, _&&_}
 use mathlib.Core.List.{List, []}
-use mathlib.Core.Logic.{_↔_}
+use mathlib.Core.Logic.{_↔_, _⊎_, inl, inr}
 use native.Mathlib.Omega.{arith}
-use lib.Dec.{ltb, eqb}
-use borrow.Author.Tests.{ltb-true, eq-eqb, ne-eqb}
+use lib.Dec.{leb, ltb, eqb}
+use borrow.Author.Tests.{ltb-true, lt-ltb, le-leb, lt-leb, eq-eqb, ne-eqb}
+use Rattle.grid.specs.declared.Beside.{Beside}
 use Rattle.position.specs.declared.View.{View}
 use Rattle.position.specs.Ground.{next}
 use Rattle.position.proofs.Tallies.{either}
@@ -17,15 +18,18 @@ use Rattle.ruling.specs.Verdict.{judged, outcome, Met}
 use Rattle.ruling.specs.Verdict.Judge.{rule}
 use Rattle.ruling.specs.Verdict.Verdict.{judge}
 use Rattle.ruling.specs.Verdict.Ruling.{accepted}
-use Rattle.walk.specs.Chain.{mark, Reached, Graded}
+use Rattle.walk.specs.Chain.{mark, Chain, Reached, Graded}
+use Rattle.walk.specs.Chain.Chain.{source as ends, beside as goes}
+use Rattle.walk.specs.Swept.{Walked}
 use Rattle.walk.specs.Sweep.{chained, tab, reach}
-use Rattle.walk.proofs.Marks.{le-or, tab-length, tab-only}
+use Rattle.walk.proofs.Marks.{le-or, tab-length, tab-mark, tab-only}
 use Rattle.walk.proofs.Steps.{next-six}
-use Rattle.walk.proofs.Sweeps.{board-iff, reached-tab}
+use Rattle.walk.proofs.Sweeps.{board-iff, chain-same, reached-tab}
 use Rattle.field.specs.Scene.{Scene}
 use Rattle.paint.proofs.Bytes.{byte-past}
 use Rattle.supply.specs.Open.{openTo, source, grade}
 use Rattle.supply.specs.Graded.{Grades}
+use Rattle.supply.specs.Traced.{Traced}
 use Rattle.supply.specs.Supply.{Supplied, grades, supplied, supplyMap}
 
 -- off the map every hex is closed
@@ -74,6 +78,51 @@ graded {s} {n} {l} {v} e g =
       grades =
           λ k. le-or (s .map .hexes) k (λ q. omega (arith, byte-past l k (omega (arith, g .long)))) (λ q. rw (g .each k q) (grade-most s n k));
     }
+
+-- an open hex is graded above 0, and so is each on a chain
+open-grade : (o u : Bool) → o ≡ ltb 0 (cond o (cond u 2 1) 0)
+open-grade true true = refl
+open-grade true false = refl
+open-grade false u = refl
+
+chain-open : {next : ℕ → ℕ → Beside} {f : ℕ → ℕ} {a : ℕ} → Chain next f a → 0 < f a
+chain-open (ends e) = omega arith
+chain-open (goes d o x c) = o
+
+-- the walk over the grades, before it is settled
+module _ (s : Scene) (n : ℕ) {l : List ℕ} (g : Grades s n l) where
+  graded-mark : (k : ℕ) → mark l k ≡ grade s n k
+  unfolding grades
+  graded-mark k = ap (λ (x : List ℕ). mark x k) (graded-list g) ∙ tab-mark (s .map .hexes) (grade s n) (graded-in s n) k
+
+  open-mark : (h : ℕ) → h < s .map .hexes → openTo s n h ≡ ltb 0 (mark l h)
+  unfolding grade
+  open-mark h p = rw (graded-mark h, lt-ltb h (s .map .hexes) p) (open-grade (openTo s n h) (source s n h))
+
+  pub traced : {out : List ℕ} → Walked (next (s .map)) l out → Traced s n out
+  traced {out} w =
+      record {
+        long = w .same ∙ g .long;
+        free = λ h p. open-mark h p ∙ still h (w .each h);
+        tells = λ h p. tells h (w .each h);
+      }
+    where
+      still :
+          (h : ℕ)
+          → ((2 ≤ mark out h) × Chain (next (s .map)) (mark l) h) ⊎ ((mark out h < 2) × (Chain (next (s .map)) (mark l) h → ⊥))
+          → ltb 0 (mark l h) ≡ ltb 0 (mark out h)
+      still h (inl c) = let x = c .0 in lt-ltb 0 (mark l h) (chain-open (c .1)) ∙ sym (lt-ltb 0 (mark out h) (omega arith))
+      still h (inr c) = ap (ltb 0) (sym (w .kept h (c .0)))
+
+      tells :
+          (h : ℕ)
+          → ((2 ≤ mark out h) × Chain (next (s .map)) (mark l) h) ⊎ ((mark out h < 2) × (Chain (next (s .map)) (mark l) h → ⊥))
+          → supplied s n h ≡ leb 2 (mark out h)
+      tells h (inl c) = supplied-right s n h .1 (chain-same graded-mark (c .1)) ∙ sym (le-leb 2 (mark out h) (c .0))
+      tells h (inr c) =
+          either (supplied s n h)
+          (λ e. absurd (c .1 (chain-same (λ k. sym (graded-mark k)) (supplied-right s n h .0 e))))
+          (λ e. e ∙ sym (lt-leb 2 (mark out h) (c .0)))
 
 -- the buffer's length, as refusal 3 asks it
 pub other-length : {n k : ℕ} → (n ≡ k → ⊥) → not (eqb n k) ≡ true

@@ -1,4 +1,5 @@
 pub mod Open
 pub mod Graded
 pub mod Supply
+pub mod Traced
 pub mod Examples

@@ -1,10 +1,11 @@
 // Which hexes are open for a nationality and which are its sources, by what was painted.
 ghost use mathlib.Core.Path.{_≡_};
-ghost use Rattle.position.specs.Kind.{force};
+ghost use Rattle.position.specs.Kind.{force, us, canada};
 ghost use Rattle.position.specs.Board.{board};
 ghost use Rattle.position.specs.Laid.{Laid, Read};
 ghost use Rattle.field.specs.Scene.{scene};
 ghost use Rattle.supply.specs.Open.{homeSource, coastal, landing};
+ghost use Rattle.supply.specs.Traced.{Traced, regradeBy};
 ghost use Rattle.supply.specs.Graded.{MapShows, Grades, openBy, landedBy, sourceBy, gradeBy};
 use position::View;
 use position::bits;
@@ -118,5 +119,31 @@ pub fn grade(p: &[u8], v: View, buf: &mut [u8], n: usize)
     for h in 0..hexes {
         let m = layout::wide(buf[h]);
         buf[h] = grade_by(p, v, n, h, m) as u8;
+    }
+}
+
+// The grade for Canada of hex `h`, which is traced `m` for the US: the same hexes are open for both.
+fn regrade_by(p: &[u8], v: View, h: usize, m: usize) -> usize
+    requires { ⌜ Laid (now p) v ⌝ }
+    ensures { λ r. ⌜ Read (regradeBy (scene (board (now (p .entry)))) h m) 3 r ⌝ }
+{
+    if m <= 0 {
+        return 0;
+    }
+    if home_source(p, v, 2, h) {
+        return 2;
+    }
+    1
+}
+
+// Every hex's grade for Canada in place of what was traced for the US.
+pub fn regrade(p: &[u8], v: View, buf: &mut [u8])
+    requires { ⌜ Laid (now p) v × Traced (scene (board (now p))) us (now buf) ⌝ }
+    ensures { λ _. ⌜ Grades (scene (board (now (p .entry)))) canada (now (buf .exit)) ⌝ }
+{
+    let hexes = v.hexes;
+    for h in 0..hexes {
+        let m = layout::wide(buf[h]);
+        buf[h] = regrade_by(p, v, h, m) as u8;
     }
 }

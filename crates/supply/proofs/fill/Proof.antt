@@ -1,58 +1,24 @@
--- `supply::fill` meets its contract: what is painted is graded, and the walk over the grades leaves the supply map.
+-- `supply::fill` meets its contract: the walk over the grades leaves the supply map.
 -- Assumes nothing.
 use mathlib.Core.Path.{sym}
-use native.Mathlib.Omega.{arith}
+use borrow.Author.Needs.{needs}
 use Rattle.position.specs.Board.{board}
 use Rattle.field.specs.Scene.{scene}
-use Rattle.position.proofs.Sides.{area-view, on-view, on-first}
-use Rattle.supply.proofs.Grading.{map-shows}
 use Rattle.supply.proofs.Supplies.{graded-list, graded, walked-map}
-use borrow.Author.Needs.{needs}
 use Rattle.supply.proofs.fill.Statement.{statement}
 use Rattle.supply.proofs.fill.Tie as tie
 
-whole-requires : tie.Need-whole-requires
-whole-requires c κs = on-first (c .before .before .pre .0)
-
-force-requires : tie.Need-force-requires
-force-requires c κs = search needs
-
-paint-requires : tie.Need-paint-requires
-paint-requires c κs =
-    let outset = c .before .before .before .before .before in
-    let k = c .before .before .whole .ensures in
-    (outset .pre .0, record { region = k .ok; long = omega (arith, k .size, area-view (outset .pre .0 .view), outset .pre .1) })
-
-grade-requires : tie.Need-grade-requires
-grade-requires c κs =
-    let outset = c .before .before .before .before .before .before .before .before .before in
-    let l = outset .pre .0 in
-    let view = l .view in
-    let k = rw (view .width, view .height) at (c .before .before .before .before .before .before .whole .ensures) in (
-      l,
-      map-shows k (λ h e. rw (view .width, view .height) at (on-view l h (omega (arith, e, view .hexes))))
-          (omega (arith, outset .pre .1, view .hexes)) (rw (c .before .before .before .before .before .force .ensures) at (c .before .before .before .paint .ensures)),
-    )
+grades-requires : tie.Need-grades-requires
+grades-requires c κs = search needs
 
 walk-requires : tie.Need-walk-requires
-walk-requires c κs = let l = c .before .before .before .before .before .before .before .before .before .before .before .before .before .pre .0 in (l, graded (sym (l .view .hexes)) (c .before .before .before .grade .ensures))
+walk-requires c κs = let l = c .before .before .before .before .before .before .before .pre .0 in (l, graded (sym (l .view .hexes)) (c .before .before .before .grades .ensures))
 
 same-length : tie.Need-same-length
 same-length c = search needs
 
 returns : tie.Need-returns
-returns c =
-    let a = c .before .before .before .before .before .before .before .before .before .before .before .before .before .before .before .before .args in
-    walked-map (scene (board (a .p .now))) (a .n) (graded-list (c .before .before .before .before .before .before .grade .ensures)) (c .before .before .walk .ensures)
+returns c = let a = c .before .before .before .before .before .before .before .before .before .before .args in walked-map (scene (board (a .p .now))) (a .n) (graded-list (c .before .before .before .before .before .before .grades .ensures)) (c .before .before .walk .ensures)
 
 pub fill-spec : {M : Type 1} → statement M
-fill-spec =
-    tie.close
-    (tie.spec
-    whole-requires
-    force-requires
-    paint-requires
-    grade-requires
-    walk-requires
-    same-length
-    returns)
+fill-spec = tie.close (tie.spec grades-requires walk-requires same-length returns)
