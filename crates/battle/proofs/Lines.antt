@@ -1,32 +1,33 @@
 -- Laws of the battle line: the arrays that it is drawn up from, and that of its units, filled place by place.
 -- Assumes nothing.
 use Prim.Native.Nat.{_+_, _<_, _≤_, ℕ}
-use mathlib.Core.Bool.{Bool, cond, false, true}
+use mathlib.Core.Bool.{Bool, false, true}
 use mathlib.Core.List.{List, [], _++_, _∷_, append-assoc, append-nil, map}
-use mathlib.Core.Path.{_∙_, _≡_, ap, ap₂, refl, sym}
+use mathlib.Core.Path.{_∙_, _≡_, ap, ap₂, refl, subst, sym}
 use native.Mathlib.Numerals.{add-one}
 use native.Mathlib.Omega.{arith}
 use borrow.Author.Count.{below-more, below-none}
 use borrow.Author.Tests.{eq-eqb}
-use lib.Dec.{eqb}
+use lib.Dec.{leb}
 use lib.ListN.{getD, length, length-append, length-set, set, take}
 use lib.Seq.{getD-set-other, getD-set-same, take-all, take-suc-set}
 use Rattle.position.proofs.Tallies.{any-false, not-both, same-or}
 use Rattle.position.specs.Board.{Board}
 use Rattle.position.specs.Ground.{next}
+use Rattle.position.specs.Kind.{us}
 use Rattle.position.specs.Layout.{strength}
 use Rattle.position.specs.Tally.{any}
-use Rattle.walk.proofs.Marks.{tab-at, tab-length}
 use Rattle.walk.specs.Chain.{mark}
 use Rattle.field.proofs.Lists.{map-last, sieve-grows, sieve-hit, sieve-miss, take-more}
 use Rattle.field.specs.Listed.{sieve}
 use Rattle.field.specs.Scene.{Scene, scene}
 use Rattle.field.specs.Working.{working}
 use Rattle.field.specs.Zone.{standsOn}
-use Rattle.supply.specs.Supply.{supplied, supplyMap}
+use Rattle.supply.specs.Supply.{supplied}
+use Rattle.supply.specs.Traced.{Traced}
 use Rattle.results.specs.Participants.{defenders, participants}
 use Rattle.battle.specs.Line.{strengthOf}
-use Rattle.battle.specs.Mustered.{AllStanding, Armed, Arms, ArmsAll, Enlists, Joins, Musters, Names, Prints, nationAt}
+use Rattle.battle.specs.Mustered.{AllStanding, Armed, Arms, ArmsHome, ArmsAll, Enlists, Joins, Musters, Names, Prints, nationAt}
 use Rattle.line.specs.Line.{fighterAt, places}
 use Rattle.line.specs.declared.Fighter.{Fighter}
 
@@ -152,22 +153,13 @@ prints-all {p} {who} {printed} {n} {i} o l =
     let e : n ≡ i = omega (arith, o .most) in
     record { size = o .size; held = rw e (o .held) }
 
--- what a supply map says of a hex
-cond-one : (t : Bool) → eqb (cond t 1 0) 1 ≡ t
-cond-one true = refl
-cond-one false = refl
+-- what is traced of a hex
+pub traced-says : {s : Scene} {n : ℕ} {m : List ℕ} → Traced s n m → (h : ℕ) → h < s .map .hexes → leb 2 (getD m h 0) ≡ supplied s n h
+unfolding mark
+traced-says t h l = sym (t .tells h l)
 
-module _ (s : Scene) (n h : ℕ) (m : List ℕ) (e : m ≡ supplyMap s n) where
-  pub map-size : length m ≡ s .map .hexes
-  unfolding supplyMap
-  map-size = ap length e ∙ tab-length (s .map .hexes) (λ h. cond (supplied s n h) 1 0)
-
-  pub map-says : h < s .map .hexes → eqb (getD m h 0) 1 ≡ supplied s n h
-  unfolding supplyMap mark
-  map-says l =
-      ap (λ (x : List ℕ). eqb (mark x h) 1) e
-      ∙ ap (λ (x : ℕ). eqb x 1) (tab-at (s .map .hexes) (λ h. cond (supplied s n h) 1 0) h l)
-      ∙ cond-one (supplied s n h)
+pub traced-as : {s : Scene} {m n : ℕ} {l : List ℕ} → m ≡ n → Traced s m l → Traced s n l
+traced-as {s} {l = l} e = subst (λ (k : ℕ). Traced s k l) e
 
 pub armed-is :
     (b : Board) (u printed : ℕ) {t : Bool} {r : ℕ} → t ≡ supplied (scene b) (b .units .counter .nationality u) (b .units .state .hex u)
@@ -284,6 +276,15 @@ module _ {b : Board} {who : List ℕ} {n : ℕ} {printed after : List ℕ} where
 
   pub armed-all : {m : ℕ} → AllStanding b who n → ArmedTo b who n printed after m → 5 ≤ m → ArmsAll b who n printed after
   armed-all s o l = record { size = o .size; each = λ i k. o .each i k (omega (arith, s i k .nation)) }
+
+pub armed-home :
+    {b : Board} {who : List ℕ} {n : ℕ} {printed before after : List ℕ} {m : ℕ}
+    → m ≡ us
+    → ArmedTo b who n printed before m
+    → ArmsHome b who n printed before after
+    → ArmedTo b who n printed after 5
+armed-home {b} {who} {n} {printed} {before} e o h =
+    armed-more (armed-more (subst (ArmedTo b who n printed before) e o) (omega arith) (h .first)) (omega arith) (h .second)
 
 -- the units of the fighters, place by place
 module _ {fs : List Fighter} where

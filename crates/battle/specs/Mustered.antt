@@ -9,6 +9,7 @@ use mathlib.Core.Path.{_≡_}
 use lib.Dec.{eqb}
 use lib.ListN.{getD, length, take}
 use Rattle.position.specs.Board.{Board}
+use Rattle.position.specs.Kind.{us, canada}
 use Rattle.position.specs.Layout.{strength}
 use Rattle.line.specs.Line.{fighterAt, fighterOf, places}
 use Rattle.line.specs.declared.Fighter.{Fighter}
@@ -59,6 +60,12 @@ pub record Arms (b : Board) (nation : ℕ) (who : List ℕ) (n : ℕ) (printed b
   pub size : length after ≡ places
   pub own : (i : ℕ) → i < n → b .units .counter .nationality (getD who i 0) ≡ nation → Armed b who printed after i
   pub other : (i : ℕ) → i < n → (b .units .counter .nationality (getD who i 0) ≡ nation → ⊥) → getD after i 0 ≡ getD before i 0
+
+-- those of the US, and then those of Canada
+pub record ArmsHome (b : Board) (who : List ℕ) (n : ℕ) (printed before after : List ℕ) : Type 0 where
+  pub between : List ℕ
+  pub first : Arms b us who n printed before between
+  pub second : Arms b canada who n printed between after
 
 -- all places below n are armed
 pub record ArmsAll (b : Board) (who : List ℕ) (n : ℕ) (printed after : List ℕ) : Type 0 where

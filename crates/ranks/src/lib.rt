@@ -7,14 +7,15 @@ ghost use Rattle.position.specs.Tally.{any};
 ghost use Rattle.position.specs.Board.{board};
 ghost use Rattle.position.specs.Laid.{Laid, Read};
 ghost use Rattle.field.specs.Scene.{scene};
-ghost use Rattle.supply.specs.Supply.{supplyMap};
+ghost use Rattle.supply.specs.Traced.{Traced};
 ghost use Rattle.results.specs.Participants.{defenders};
 ghost use Rattle.battle.specs.Line.{strengthOf};
 ghost use Rattle.line.specs.Line.{places, Filled};
-ghost use Rattle.battle.specs.Mustered.{Enlists, Joins, Musters, Prints, Standing, AllStanding, nationAt, Arms, ArmsAll, drawn, Names};
+ghost use Rattle.battle.specs.Mustered.{Enlists, Joins, Musters, Prints, Standing, AllStanding, nationAt, Arms, ArmsHome, ArmsAll, drawn, Names};
 use field::unit;
 use line::Fighter;
 use position::View;
+use position::kind;
 use position::layout;
 use position::read;
 
@@ -70,16 +71,16 @@ pub fn strengths(p: &[u8], v: View, who: &[u16; 21], n: usize, printed: &mut [u8
     }
 }
 
-// What unit `u`, with a printed strength, fights with, as the supply map of its nationality says.
+// What unit `u`, with a printed strength, fights with, as what is traced of its nationality's supply says.
 fn armed(p: &[u8], v: View, u: usize, printed: usize, map: &[u8]) -> usize
-    requires { ⌜ Laid (now p) v × (printed < 256) × Standing (board (now p)) u × (now map ≡ supplyMap (scene (board (now p))) (board (now p) .units .counter .nationality u)) ⌝ }
+    requires { ⌜ Laid (now p) v × (printed < 256) × Standing (board (now p)) u × Traced (scene (board (now p))) (board (now p) .units .counter .nationality u) (now map) ⌝ }
     ensures { λ r. ⌜ Read (strengthOf (board (now (p .entry))) u printed) 256 r ⌝ }
 {
     let h = read::hex(p, v, u);
-    unit::working(p, v, u, map[h] == 1, printed)
+    unit::working(p, v, u, 2 <= map[h], printed)
 }
 
-// The fighting strengths of the units of nationality `nation`, by its supply map.
+// The fighting strengths of the units of nationality `nation`, by its supply, which is traced in `map`.
 fn arm_by(
     p: &[u8],
     v: View,
@@ -90,7 +91,7 @@ fn arm_by(
     fighting: &mut [u8; 21],
     map: &[u8],
 )
-    requires { ⌜ Laid (now p) v × (n ≤ places) × AllStanding (board (now p)) (now who) n × (length (now fighting) ≡ places) × (now map ≡ supplyMap (scene (board (now p))) nation) ⌝ }
+    requires { ⌜ Laid (now p) v × (n ≤ places) × AllStanding (board (now p)) (now who) n × (length (now fighting) ≡ places) × Traced (scene (board (now p))) nation (now map) ⌝ }
     ensures { λ _. ⌜ Arms (board (now (p .entry))) nation (now (who .entry)) n (now (printed .entry)) (now (fighting .entry)) (now (fighting .exit)) ⌝ }
 {
     for i in 0..n {
@@ -116,7 +117,7 @@ fn takes_part(p: &[u8], v: View, nation: usize, who: &[u16; 21], n: usize) -> bo
     false
 }
 
-// The fighting strengths of one nationality's units: its supply is filled into the scratch if it takes part.
+// The fighting strengths of one nationality's units: its supply is traced in the scratch if it takes part.
 fn arm(
     p: &[u8],
     v: View,
@@ -133,8 +134,34 @@ fn arm(
     if !takes_part(p, v, nation, who, n) {
         return;
     }
-    supply::fill(p, v, nation, scratch);
+    supply::trace(p, v, nation, scratch);
     arm_by(p, v, nation, who, n, printed, fighting, scratch);
+}
+
+// The fighting strengths of the units of US and Canada. Where both take part, what is traced for the US serves Canada too.
+fn arm_home(
+    p: &[u8],
+    v: View,
+    who: &[u16; 21],
+    n: usize,
+    printed: &[u8; 21],
+    fighting: &mut [u8; 21],
+    scratch: &mut [u8],
+)
+    requires { ⌜ Laid (now p) v × (n ≤ places) × AllStanding (board (now p)) (now who) n × (length (now fighting) ≡ places) × (length (now scratch) ≡ v .hexes) ⌝ }
+    ensures { λ _. ⌜ ArmsHome (board (now (p .entry))) (now (who .entry)) n (now (printed .entry)) (now (fighting .entry)) (now (fighting .exit)) ⌝ }
+{
+    if !takes_part(p, v, kind::US, who, n) {
+        arm(p, v, kind::CANADA, who, n, printed, fighting, scratch);
+        return;
+    }
+    supply::trace(p, v, kind::US, scratch);
+    arm_by(p, v, kind::US, who, n, printed, fighting, scratch);
+    if !takes_part(p, v, kind::CANADA, who, n) {
+        return;
+    }
+    supply::retrace(p, v, scratch);
+    arm_by(p, v, kind::CANADA, who, n, printed, fighting, scratch);
 }
 
 // The fighting strengths of the first `n`, nationality by nationality.
@@ -150,9 +177,10 @@ pub fn arm_all(
     requires { ⌜ Laid (now p) v × (n ≤ places) × AllStanding (board (now p)) (now who) n × (length (now fighting) ≡ places) × (length (now scratch) ≡ v .hexes) ⌝ }
     ensures { λ _. ⌜ ArmsAll (board (now (p .entry))) (now (who .entry)) n (now (printed .entry)) (now (fighting .exit)) ⌝ }
 {
-    for nation in 0..5 {
+    for nation in 0..kind::US {
         arm(p, v, nation, who, n, printed, fighting, scratch);
     }
+    arm_home(p, v, who, n, printed, fighting, scratch);
 }
 
 // The battle line: a record for each of the first `n`.

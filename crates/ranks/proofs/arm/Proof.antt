@@ -1,4 +1,4 @@
--- `ranks::arm` meets its contract: a nationality that takes no part leaves all as it was, any other is armed by its supply map.
+-- `ranks::arm` meets its contract: a nationality that takes no part leaves all as it was, any other is armed by its supply.
 -- Assumes nothing.
 use mathlib.Core.Path.{_∙_, sym}
 use borrow.Author.Needs.{needs}
@@ -13,11 +13,11 @@ takes-part-requires c κs = (c .before .before .pre .0, c .before .before .pre .
 returns : tie.Need-returns
 returns c = arms-none (c .before .before .before .before .pre .3) (sym (c .before .takes-part .ensures) ∙ not-true _ (c .if1 .taken))
 
-fill-requires : tie.Need-fill-requires
-fill-requires c κs = (c .before .before .before .before .before .pre .0, c .before .before .before .before .before .pre .4)
+trace-requires : tie.Need-trace-requires
+trace-requires c κs = (c .before .before .before .before .before .pre .0, c .before .before .before .before .before .pre .4)
 
 arm-by-requires : tie.Need-arm-by-requires
-arm-by-requires c κs = (c .before .before .before .before .before .before .before .before .before .before .pre .0, c .before .before .before .before .before .before .before .before .before .before .pre .1, c .before .before .before .before .before .before .before .before .before .before .pre .2, c .before .before .before .before .before .before .before .before .before .before .pre .3, c .before .before .before .before .fill .ensures)
+arm-by-requires c κs = (c .before .before .before .before .before .before .before .before .before .before .pre .0, c .before .before .before .before .before .before .before .before .before .before .pre .1, c .before .before .before .before .before .before .before .before .before .before .pre .2, c .before .before .before .before .before .before .before .before .before .before .pre .3, c .before .before .before .before .trace .ensures)
 
 same-length : tie.Need-same-length
 same-length c = search needs
@@ -31,7 +31,7 @@ arm-spec =
     (tie.spec
     takes-part-requires
     returns
-    fill-requires
+    trace-requires
     arm-by-requires
     same-length
     returns-2)

@@ -9,9 +9,7 @@ use native.Mathlib.Omega.{arith}
 use borrow.Author.Needs.{needs}
 use lib.ListN.{getD}
 use Rattle.position.specs.Board.{board}
-use Rattle.field.specs.Scene.{scene}
-use Rattle.supply.specs.Supply.{supplyMap}
-use Rattle.battle.proofs.Lines.{Arming, arming-all, arming-hit, arming-miss, arming-none}
+use Rattle.battle.proofs.Lines.{Arming, arming-all, arming-hit, arming-miss, arming-none, traced-as}
 use Rattle.battle.specs.Line.{strengthOf}
 use Rattle.ranks.proofs.arm_by.Statement.{statement}
 use Rattle.ranks.proofs.arm_by.Tie as tie
@@ -45,12 +43,11 @@ wide-requires c κs = search needs
 
 armed-requires : tie.Need-armed-requires Inv-loop μ-loop
 armed-requires c κs =
-    let a = c .before .before .before .before .before .before .before .before .before .before .args in
-    let b = board (a .p .now) in (
-      c .before .before .before .before .before .before .before .before .before .before .pre .0,
+    let s = c .before .before .before .before .before .before .before .before .before .before .pre in (
+      s .0,
       c .wide .ensures .small,
-      rw (c .before .before .before .before .word .ensures .is) (c .before .before .before .before .before .before .before .before .before .before .pre .2 (c .before .before .before .before .before .before .before .loop .i) (omega arith)),
-      c .before .before .before .before .before .before .before .before .before .before .pre .4 ∙ ap (supplyMap (scene b)) (sym (c .before .before .if1 .taken) ∙ c .before .before .before .nationality .ensures .is),
+      rw (c .before .before .before .before .word .ensures .is) (s .2 (c .before .before .before .before .before .before .before .loop .i) (omega arith)),
+      traced-as (sym (c .before .before .if1 .taken) ∙ c .before .before .before .nationality .ensures .is) (s .4),
     )
 
 cast-fighting : tie.Need-cast-fighting Inv-loop μ-loop
