@@ -20,15 +20,15 @@ use Rattle.grid.proofs.Close.{beside-close}
 use Rattle.position.specs.declared.View.{View}
 use Rattle.position.specs.Layout.{ViewOf}
 use Rattle.position.specs.Laid.{Laid}
-use Rattle.position.proofs.Shapes.{sizes}
 use Rattle.position.specs.Board.{ground}
 use Rattle.position.specs.Ground.{next}
+use Rattle.position.proofs.Shapes.{sizes}
 use Rattle.position.proofs.Sides.{area-view, beside-view, next-over}
 use Rattle.position.proofs.Tallies.{same-or}
 use Rattle.walk.specs.Chain.{mark, Chain}
 use Rattle.walk.specs.Chain.Chain.{source, beside}
 use Rattle.walk.specs.Trail.{Opens, Apart}
-use Rattle.walk.specs.Swept.{None, RowApart, Joined, Became, Swept}
+use Rattle.walk.specs.Swept.{None, RowApart, Joined, Swept}
 use Rattle.walk.proofs.Marks.{le-or, mark-set, mark-in}
 use Rattle.walk.proofs.Sweeps.{chain-by}
 

@@ -10,10 +10,10 @@ mod sweep;
 ghost use mathlib.Core.Path.{_≡_};
 ghost use Prim.Native.Nat.{_+_, _*_, _<_};
 ghost use lib.ListN.{length};
+ghost use Rattle.grid.specs.Spot.{SpotOf};
 ghost use Rattle.position.specs.Board.{ground};
 ghost use Rattle.position.specs.Ground.{next};
 ghost use Rattle.position.specs.Laid.{Laid};
-ghost use Rattle.grid.specs.Spot.{SpotOf};
 ghost use Rattle.walk.specs.Chain.{mark, Reached, Graded};
 ghost use Rattle.walk.specs.Trail.{Rest, Flooded, Sown, Seeded, Settled};
 ghost use Rattle.walk.specs.Swept.{Joined, Walked};
@@ -128,7 +128,7 @@ fn settle(buf: &mut [u8])
 }
 
 // The same grades come in; 1 goes out at each hex from which such a chain leads to a source, and 0 at each other.
-// The work is in proportion to the hexes: there are two sweeps over the map, and after them each hex is entered at most once, is done with
+// The work is in proportion to the hexes: there are at most two sweeps over the map, and after them each hex is entered at most once, is done with
 // each of its six directions once, and is left once. A step of the walk enters a hex or leaves one (proofs/Runs.antt: the `work` that the
 // marks leave is at most 2 a hex, and falls with each step), and looks in no direction that was done with before.
 pub fn walk(p: &[u8], v: View, buf: &mut [u8])

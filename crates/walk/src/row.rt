@@ -9,8 +9,10 @@ ghost use Rattle.walk.specs.Chain.{mark};
 ghost use Rattle.walk.specs.Swept.{None, RowApart};
 use grid::Spot;
 use position::View;
+use position::layout;
 
-// Whether one of the hexes from `from` up to `to` is marked `m`. It goes through all of them, and so many at a time.
+// Whether one of the hexes from `from` up to `to` is marked `m`. It looks at all of them, whatever it has found, and so
+// at many at a time.
 pub fn some(buf: &[u8], from: usize, to: usize, m: u8) -> bool
     requires { ⌜ to ≤ length (now buf) ⌝ }
     ensures { λ r. ⌜ (r ≡ false → None (mark (now (buf .entry))) from to m) ⌝ }
@@ -31,6 +33,28 @@ pub fn has(v: View, buf: &[u8], row: usize, m: u8) -> bool
 {
     let first = row * v.width;
     some(buf, first, first + v.width, m)
+}
+
+// How many of the hexes from `from` up to `to` are marked `m`.
+fn count(buf: &[u8], from: usize, to: usize, m: u8) -> u8
+    requires { ⌜ (to ≤ length (now buf)) × (to ≤ from + 64) ⌝ }
+    ensures { λ r. ⌜ r ≤ 64 ⌝ }
+{
+    let mut many = 0u8;
+    for i in from..to {
+        if buf[i] == m {
+            many += 1;
+        }
+    }
+    many
+}
+
+// Whether more than half of the hexes of row `row` are marked `m`.
+pub fn mostly(v: View, buf: &[u8], row: usize, m: u8) -> bool
+    requires { ⌜ On (v .width) (v .height) 0 × (length (now buf) ≡ v .width * v .height) × (row < v .height) ⌝ }
+{
+    let first = row * v.width;
+    v.width < 2 * layout::wide(count(buf, first, first + v.width, m))
 }
 
 // The hex in column `column` of row `row`.

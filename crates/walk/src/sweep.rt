@@ -129,7 +129,8 @@ fn westward(p: &[u8], v: View, buf: &mut [u8], row: usize)
     }
 }
 
-// Row `row` to the east and back. Whether the row after it may be reached from it.
+// Row `row` to the east and back. Whether the row after it is to be reached from it: not if most of this one is still open, as in a maze whose
+// lanes run across the rows, where the walk is cheaper.
 fn spread(p: &[u8], v: View, buf: &mut [u8], row: usize, up: bool) -> bool
     requires { ⌜ Laid (now p) v × (length (now buf) ≡ v .hexes) × (row < v .height) ⌝ }
     ensures { λ _. ⌜ Swept (next (ground (now (p .entry)))) (now (buf .entry)) (now (buf .exit)) ⌝ }
@@ -141,7 +142,7 @@ fn spread(p: &[u8], v: View, buf: &mut [u8], row: usize, up: bool) -> bool
         return false;
     }
     westward(p, v, buf, row);
-    true
+    !row::mostly(v, buf, row, 1)
 }
 
 // The same, but that a row is passed over which has no source and which the row before does not reach.

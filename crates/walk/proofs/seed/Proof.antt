@@ -1,7 +1,6 @@
 -- `seed` meets its contract: a hex that is not open or has no source beside it stays as it is, and from any other a walk starts.
 -- Assumes nothing.
-use Prim.Native.Nat.{ℕ}
-use mathlib.Core.Path.{_≡_, sym, _∙_, subst}
+use mathlib.Core.Path.{_≡_, subst}
 use native.Mathlib.Omega.{arith}
 use borrow.Author.Needs.{needs}
 use Rattle.position.specs.Board.{ground}

@@ -1,11 +1,10 @@
 -- `some` meets its contract. The invariant: as long as none is found, none of the hexes below hex i has the mark.
 -- Assumes nothing.
-use Prim.Native.Nat.{_-_, _≤_}
+use Prim.Native.Nat.{_-_}
 use mathlib.Core.Path.{_≡_, sym, _∙_}
 use mathlib.Core.Bool.{false}
 use mathlib.Core.Logic.{⊎-elim}
 use native.Mathlib.Omega.{arith}
-use lib.ListN.{length}
 use borrow.Author.Needs.{needs}
 use Rattle.walk.specs.Chain.{mark}
 use Rattle.walk.specs.Swept.{None}

@@ -1,6 +1,5 @@
 -- `join_east` meets its contract: a hex that becomes a source has one beside it, and else nothing changes.
 -- Assumes nothing.
-use mathlib.Core.Path.{sym, _∙_}
 use borrow.Author.Tests.{not-false}
 use borrow.Author.Needs.{needs}
 use Rattle.walk.specs.Chain.{mark}

@@ -28,11 +28,17 @@ returns-2 c = search needs
 westward-requires : tie.Need-westward-requires
 westward-requires c κs = search needs
 
+mostly-requires : tie.Need-mostly-requires
+mostly-requires c κs =
+    let s = (c .before .before .before .before .before .before .before .before .before .before .before .before .before .before .before) in
+    let w = swept-trans (c .before .before .before .before .before .before .before .before .before .before .before .eastward .ensures) (c .before .before .before .westward .ensures) in
+    (map-on (s .pre .0), w .same ∙ s .pre .1 ∙ area-view (s .pre .0 .view), s .pre .2)
+
 same-length-3 : tie.Need-same-length-3
 same-length-3 c = search needs
 
 returns-3 : tie.Need-returns-3
-returns-3 c = swept-trans (c .before .before .before .before .before .before .before .before .before .before .eastward .ensures) (c .before .before .westward .ensures)
+returns-3 c = swept-trans (c .before .before .before .before .before .before .before .before .before .before .before .before .eastward .ensures) (c .before .before .before .before .westward .ensures)
 
 pub spread-spec : {M : Type 1} → statement M
 spread-spec =
@@ -45,5 +51,6 @@ spread-spec =
     same-length-2
     returns-2
     westward-requires
+    mostly-requires
     same-length-3
     returns-3)
