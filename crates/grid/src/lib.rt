@@ -2,6 +2,7 @@
 pub mod near;
 pub mod region;
 pub mod rim;
+pub mod row;
 
 ghost use mathlib.Core.Path.{_≡_};
 ghost use Prim.Native.Nat.{_<_, _≤_};

@@ -127,9 +127,6 @@ row-none r w p = let z : r ≡ 0 = omega arith in omega (arith, ap (λ (n : ℕ)
 pub row-past : {h r : ℕ} (w : ℕ) → h ≤ r → w * h ≤ r * w
 row-past {h} {r} w p = omega (arith, mul-le-mul-right w p, mul-comm w h)
 
-pub row-in : {h : ℕ} (r w : ℕ) → r < h → r * w + w ≤ w * h
-row-in {h} r w p = omega (arith, mul-le-mul-right w p, suc-mul r w, mul-comm w h)
-
 -- a step over an unblocked side leads to a neighbour
 pub apart-next : {p : List ℕ} {v : View} {f : ℕ → ℕ} → ViewOf p v → (k : ℕ) → Apart (neighbourOf (v .width) (v .height)) f k → Apart (next (ground p)) f k
 apart-next {p} o k n e d b x = n e d b (beside-view o k d ∙ next-over (ground p) k d b x)

@@ -18,7 +18,7 @@ no-hex : (r : Beside) → ((b : ℕ) → r ≡ At b → ⊥) → r ≡ Off
 no-hex (At b) f = absurd (f b refl)
 no-hex Off f = refl
 
--- every step can be made back, in the opposite direction, and `home` leads where `next` does, and from a source nowhere
+-- every step can be made back, in the opposite direction, and `home` leads where `next` does, and from where a walk began nowhere
 pub record TwoWay (next home : ℕ → ℕ → Beside) : Type 0 where
   pub six : (a d : ℕ) → 6 ≤ d → next a d ≡ Off
   pub turn : (a d b : ℕ) → next a d ≡ At b → next b ((d + 3) % 6) ≡ At a

@@ -1,7 +1,7 @@
 -- Beside what is certain: vocabulary of contracts and proofs.
 -- The state of a walk that is under way, as the contracts of the functions in it have it. f is the marks now, f₀ the grades at its entry.
 -- A mark of 8 or more is that of a hex that was entered: m / 8 - 1 is the direction home, to the hex that it was entered from (6, in which
--- nothing lies, at a source), and m % 8 is 0, or 7 once the walk has left the hex. Any other mark is the hex's grade.
+-- nothing lies, where the walk began), and m % 8 is 0, or 7 once the walk has left the hex. Any other mark is the hex's grade.
 -- Assumes nothing.
 use Prim.Native.Nat.{ℕ, _+_, _-_, _*_, _/_, _%_, _≤_, _<_}
 use mathlib.Core.Path.{_≡_}

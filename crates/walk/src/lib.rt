@@ -76,7 +76,7 @@ fn seed_row(p: &[u8], v: View, buf: &mut [u8], row: usize)
     }
     let w = v.width;
     for c in 0..w {
-        seed(p, v, buf, row::place(w, v.height, row, c));
+        seed(p, v, buf, grid::row::spot(w, v.height, row, c));
     }
 }
 

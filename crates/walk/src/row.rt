@@ -1,13 +1,11 @@
-// The rows of the map: where a hex of one stands, and whether any has a mark.
+// The rows of the map, and whether any hex of one has a mark.
 ghost use mathlib.Core.Path.{_≡_};
 ghost use mathlib.Core.Bool.{false};
 ghost use Prim.Native.Nat.{_+_, _-_, _*_, _<_, _≤_};
 ghost use lib.ListN.{length};
 ghost use Rattle.grid.specs.Map.{On};
-ghost use Rattle.grid.specs.Spot.{SpotOf};
 ghost use Rattle.walk.specs.Chain.{mark};
 ghost use Rattle.walk.specs.Swept.{None, RowApart};
-use grid::Spot;
 use position::View;
 use position::layout;
 
@@ -31,7 +29,7 @@ pub fn has(v: View, buf: &[u8], row: usize, m: u8) -> bool
     requires { ⌜ On (v .width) (v .height) 0 × (length (now buf) ≡ v .width * v .height) × (row < v .height) ⌝ }
     ensures { λ r. ⌜ (r ≡ false → None (mark (now (buf .entry))) (row * v .width) (row * v .width + v .width) m) ⌝ }
 {
-    let first = row * v.width;
+    let first = grid::row::first(v.width, v.height, row);
     some(buf, first, first + v.width, m)
 }
 
@@ -53,20 +51,8 @@ fn count(buf: &[u8], from: usize, to: usize, m: u8) -> u8
 pub fn mostly(v: View, buf: &[u8], row: usize, m: u8) -> bool
     requires { ⌜ On (v .width) (v .height) 0 × (length (now buf) ≡ v .width * v .height) × (row < v .height) ⌝ }
 {
-    let first = row * v.width;
+    let first = grid::row::first(v.width, v.height, row);
     v.width < 2 * layout::wide(count(buf, first, first + v.width, m))
-}
-
-// The hex in column `column` of row `row`.
-pub fn place(w: usize, h: usize, row: usize, column: usize) -> Spot
-    requires { ⌜ On w h 0 × (row < h) × (column < w) ⌝ }
-    ensures { λ r. ⌜ SpotOf w h r × (r .hex ≡ row * w + column) ⌝ }
-{
-    Spot {
-        hex: row * w + column,
-        column: column,
-        row: row,
-    }
 }
 
 // Whether the row before row `row` has a source.

@@ -22,7 +22,7 @@ fn from_west(p: &[u8], v: View, buf: &[u8], s: Spot) -> bool
     requires { ⌜ length (now buf) ≡ v .hexes ⌝ }
     ensures { λ r. ⌜ (r ≡ true → Joined (next (ground (now (p .entry)))) (mark (now (buf .entry))) (s .hex)) ⌝ }
 {
-    if s.column % 2 == 1 {
+    if grid::row::low(s) {
         if look::leads(p, v, buf, s, 5, near::north_west(v.width, v.height, s), 2) {
             return true;
         }
@@ -40,7 +40,7 @@ fn from_east(p: &[u8], v: View, buf: &[u8], s: Spot) -> bool
     requires { ⌜ length (now buf) ≡ v .hexes ⌝ }
     ensures { λ r. ⌜ (r ≡ true → Joined (next (ground (now (p .entry)))) (mark (now (buf .entry))) (s .hex)) ⌝ }
 {
-    if s.column % 2 == 1 {
+    if grid::row::low(s) {
         if look::leads(p, v, buf, s, 1, near::north_east(v.width, v.height, s), 2) {
             return true;
         }
@@ -109,7 +109,7 @@ fn eastward(p: &[u8], v: View, buf: &mut [u8], row: usize, up: bool) -> bool
     let w = v.width;
     let mut left = false;
     for c in 0..w {
-        if join_west(p, v, buf, row::place(w, v.height, row, c), up) {
+        if join_west(p, v, buf, grid::row::spot(w, v.height, row, c), up) {
             left = true;
         }
     }
@@ -125,7 +125,7 @@ fn westward(p: &[u8], v: View, buf: &mut [u8], row: usize)
     let mut c = w;
     while 0 < c {
         c -= 1;
-        join_east(p, v, buf, row::place(w, v.height, row, c));
+        join_east(p, v, buf, grid::row::spot(w, v.height, row, c));
     }
 }
 

@@ -34,14 +34,14 @@ returns c =
 loop-holds : tie.Need-loop-holds Inv-loop μ-loop
 loop-holds c = sown-none (c .before .before .before .before .before .pre .1) (λ k p q. absurd (omega arith))
 
-place-requires : tie.Need-place-requires Inv-loop μ-loop
-place-requires c κs = let s = c .before .before .before .before .before .before .before .before .pre .0 in (map-on (s .0), s .2, c .before .loop-test .taken)
+spot-requires : tie.Need-spot-requires Inv-loop μ-loop
+spot-requires c κs = let s = c .before .before .before .before .before .before .before .before .pre .0 in (map-on (s .0), s .2, c .before .loop-test .taken)
 
 seed-requires : tie.Need-seed-requires Inv-loop μ-loop
 seed-requires c κs =
     let s = c .before .before .before .before .before .before .before .before .before .pre .0 in
     let a = c .before .before .before .loop .inv in
-    ((s .0, c .place .ensures .0), (a .kept .same ∙ s .1, a .rest))
+    ((s .0, c .spot .ensures .0), (a .kept .same ∙ s .1, a .rest))
 
 add-c : tie.Need-add-c Inv-loop μ-loop
 add-c c = search needs
@@ -50,7 +50,7 @@ loop-less : tie.Need-loop-less Inv-loop μ-loop
 loop-less c = search needs
 
 loop-again : tie.Need-loop-again Inv-loop μ-loop
-loop-again c = let e = c .before .before .before .place .ensures .1 in sown-on (omega arith) (omega arith) (c .before .before .before .before .before .before .loop .inv) (c .before .before .seed .ensures)
+loop-again c = let e = c .before .before .before .spot .ensures .1 in sown-on (omega arith) (omega arith) (c .before .before .before .before .before .before .loop .inv) (c .before .before .seed .ensures)
 
 same-length-2 : tie.Need-same-length-2 Inv-loop μ-loop
 same-length-2 c = c .before .loop .inv .kept .same
@@ -68,7 +68,7 @@ seed-row-spec =
     same-length
     returns
     loop-holds
-    place-requires
+    spot-requires
     seed-requires
     add-c
     loop-less

@@ -3,18 +3,17 @@
 use native.Mathlib.Omega.{arith}
 use borrow.Author.Needs.{needs}
 use Rattle.grid.proofs.Arith.{small}
-use Rattle.walk.proofs.Joins.{row-in}
 use Rattle.walk.proofs.row.mostly.Statement.{statement}
 use Rattle.walk.proofs.row.mostly.Tie as tie
 
-mul-first : tie.Need-mul-first
-mul-first c = let o = c .before .before .pre .0 in omega (arith, small (o .wide64) (o .high64), row-in (c .before .before .args .row) (c .before .before .args .v .width) (c .before .before .pre .2))
+first-requires : tie.Need-first-requires
+first-requires c κs = (c .before .pre .0, c .before .pre .2)
 
 add-count : tie.Need-add-count
-add-count c = let o = c .before .before .before .pre .0 in omega (arith, small (o .wide64) (o .high64), row-in (c .before .before .before .args .row) (c .before .before .before .args .v .width) (c .before .before .before .pre .2))
+add-count c = let o = c .before .before .before .pre .0 in omega (arith, small (o .wide64) (o .high64), c .before .first .ensures .1)
 
 count-requires : tie.Need-count-requires
-count-requires c κs = let s = c .before .before .before .pre in (omega (arith, s .1, row-in (c .before .before .before .args .row) (c .before .before .before .args .v .width) (c .before .before .before .pre .2)), omega (arith, s .0 .wide64))
+count-requires c κs = let s = c .before .before .before .pre in (omega (arith, s .1, c .before .first .ensures .1), omega (arith, s .0 .wide64))
 
 wide-requires : tie.Need-wide-requires
 wide-requires c κs = search needs
@@ -29,7 +28,7 @@ pub mostly-spec : {M : Type 1} → statement M
 mostly-spec =
     tie.close
     (tie.spec
-    mul-first
+    first-requires
     add-count
     count-requires
     wide-requires

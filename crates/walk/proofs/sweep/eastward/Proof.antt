@@ -19,11 +19,11 @@ abbrev μ-loop : tie.MeasureT-loop
 loop-holds : tie.Need-loop-holds Inv-loop μ-loop
 loop-holds c = swept-none _
 
-place-requires : tie.Need-place-requires Inv-loop μ-loop
-place-requires c κs = (map-on (c .before .before .before .before .before .pre .0), c .before .before .before .before .before .pre .2, c .before .loop-test .taken)
+spot-requires : tie.Need-spot-requires Inv-loop μ-loop
+spot-requires c κs = (map-on (c .before .before .before .before .before .pre .0), c .before .before .before .before .before .pre .2, c .before .loop-test .taken)
 
 join-west-requires : tie.Need-join-west-requires Inv-loop μ-loop
-join-west-requires c κs = ((c .before .before .before .before .before .before .pre .0, c .place .ensures .0), c .before .before .before .loop .inv .same ∙ c .before .before .before .before .before .before .pre .1)
+join-west-requires c κs = ((c .before .before .before .before .before .before .pre .0, c .spot .ensures .0), c .before .before .before .loop .inv .same ∙ c .before .before .before .before .before .before .pre .1)
 
 add-c : tie.Need-add-c Inv-loop μ-loop
 add-c c = search needs
@@ -47,7 +47,7 @@ eastward-spec =
     Inv-loop
     μ-loop
     loop-holds
-    place-requires
+    spot-requires
     join-west-requires
     add-c
     loop-less

@@ -5,6 +5,9 @@ use Rattle.walk.proofs.Joins.{joined}
 use Rattle.walk.proofs.sweep.from_east.Statement.{statement}
 use Rattle.walk.proofs.sweep.from_east.Tie as tie
 
+low-requires : tie.Need-low-requires
+low-requires c κs = search needs
+
 north-east-requires : tie.Need-north-east-requires
 north-east-requires c κs = search needs
 
@@ -45,6 +48,7 @@ pub from-east-spec : {M : Type 1} → statement M
 from-east-spec =
     tie.close
     (tie.spec
+    low-requires
     north-east-requires
     leads-requires
     returns

@@ -5,6 +5,9 @@ use Rattle.walk.proofs.Joins.{joined}
 use Rattle.walk.proofs.sweep.from_west.Statement.{statement}
 use Rattle.walk.proofs.sweep.from_west.Tie as tie
 
+low-requires : tie.Need-low-requires
+low-requires c κs = search needs
+
 north-west-requires : tie.Need-north-west-requires
 north-west-requires c κs = search needs
 
@@ -45,6 +48,7 @@ pub from-west-spec : {M : Type 1} → statement M
 from-west-spec =
     tie.close
     (tie.spec
+    low-requires
     north-west-requires
     leads-requires
     returns

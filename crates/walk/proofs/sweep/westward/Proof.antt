@@ -23,11 +23,11 @@ loop-holds c = (swept-none _, omega arith)
 sub-c : tie.Need-sub-c Inv-loop μ-loop
 sub-c c = search needs
 
-place-requires : tie.Need-place-requires Inv-loop μ-loop
-place-requires c κs = (map-on (c .before .before .before .before .before .pre .0), c .before .before .before .before .before .pre .2, omega (arith, c .before .before .loop .inv .1))
+spot-requires : tie.Need-spot-requires Inv-loop μ-loop
+spot-requires c κs = (map-on (c .before .before .before .before .before .pre .0), c .before .before .before .before .before .pre .2, omega (arith, c .before .before .loop .inv .1))
 
 join-east-requires : tie.Need-join-east-requires Inv-loop μ-loop
-join-east-requires c κs = ((c .before .before .before .before .before .before .pre .0, c .place .ensures .0), c .before .before .before .loop .inv .0 .same ∙ c .before .before .before .before .before .before .pre .1)
+join-east-requires c κs = ((c .before .before .before .before .before .before .pre .0, c .spot .ensures .0), c .before .before .before .loop .inv .0 .same ∙ c .before .before .before .before .before .before .pre .1)
 
 loop-less : tie.Need-loop-less Inv-loop μ-loop
 loop-less c = search needs
@@ -49,7 +49,7 @@ westward-spec =
     μ-loop
     loop-holds
     sub-c
-    place-requires
+    spot-requires
     join-east-requires
     loop-less
     loop-again
