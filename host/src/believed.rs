@@ -124,7 +124,8 @@ mod tests {
 
     #[test]
     fn only_lines_that_bring_names_in_count() {
-        let text = "-- Rattle.a.specs.A\nuse Rattle.b.specs.B.{x}\nghost use Rattle.c.specs.C.{y};\nuse mathlib.Core.Path\n";
+        let text =
+            "-- Rattle.a.specs.A\nuse Rattle.b.specs.B.{x}\nghost use Rattle.c.specs.C.{y};\nuse mathlib.Core.Path\n";
         assert_eq!(brought_in(text), vec![spec("b", "B"), spec("c", "C")]);
     }
 
@@ -133,10 +134,15 @@ mod tests {
         let certain = "use Rattle.rules.specs.Order.{step}\nuse Rattle.grid.specs.Map.{On}\n";
         let order = "use Rattle.grid.specs.Map.{On}\n";
         let specs = Specs {
-            texts: [(("rules", "Certain"), certain), (("rules", "Order"), order), (("grid", "Map"), ""), (("grid", "Spot"), "")]
-                .into_iter()
-                .map(|(key, text)| (spec(key.0, key.1), text.to_string()))
-                .collect(),
+            texts: [
+                (("rules", "Certain"), certain),
+                (("rules", "Order"), order),
+                (("grid", "Map"), ""),
+                (("grid", "Spot"), ""),
+            ]
+            .into_iter()
+            .map(|(key, text)| (spec(key.0, key.1), text.to_string()))
+            .collect(),
         };
         let mut found = Vec::new();
         specs.visit(&spec("rules", "Certain"), &mut found, &mut BTreeSet::new());

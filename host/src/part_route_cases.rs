@@ -2,7 +2,7 @@
 
 use crate::part_routes::{part_routes, runs};
 use crate::position::*;
-use crate::retreat::longer_by_one;
+use crate::vacant_routes::longer_by_one;
 use crate::zones::enemy_zones;
 
 #[derive(Clone, Copy, Debug, PartialEq, Eq)]

@@ -1,8 +1,9 @@
 //! Part routes: a group that is to be destroyed goes as far as it can and is lost there (13.54).
 //! Every run of steps is tried, and the longest are kept.
 
+use crate::owing::only_supply_units;
 use crate::position::*;
-use crate::retreat::{longer_by_one, only_supply_units};
+use crate::vacant_routes::longer_by_one;
 use crate::zones::enemy_zones;
 
 /// Every part route of a group that is to be destroyed: the longest runs, or the empty one where only supply units owe.

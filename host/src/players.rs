@@ -1,6 +1,6 @@
 //! Players: forces of different players are Enemy; forces of one player are neutral, neither Friendly nor Enemy.
 
-use crate::position::Desk;
+use crate::position::{Desk, Position};
 
 impl Desk {
     /// The player of a force; on a desk of the old length each force has its own.
@@ -25,5 +25,17 @@ impl Desk {
     /// Have two forces the same player?
     pub fn shares_players(&self) -> bool {
         (0..4).any(|force| !self.neutrals_of(force).is_empty())
+    }
+}
+
+impl Position {
+    /// Does an Enemy of the force stand there?
+    pub fn enemy_on(&self, hex: usize, force: u8) -> bool {
+        self.units_on(hex).into_iter().any(|unit| self.desk.enemy(self.units[unit].force(), force))
+    }
+
+    /// Does a force neutral to this one stand there?
+    pub fn neutral_on(&self, hex: usize, force: u8) -> bool {
+        self.units_on(hex).into_iter().any(|unit| self.desk.neutral(self.units[unit].force(), force))
     }
 }

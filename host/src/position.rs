@@ -245,16 +245,6 @@ impl Position {
         (0..self.units.len()).filter(|&unit| self.units[unit].stands_on(hex)).collect()
     }
 
-    /// Does an Enemy of the force stand there?
-    pub fn enemy_on(&self, hex: usize, force: u8) -> bool {
-        self.units_on(hex).into_iter().any(|unit| self.desk.enemy(self.units[unit].force(), force))
-    }
-
-    /// Does a force neutral to this one stand there?
-    pub fn neutral_on(&self, hex: usize, force: u8) -> bool {
-        self.units_on(hex).into_iter().any(|unit| self.desk.neutral(self.units[unit].force(), force))
-    }
-
     pub fn is_vacant(&self, hex: usize) -> bool {
         self.units_on(hex).is_empty()
     }

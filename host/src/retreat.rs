@@ -1,14 +1,14 @@
 //! The retreat call: the owing units of one hex go together.
 
 use crate::checks;
-use crate::grid::DIRECTIONS;
+use crate::owing::{only_supply_units, owing_group};
 use crate::part_routes::part_routes;
 use crate::position::*;
 use crate::pushes::Way;
 use crate::refusal::*;
 use crate::stages;
 use crate::unit_type::SUPPLY_UNIT;
-use crate::zones::enemy_zones;
+use crate::vacant_routes::legal_routes;
 
 /// What an accepted retreat answers.
 #[derive(Clone, Copy, Debug, PartialEq, Eq)]
@@ -30,11 +30,6 @@ pub fn retreat(position: &mut Position, hex: u16, route: &[u16], pushes: &[u16])
     let answer = go(position, start, &group, route, pushes)?;
     stages::follow_on(position);
     Ok(answer)
-}
-
-/// The role 1 units of a hex.
-pub fn owing_group(position: &Position, hex: usize) -> Vec<usize> {
-    position.units_on(hex).into_iter().filter(|&unit| position.units[unit].role == OWES).collect()
 }
 
 /// The group retreats by a vacant route, else by pushes, or goes its part route and is destroyed.
@@ -69,38 +64,6 @@ pub fn is_doomed(position: &Position, start: usize, group: &[usize]) -> bool {
 
 fn names_one(route: &[usize], routes: &[Vec<usize>]) -> bool {
     routes.iter().any(|one| one == route)
-}
-
-pub fn only_supply_units(position: &Position, group: &[usize]) -> bool {
-    group.iter().all(|&unit| position.units[unit].kind == SUPPLY_UNIT)
-}
-
-/// Every legal route over vacant hexes: all sequences of n directions are tried, clockwise.
-pub fn legal_routes(position: &Position, start: usize, group: &[usize]) -> Vec<Vec<usize>> {
-    let force = position.units[group[0]].force();
-    let zones = enemy_zones(position, force);
-    let n = usize::from(position.desk.owed_retreat);
-    let distances = position.grid().distances(start);
-    let mut routes = vec![Vec::new()];
-    for _ in 0..n {
-        routes = routes.iter().flat_map(|route| longer_by_one(position, start, &zones, route)).collect();
-    }
-    routes.retain(|route| route.last().is_some_and(|&end| distances[end] == Some(n)));
-    routes
-}
-
-/// A route with each step that may follow it.
-pub fn longer_by_one(position: &Position, start: usize, zones: &[bool], route: &[usize]) -> Vec<Vec<usize>> {
-    let here = *route.last().unwrap_or(&start);
-    let mut longer = Vec::new();
-    for direction in DIRECTIONS {
-        let Some(next) = position.grid().neighbour(here, direction) else { continue };
-        let unblocked = position.side(here, direction) != BLOCKED;
-        if unblocked && position.bears_units(next) && position.is_vacant(next) && !zones[next] {
-            longer.push([route, &[next]].concat());
-        }
-    }
-    longer
 }
 
 /// The whole group is destroyed; start and part route are written.

@@ -1,11 +1,13 @@
 //! Which cases a retreat was: what lay open to the group as the call began, and what came of it.
 
 use crate::order::{Answer, Order};
+use crate::owing::{only_supply_units, owing_group};
 use crate::part_route_cases::{sent, Sent};
 use crate::position::*;
 use crate::pushes::Way;
 use crate::refusal::{PUSHES_NOT_LEGAL, ROUTE_NOT_LEGAL};
-use crate::retreat::{is_doomed, legal_routes, only_supply_units, owing_group};
+use crate::retreat::is_doomed;
+use crate::vacant_routes::legal_routes;
 
 #[derive(Clone, Copy, Debug, PartialEq, Eq)]
 pub enum Case {

@@ -7,9 +7,9 @@ use host::generator::breaks::{break_names, broken_bytes, changed_byte, PLAYER_LI
 use host::generator::chance::Chance;
 use host::generator::crowds::crowded_road;
 use host::generator::dead_ends::dead_end;
-use host::generator::neutrals::supply_line;
 use host::generator::record;
 use host::generator::stories::any_position;
+use host::generator::supply_lines::supply_line;
 use host::order::{call_list, Call, CALLS};
 use host::part_route_cases::Sent;
 use host::player_cases::DESKS;

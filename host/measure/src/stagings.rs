@@ -2,12 +2,12 @@
 
 use crate::scenes::{infantry, Scene, CANADA, PAL, US};
 use host::order::Order;
+use host::owing::owing_group;
 use host::part_routes::part_routes;
 use host::position::{
     Desk, Position, Route, Unit, ADVANCES, COMBAT, LOSSES, MAY_ADVANCE, OWES, RETREATS, SUPPLIED, TRIED,
 };
 use host::pushes::{Step, Way};
-use host::retreat::owing_group;
 use host::unit_type::SUPPLY_UNIT;
 
 const ARMOUR: u8 = 0;

@@ -1,9 +1,9 @@
 //! Positions broken in one fact: for each line of acceptance a way to break it.
 
 use super::chance::Chance;
-use super::neutrals::neutral_of;
-use super::scene::unit_of;
+use super::forces::neutral_of;
 use super::staged::write_routes;
+use super::units::unit_of;
 use crate::contents::written;
 use crate::position::*;
 use crate::unit_type::{always_tried, MILITIA, SPECIAL_INFANTRY, SUPPLY_UNIT};

@@ -1,14 +1,19 @@
 //! Crowded roads: a group owes among its own force, so that pushes decide.
 
 use super::chance::Chance;
-use super::neutrals::{add_neutrals, any_force, other_force};
-use super::retreat_orders::{any_series, beside};
-use super::scene::{retreat_scene, set_side, takes, unit_of};
-use super::staged::{give_role, write_routes};
+use super::forces::{any_force, other_force};
+use super::ground::{close, lane_hexes, open, set_side};
+use super::groups::{group, others_that_owe};
+use super::neutrals::add_neutrals;
+use super::scene::retreat_scene;
+use super::staged::give_role;
+use super::units::{add, stack};
+use super::ways::{any_series, beside};
+use crate::owing::owing_group;
 use crate::position::*;
 use crate::pushes::{Step, Way};
-use crate::retreat::{legal_routes, owing_group};
-use crate::unit_type::{INFANTRY, SUPPLY_UNIT};
+use crate::unit_type::INFANTRY;
+use crate::vacant_routes::legal_routes;
 
 /// What a crowded road is to offer.
 #[derive(Clone, Copy, PartialEq, Eq)]
@@ -148,22 +153,6 @@ fn attempt(chance: &mut Chance, owed: u8, wanted: Wanted) -> (Position, usize) {
     (position, start)
 }
 
-/// The hex bears units.
-pub fn open(chance: &mut Chance, position: &mut Position, hex: usize) {
-    position.map.hexes[hex].surface = chance.pick(&[LAND, LAND, COASTAL]);
-    position.map.hexes[hex].terrain = 0;
-}
-
-/// The hex bears no units: sea, lake, or prohibited terrain where the chart has some.
-pub fn close(chance: &mut Chance, position: &mut Position, hex: usize) {
-    let prohibited: Vec<u8> =
-        (0..16).filter(|&terrain| position.chart.terrains[usize::from(terrain)].cost == 0).collect();
-    match chance.pick_any(&prohibited) {
-        Some(terrain) if chance.percent(50) => position.map.hexes[hex].terrain = terrain,
-        _ => position.map.hexes[hex].surface = chance.pick(&[ALL_SEA, LAKE]),
-    }
-}
-
 /// Close most of the map but for these hexes, which are opened.
 fn leave_open(chance: &mut Chance, position: &mut Position, hexes: &[usize], closed: usize) {
     for hex in 0..position.map.hexes.len() {
@@ -192,22 +181,6 @@ fn lane(chance: &mut Chance, position: &mut Position, start: usize) -> Vec<usize
     let beside = chance.pick(&[0, 20, 50]);
     held.extend((0..position.map.hexes.len()).filter(|hex| !lane.contains(hex) && chance.percent(beside)));
     held
-}
-
-/// Hexes on end, the first ones each further from the start; no hex comes twice.
-pub fn lane_hexes(chance: &mut Chance, position: &Position, start: usize, length: usize) -> Vec<usize> {
-    let distances = position.grid().distances(start);
-    let mut lane = vec![start];
-    while lane.len() < length {
-        let here = lane[lane.len() - 1];
-        let near: Vec<usize> = position.grid().neighbours(here).into_iter().flatten().collect();
-        let unused: Vec<usize> = near.into_iter().filter(|hex| !lane.contains(hex)).collect();
-        let further: Vec<usize> = unused.iter().copied().filter(|&hex| distances[hex] == Some(lane.len())).collect();
-        let choices = if further.is_empty() || chance.percent(20) { unused } else { further };
-        let Some(next) = chance.pick_any(&choices) else { break };
-        lane.push(next);
-    }
-    lane
 }
 
 /// A few hexes around the group and nothing else, one or two of them vacant. The others are answered.
@@ -253,43 +226,6 @@ fn throng(chance: &mut Chance, position: &mut Position, start: usize) -> Vec<usi
     (0..position.map.hexes.len()).filter(|&hex| hex != start && chance.percent(often(hex))).collect()
 }
 
-/// One to three units of the force, now and then with a supply unit among them.
-pub fn stack(chance: &mut Chance, position: &mut Position, hex: usize, force: u8, supply_units: usize) {
-    for _ in 0..chance.pick(&[1, 1, 1, 2, 3]) {
-        let supply_unit = chance.percent(supply_units);
-        add(chance, position, hex, force, supply_unit);
-    }
-}
-
-/// Add a unit, if the hex takes it: a supply unit, if one is wanted and the force has any, or one of another type.
-pub fn add(chance: &mut Chance, position: &mut Position, hex: usize, force: u8, supply_unit: bool) -> Option<usize> {
-    if !takes(position, hex, force) {
-        return None;
-    }
-    let mut unit = unit_of(chance, force, Some(hex as u16));
-    if supply_unit && force < 3 {
-        unit = Unit::new(unit.nationality, SUPPLY_UNIT, unit.hex, unit.strength, 0);
-    } else if unit.kind == SUPPLY_UNIT {
-        unit = Unit::new(unit.nationality, INFANTRY, unit.hex, unit.strength, chance.byte(2, 9));
-    }
-    position.units.push(unit);
-    Some(position.units.len() - 1)
-}
-
-/// One to three units in the hex; all owe, or some stay behind. A supply unit may be among them.
-pub fn group(chance: &mut Chance, position: &mut Position, force: u8, start: usize, all_owe: bool) {
-    let count = if all_owe { chance.from_to(1, 3) } else { chance.from_to(2, 3) };
-    let first = add(chance, position, start, force, false);
-    first.into_iter().for_each(|unit| give_role(position, unit, OWES));
-    for _ in 1..count {
-        let supply_unit = chance.percent(20);
-        let another = add(chance, position, start, force, supply_unit);
-        if let Some(unit) = another.filter(|_| all_owe || chance.percent(30)) {
-            give_role(position, unit, OWES);
-        }
-    }
-}
-
 /// Some Enemies, about half of them beside the group; some may advance. Now and then they are neutral to it.
 fn enemies(chance: &mut Chance, position: &mut Position, force: u8, start: usize) {
     let enemy = other_force(chance, &position.desk, force);
@@ -304,18 +240,4 @@ fn enemies(chance: &mut Chance, position: &mut Position, force: u8, start: usize
             give_role(position, unit, MAY_ADVANCE);
         }
     }
-}
-
-/// Now and then other stacks of the force owe too; some routes are there already.
-pub fn others_that_owe(chance: &mut Chance, position: &mut Position, force: u8, start: usize) {
-    let own = |unit: &&usize| position.units[**unit].force() == force && !position.units[**unit].stands_on(start);
-    let units: Vec<usize> = (0..position.units.len()).collect();
-    let others: Vec<usize> = units.iter().filter(own).copied().collect();
-    for _ in 0..chance.pick(&[0, 0, 0, 1, 2]) {
-        if let Some(unit) = chance.pick_any(&others) {
-            give_role(position, unit, OWES);
-        }
-    }
-    let routes = chance.pick(&[0, 0, 1, 3]);
-    write_routes(chance, position, routes);
 }

@@ -1,14 +1,17 @@
 //! Dead ends: a group owes where neither a vacant route nor pushes serve; it can make none, one or two steps.
 
 use super::chance::Chance;
-use super::crowds::{add, close, group, open, others_that_owe, stack};
-use super::neutrals::{any_force, neutral_of, other_force};
-use super::part_route_orders::curls;
-use super::scene::{retreat_scene, set_side};
+use super::forces::{any_force, neutral_of, other_force};
+use super::ground::{close, open, set_side};
+use super::groups::{group, others_that_owe};
+use super::scene::retreat_scene;
 use super::staged::give_role;
+use super::units::{add, stack};
+use super::ways::curls;
+use crate::owing::owing_group;
 use crate::part_routes::part_routes;
 use crate::position::*;
-use crate::retreat::{is_doomed, owing_group};
+use crate::retreat::is_doomed;
 use crate::unit_type::{self, INFANTRY, SUPPLY_UNIT};
 
 /// What a dead end is to offer.

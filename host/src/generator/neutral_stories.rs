@@ -1,11 +1,12 @@
 //! Stories that neutrals decide.
 
 use super::breaks::{break_names, PLAYER_LINES};
-use super::neutrals::{self, add_neutrals, hold_routes};
+use super::neutrals::{add_neutrals, hold_routes};
 use super::orders;
 use super::scene::scene;
 use super::staged::enter_stage;
 use super::stories::{broken_in, is_in_stage, make_someone_phasing, some_calls};
+use super::supply_lines;
 use super::writer::{Aim, Writer};
 use crate::contents::written;
 use crate::order::Call;
@@ -57,7 +58,7 @@ pub fn roads_held(writer: &mut Writer) {
 
 /// A supply line with neutrals about it: supply, and what hangs on it.
 pub fn supply_line(writer: &mut Writer) {
-    let position = neutrals::supply_line(&mut writer.chance);
+    let position = supply_lines::supply_line(&mut writer.chance);
     writer.set_position(&written(&position));
     for _ in 0..writer.chance.from_to(1, 4) {
         let call = writer.chance.pick(&[Call::Supply, Call::Supply, Call::Attack, Call::Attack, Call::End, Call::End]);

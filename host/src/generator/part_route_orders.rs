@@ -1,11 +1,11 @@
 //! Orders for a group that is to be destroyed: a part route, and what is wrong in one thing.
 
 use super::chance::Chance;
-use super::retreat_orders::Lists;
+use super::lists::Lists;
+use super::ways::{any_beside, curls};
+use crate::owing::owing_group;
 use crate::part_routes::{part_routes, runs};
 use crate::position::*;
-use crate::retreat::{longer_by_one, owing_group};
-use crate::zones::enemy_zones;
 
 /// One of the part routes.
 pub fn right_part_route(chance: &mut Chance, position: &Position, start: usize) -> Lists {
@@ -42,21 +42,6 @@ pub fn something_sent(chance: &mut Chance, position: &Position, start: usize) ->
     }
 }
 
-/// Walks of up to three steps that each keep a legal route's rules but for one that leads no further off.
-pub fn curls(position: &Position, start: usize) -> Vec<Vec<usize>> {
-    let group = owing_group(position, start);
-    let zones = enemy_zones(position, position.units[group[0]].force());
-    let mut latest = vec![Vec::new()];
-    let mut walks = Vec::new();
-    for _ in 0..3 {
-        latest = latest.iter().flat_map(|walk| longer_by_one(position, start, &zones, walk)).collect();
-        walks.extend(latest.clone());
-    }
-    let runs = runs(position, start, &group);
-    walks.retain(|walk| !runs.contains(walk));
-    walks
-}
-
 /// The walks that curl; most often those alone that are no longer than the longest run, if there are any.
 fn likely_curls(chance: &mut Chance, position: &Position, start: usize, longest: usize) -> Vec<Vec<usize>> {
     let curls = curls(position, start);
@@ -84,12 +69,6 @@ fn heedless(chance: &mut Chance, position: &Position, start: usize) -> Vec<usize
 fn some_pushes(chance: &mut Chance, position: &Position, end: usize) -> Vec<usize> {
     let count = chance.pick(&[1, 1, 1, 2, 3, 9]);
     (0..count).map(|_| any_beside(chance, position, end)).collect()
-}
-
-/// A hex next to one, whatever it is; the one itself where it has no neighbours.
-fn any_beside(chance: &mut Chance, position: &Position, hex: usize) -> usize {
-    let near: Vec<usize> = position.grid().neighbours(hex).into_iter().flatten().collect();
-    chance.pick_any(&near).unwrap_or(hex)
 }
 
 fn any_of(chance: &mut Chance, routes: &[Vec<usize>]) -> Vec<usize> {

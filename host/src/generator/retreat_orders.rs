@@ -1,14 +1,14 @@
 //! Orders for a retreat: vacant routes, series of pushes, part routes, and some that are nearly legal.
 
 use super::chance::Chance;
+use super::lists::{lists_of, order, Lists};
 use super::part_route_orders::{right_part_route, something_sent, wrong_part_route};
+use super::ways::{any_series, beside};
 use crate::order::Order;
+use crate::owing::{only_supply_units, owing_group};
 use crate::position::*;
 use crate::pushes::{Step, Way};
-use crate::retreat::{legal_routes, only_supply_units, owing_group};
-
-/// Route and pushes.
-pub type Lists = (Vec<usize>, Vec<usize>);
+use crate::vacant_routes::legal_routes;
 
 /// An owing hex and what most often is right for the group there; none if nobody owes.
 pub fn plausible_retreat(chance: &mut Chance, position: &Position) -> Option<Order> {
@@ -50,28 +50,6 @@ fn any_group(chance: &mut Chance, position: &Position) -> Option<(usize, Way)> {
     Some((start, Way::from(position, start, &owing_group(position, start))))
 }
 
-fn order(start: usize, (route, pushes): Lists) -> Order {
-    let numbers = |hexes: Vec<usize>| hexes.into_iter().map(|hex| hex as u16).collect();
-    Order::Retreat { hex: start as u16, route: numbers(route), pushes: numbers(pushes) }
-}
-
-fn lists_of(series: &[Step]) -> Lists {
-    let route = series.iter().map(|step| step.to).collect();
-    (route, series.iter().flat_map(|step| step.pushes.clone()).collect())
-}
-
-/// A series of steps that serves, chosen by chance; none if there is none.
-pub fn any_series(chance: &mut Chance, way: &Way) -> Option<Vec<Step>> {
-    if way.is_done() {
-        return Some(Vec::new());
-    }
-    let mut steps = way.steps();
-    chance.shuffle(&mut steps);
-    let step = steps.into_iter().find(|step| way.after(step).some_series())?;
-    let rest = any_series(chance, &way.after(&step))?;
-    Some([vec![step], rest].concat())
-}
-
 /// Steps about as many as are owed, with pushes that mind hardly more than what is adjacent.
 fn loose_series(chance: &mut Chance, way: &Way, start: usize) -> Lists {
     let owed = usize::from(way.board().desk.owed_retreat);
@@ -109,12 +87,6 @@ fn loose_pushes(chance: &mut Chance, board: &Position, here: usize, to: usize) -
         chain.push(next);
     }
     chain.split_off(2)
-}
-
-/// The hexes next to one over an unblocked side where a unit may stand.
-pub fn beside(board: &Position, hex: usize) -> Vec<usize> {
-    let near = board.grid().neighbours(hex).into_iter().flatten();
-    near.filter(|&near| board.joined(hex, near) && board.bears_units(near)).collect()
 }
 
 /// A series changed in one thing.

@@ -1,9 +1,9 @@
 //! Accepted positions in the quiet stage: chart, results, map, units and desk by chance.
 
 use super::chance::Chance;
-use super::neutrals::{any_force, any_pair, enemy_of, players};
+use super::forces::{any_force, any_pair, enemy_of, players};
+use super::units::{takes, unit_of};
 use crate::position::*;
-use crate::unit_type;
 
 /// How rough a map is: the share of each kind of side, surface and terrain.
 #[derive(Clone, Copy)]
@@ -93,14 +93,6 @@ fn terrain_cost(chance: &mut Chance, ground: Ground) -> u8 {
         (_, 3) => chance.byte(4, 9),
         _ => chance.byte(1, 3),
     }
-}
-
-/// Set a side of a hex in any direction; a side at the map's edge stays as it is.
-pub fn set_side(position: &mut Position, hex: usize, direction: usize, side: u8) {
-    let Some(near) = position.grid().neighbour(hex, direction) else { return };
-    let (keeper, stored) = if direction < 3 { (hex, direction) } else { (near, direction - 3) };
-    let sides = &mut position.map.hexes[keeper].sides;
-    *sides = *sides & !(3 << (2 * stored)) | side << (2 * stored);
 }
 
 /// Columns with rising odds; mostly every code may come, sometimes one code fills the table.
@@ -209,43 +201,5 @@ fn likely_hex(chance: &mut Chance, position: &Position) -> usize {
             chance.pick_any(&near).unwrap_or(hex)
         }
         _ => any,
-    }
-}
-
-/// Is there ground for a unit of the force, and room for one more?
-pub fn takes(position: &Position, hex: usize, force: u8) -> bool {
-    let there = position.units_on(hex);
-    let own = there.iter().all(|&unit| position.units[unit].force() == force);
-    position.bears_units(hex) && own && there.len() < 3
-}
-
-/// A unit of a force with any type it may have, often at the limits of its numbers.
-pub fn unit_of(chance: &mut Chance, force: u8, hex: Option<u16>) -> Unit {
-    let nationality = if force == 3 { chance.byte(3, 4) } else { force };
-    let kinds: Vec<u8> = (0..6).filter(|&kind| unit_type::belongs_to(kind, nationality)).collect();
-    let kind = chance.pick(&kinds);
-    let strength = if chance.percent(80) { chance.byte(1, 9) } else { chance.byte_at_limits(1, 60) };
-    let allowance = match kind {
-        unit_type::SUPPLY_UNIT => 0,
-        _ if chance.percent(80) => chance.byte(2, 9),
-        _ => chance.byte_at_limits(0, 30),
-    };
-    let mut unit = Unit::new(nationality, kind, hex.unwrap_or(NONE), strength, allowance);
-    unit.marks |= marks(chance, hex.is_some());
-    unit
-}
-
-/// Any marks on the map, though moved and fought are the rarer; in the box at most tried.
-fn marks(chance: &mut Chance, mapped: bool) -> u8 {
-    let mut marks = chance.byte(0, 3);
-    for mark in [MOVED, FOUGHT] {
-        if chance.percent(15) {
-            marks |= mark;
-        }
-    }
-    if mapped {
-        marks
-    } else {
-        marks & TRIED
     }
 }

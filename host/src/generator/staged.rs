@@ -1,8 +1,10 @@
 //! Positions in the middle of a combat: stages 1 to 3 with roles and routes set validly.
 
 use super::chance::Chance;
-use super::neutrals::other_force;
-use super::scene::{results, set_side, takes, unit_of};
+use super::forces::other_force;
+use super::ground::set_side;
+use super::scene::results;
+use super::units::{takes, unit_of};
 use crate::grid::DIRECTIONS;
 use crate::position::*;
 use crate::unit_type::{SPECIAL_INFANTRY, SUPPLY_UNIT};

@@ -2,12 +2,14 @@
 
 use super::breaks::{break_names, broken_bytes, changed_byte};
 use super::chance::Chance;
-use super::crowds::{add, crowded_road};
+use super::crowds::crowded_road;
 use super::dead_ends::dead_end;
-use super::neutrals::{add_neutrals, hold_routes, neutral_of};
+use super::forces::neutral_of;
+use super::neutrals::{add_neutrals, hold_routes};
 use super::orders::{self, targets};
 use super::scene::{add_unit, empty_scene, few_units, large_size, scene, small_size};
 use super::staged::{add_battle, add_rivers, enter_special_losses, enter_stage};
+use super::units::add;
 use super::writer::{Aim, Writer};
 use crate::contents::written;
 use crate::order::{Answer, Call};

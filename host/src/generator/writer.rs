@@ -1,7 +1,7 @@
 //! The record as it is being written, played along so that orders can be chosen by what they would bring.
 
 use super::chance::Chance;
-use super::neutrals::shared_players;
+use super::forces::shared_players;
 use super::orders;
 use crate::acceptance::accepted;
 use crate::contents::written;
