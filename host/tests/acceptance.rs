@@ -2,9 +2,9 @@
 
 mod common;
 use common::*;
-use host::acceptance::accepted;
-use host::contents::{taken_apart, written};
-use host::position::*;
+use host::rules::board::acceptance::accepted;
+use host::rules::board::contents::{taken_apart, written};
+use host::rules::board::position::*;
 
 /// What a change to a plain 5 x 5 map with one US infantry on hex 12 breaks; "-" if nothing.
 fn breaks(change: impl FnOnce(&mut Position)) -> &'static str {

@@ -2,7 +2,7 @@
 
 mod common;
 use common::*;
-use host::position::*;
+use host::rules::board::position::*;
 
 /// E.S.C. infantry 0 on 12 owes n steps; US infantry 1 on 17, south of it, may advance.
 fn owing(n: u8) -> Position {

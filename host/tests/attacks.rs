@@ -2,7 +2,7 @@
 
 mod common;
 use common::*;
-use host::position::*;
+use host::rules::board::position::*;
 
 /// E.S.C. infantry 0 (strength 4) on 7 attacks S.A.U. infantry 1 (strength 3) on 12; both supplied by ports.
 fn duel(code: u8) -> Position {

@@ -1,6 +1,6 @@
 //! What must be believed is as docs/PROMISES.md lists it, and each file of definitions says which it is.
 
-use host::believed::{table, Specs};
+use host::upkeep::believed::{table, Specs};
 use std::fs;
 use std::path::Path;
 

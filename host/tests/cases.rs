@@ -3,17 +3,17 @@
 mod common;
 use common::crowds::*;
 use common::*;
-use host::contents::written;
-use host::counting::Counting;
-use host::order::Call;
-use host::part_route_cases::Sent;
-use host::player_cases::DESKS;
-use host::player_tally::PlayerTally;
-use host::position::*;
-use host::record::{hex_digits, read, Line};
-use host::retreat_cases::{cases_of, Case};
-use host::table::{Reply, Table};
-use host::tally::Tally;
+use host::coverage::counting::Counting;
+use host::coverage::part_route_cases::Sent;
+use host::coverage::player_cases::DESKS;
+use host::coverage::player_tally::PlayerTally;
+use host::coverage::retreat_cases::{cases_of, Case};
+use host::coverage::tally::Tally;
+use host::record::line::{hex_digits, read, Line};
+use host::record::table::{Reply, Table};
+use host::rules::board::contents::written;
+use host::rules::board::position::*;
+use host::rules::order::Call;
 
 /// The cases of one line of record.
 fn cases(position: &Position, line: &str) -> Vec<Case> {

@@ -1,21 +1,21 @@
 //! The generator: its positions, its breaks, its records.
 
-use host::acceptance::{accepted, line_names};
-use host::contents::written;
-use host::counting::Counting;
-use host::generator::breaks::{break_names, broken_bytes, changed_byte, PLAYER_LINES};
+use host::coverage::counting::Counting;
+use host::coverage::part_route_cases::Sent;
+use host::coverage::player_cases::DESKS;
+use host::coverage::retreat_cases::{Case, CASES};
+use host::coverage::tally::Tally;
 use host::generator::chance::Chance;
-use host::generator::crowds::crowded_road;
-use host::generator::dead_ends::dead_end;
+use host::generator::positions::breaks::{break_names, broken_bytes, changed_byte, PLAYER_LINES};
+use host::generator::positions::crowds::crowded_road;
+use host::generator::positions::dead_ends::dead_end;
+use host::generator::positions::supply_lines::supply_line;
 use host::generator::record;
 use host::generator::stories::any_position;
-use host::generator::supply_lines::supply_line;
-use host::order::{call_list, Call, CALLS};
-use host::part_route_cases::Sent;
-use host::player_cases::DESKS;
-use host::position::RETREATS;
-use host::retreat_cases::{Case, CASES};
-use host::tally::Tally;
+use host::rules::board::acceptance::{accepted, line_names};
+use host::rules::board::contents::written;
+use host::rules::board::position::RETREATS;
+use host::rules::order::{call_list, Call, CALLS};
 
 #[test]
 fn positions_made_by_chance_are_accepted() {

@@ -2,7 +2,7 @@
 
 mod common;
 use common::*;
-use host::position::*;
+use host::rules::board::position::*;
 
 /// US infantry 0 on hex 0 of a row of ten, supplied, allowance 6, force 3 moving.
 fn row() -> Position {

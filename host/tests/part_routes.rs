@@ -3,7 +3,7 @@
 mod common;
 use common::crowds::*;
 use common::*;
-use host::position::*;
+use host::rules::board::position::*;
 
 /// A row with so many vacant hexes beside the E.S.C. infantry 0 on hex 0, which owes n steps; behind them stands
 /// US militia 1, which casts no zone and may advance.

@@ -3,14 +3,14 @@
 mod common;
 use common::crowds::*;
 use common::*;
-use host::acceptance::accepted;
-use host::contents::written;
 use host::generator::record;
-use host::order::CALLS;
-use host::position::*;
-use host::record::{hex_digits, read, Line};
-use host::table::Table;
-use host::zones::enemy_zones;
+use host::record::line::{hex_digits, read, Line};
+use host::record::table::Table;
+use host::rules::board::acceptance::accepted;
+use host::rules::board::contents::written;
+use host::rules::board::position::*;
+use host::rules::board::zones::enemy_zones;
+use host::rules::order::CALLS;
 
 /// The two-player game: one player for forces 0 to 2.
 const TWO_PLAYERS: [u8; 4] = [0, 0, 0, 1];
@@ -678,7 +678,7 @@ fn neutrals_make_no_difference_to_supply() {
             let mut alone = position.clone();
             alone.units.retain(|unit| !position.desk.neutral(unit.force(), nationality));
             compared += usize::from(alone.units.len() < position.units.len());
-            let supplied = |position: &Position| host::supply::supplied_hexes(position, nationality);
+            let supplied = |position: &Position| host::rules::calls::supply::supplied_hexes(position, nationality);
             assert_eq!(supplied(&position), supplied(&alone));
         }
     });
@@ -692,7 +692,7 @@ fn a_referee_that_lets_a_neutrals_zone_stop_a_line_is_wrong() {
     // It would say O for unit 1, as for an Enemy.
     let mut position = line_of_supply();
     stand(&mut position, PAL, INFANTRY, 7, 3);
-    let roster = |position: &Position| host::roster::roster(&written(position));
+    let roster = |position: &Position| host::record::roster::roster(&written(position));
     assert_eq!(roster(&with_players(position.clone(), TWO_PLAYERS)), ["0 0 S", "1 4 S", "2 7 O"]);
     assert_eq!(roster(&with_players(position, FOUR_PLAYERS)), ["0 0 S", "1 4 O", "2 7 O"]);
 }

@@ -3,7 +3,7 @@
 mod common;
 use common::crowds::*;
 use common::*;
-use host::position::*;
+use host::rules::board::position::*;
 
 #[test]
 fn a_chain_pushes_one_two_or_three_stacks() {

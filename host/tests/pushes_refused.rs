@@ -3,7 +3,7 @@
 mod common;
 use common::crowds::*;
 use common::*;
-use host::position::*;
+use host::rules::board::position::*;
 
 #[test]
 fn a_fourth_stack_is_17_where_a_shorter_chain_serves() {

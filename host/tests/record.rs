@@ -2,11 +2,11 @@
 
 mod common;
 use common::*;
-use host::contents::written;
-use host::order::{call_list, Call, Order};
-use host::position::*;
-use host::record::{hex_digits, order_text, read, Line};
-use host::table::Table;
+use host::record::line::{hex_digits, order_text, read, Line};
+use host::record::table::Table;
+use host::rules::board::contents::written;
+use host::rules::board::position::*;
+use host::rules::order::{call_list, Call, Order};
 
 /// Play lines, all answers joined by " | ".
 fn play_on(mut table: Table, lines: &[&[u8]]) -> String {

@@ -1,12 +1,12 @@
 //! Any bytes may come: nothing panics, and what was accepted stays an accepted position.
 
-use host::acceptance::accepted;
-use host::contents::{taken_apart, written};
 use host::generator::chance::Chance;
 use host::generator::record;
 use host::generator::stories::any_position;
-use host::order::CALLS;
-use host::table::Table;
+use host::record::table::Table;
+use host::rules::board::acceptance::accepted;
+use host::rules::board::contents::{taken_apart, written};
+use host::rules::order::CALLS;
 
 #[test]
 fn lines_of_any_bytes_are_played() {

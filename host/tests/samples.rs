@@ -1,6 +1,6 @@
 //! The stored files that hold positions: each is what `samples` writes.
 
-use host::samples::stored;
+use host::upkeep::samples::stored;
 use std::fs;
 use std::path::Path;
 

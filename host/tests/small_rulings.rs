@@ -2,10 +2,10 @@
 
 mod common;
 use common::*;
-use host::battle::{column, halved};
-use host::grid::Grid;
-use host::position::*;
-use host::supply::units_in_supply;
+use host::rules::board::grid::Grid;
+use host::rules::board::position::*;
+use host::rules::calls::battle::{column, halved};
+use host::rules::calls::supply::units_in_supply;
 
 fn near(width: usize, height: usize, hex: usize) -> Vec<Option<usize>> {
     Grid { width, height }.neighbours(hex).to_vec()

@@ -1,7 +1,7 @@
 //! The sample games: the story that the proved program tells, held against this referee's answers.
 
-use host::record::{read, Line};
-use host::table::Table;
+use host::record::line::{read, Line};
+use host::record::table::Table;
 use std::fs;
 use std::path::Path;
 

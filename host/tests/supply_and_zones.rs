@@ -2,8 +2,8 @@
 
 mod common;
 use common::*;
-use host::position::*;
-use host::zones::enemy_zones;
+use host::rules::board::position::*;
+use host::rules::board::zones::enemy_zones;
 
 /// A row of five hexes with US supply on hex 0.
 fn row() -> Position {

@@ -2,10 +2,10 @@
 
 use crate::scenes::{Ground, Scene, TINY};
 use crate::stagings::{self, Staged};
-use host::contents::written;
-use host::order::{Answer, Order};
-use host::position::{COMBAT, LAND_MOVEMENT, MECHANISED};
-use host::referee::rule;
+use host::rules::board::contents::written;
+use host::rules::board::position::{COMBAT, LAND_MOVEMENT, MECHANISED};
+use host::rules::order::{Answer, Order};
+use host::rules::referee::rule;
 
 pub struct Case {
     pub call: &'static str,
@@ -108,8 +108,8 @@ impl Case {
 #[cfg(test)]
 mod tests {
     use super::*;
-    use host::position::NONE;
-    use host::refusal::{Refusal, NO_WAY, PUSHES_NOT_LEGAL};
+    use host::rules::board::position::NONE;
+    use host::rules::refusal::{Refusal, NO_WAY, PUSHES_NOT_LEGAL};
 
     fn all() -> Vec<Case> {
         SIZES.into_iter().flat_map(|(side, count)| cases(side, count)).chain(tiny()).collect()

@@ -4,10 +4,10 @@
 use crate::cases::{Case, SIZES};
 use crate::scenes::{infantry, Ground, Scene, PAL};
 use crate::stagings::{lost, pushed};
-use host::contents::written;
-use host::order::Order;
-use host::position::{Desk, Position, Unit, ALL_SEA, COMBAT, OWES, RETREATS, TRIED};
-use host::unit_type::SUPPLY_UNIT;
+use host::rules::board::contents::written;
+use host::rules::board::position::{Desk, Position, Unit, ALL_SEA, COMBAT, OWES, RETREATS, TRIED};
+use host::rules::board::unit_type::SUPPLY_UNIT;
+use host::rules::order::Order;
 
 /// Who holds the hexes up to six from the middle, row by row: 0 nobody, 1 a stack of three, 2 a supply unit, which
 /// cannot be pushed; 3 is sea. Found by changing a few hexes at a time and keeping what took the search longer.
@@ -64,8 +64,8 @@ pub fn crowds() -> Vec<Case> {
 #[cfg(test)]
 mod tests {
     use super::*;
-    use host::order::Answer;
-    use host::referee::rule;
+    use host::rules::order::Answer;
+    use host::rules::referee::rule;
 
     #[test]
     fn a_crowd_has_four_hundred_and_is_ruled_on_as_named() {

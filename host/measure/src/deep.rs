@@ -2,7 +2,7 @@
 
 use crate::cases::{among_friends, cases, tiny, two_players, Case, SIZES};
 use crate::crowds::crowds;
-use host::order::{Call, Order};
+use host::rules::order::{Call, Order};
 use std::fmt::Write;
 
 /// Every order of the largest maps where six roads are on the desk. Most are refused, but only after the check.
@@ -68,9 +68,9 @@ pub fn line(case: &Case) -> String {
 #[cfg(test)]
 mod tests {
     use super::*;
-    use host::order::{Answer, CALLS};
-    use host::referee::rule;
-    use host::refusal::BROKEN_POSITION;
+    use host::rules::order::{Answer, CALLS};
+    use host::rules::referee::rule;
+    use host::rules::refusal::BROKEN_POSITION;
 
     #[test]
     fn no_position_is_broken_and_every_call_is_made_on_roads() {

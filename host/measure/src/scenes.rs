@@ -1,6 +1,6 @@
 //! The grounds to measure on: an open map, a front, a maze of one lane, a tiny map.
 
-use host::position::{Position, Unit, BLOCKED, PLAIN, SUPPLY};
+use host::rules::board::position::{Position, Unit, BLOCKED, PLAIN, SUPPLY};
 
 pub const ESC: u8 = 1;
 pub const PAL: u8 = 2;

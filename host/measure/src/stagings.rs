@@ -1,14 +1,14 @@
 //! Each call staged on a scene: a position, and an order that is given there.
 
 use crate::scenes::{infantry, Scene, CANADA, PAL, US};
-use host::order::Order;
-use host::owing::owing_group;
-use host::part_routes::part_routes;
-use host::position::{
+use host::rules::board::position::{
     Desk, Position, Route, Unit, ADVANCES, COMBAT, LOSSES, MAY_ADVANCE, OWES, RETREATS, SUPPLIED, TRIED,
 };
-use host::pushes::{Step, Way};
-use host::unit_type::SUPPLY_UNIT;
+use host::rules::board::unit_type::SUPPLY_UNIT;
+use host::rules::calls::owing::owing_group;
+use host::rules::calls::part_routes::part_routes;
+use host::rules::calls::pushes::{Step, Way};
+use host::rules::order::Order;
 
 const ARMOUR: u8 = 0;
 

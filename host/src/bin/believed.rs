@@ -1,7 +1,7 @@
 //! Prints which files of definitions must be believed, in reading order. Ends with status 1 if docs/PROMISES.md lists others, or
 //! if the first line of a file does not say whether it is one of them.
 
-use host::believed::{table, Specs};
+use host::upkeep::believed::{table, Specs};
 use std::error::Error;
 use std::fs;
 use std::path::Path;

@@ -1,7 +1,7 @@
 //! Play a record from standard input and print how often each answer occurs.
 
-use host::counting::Counting;
-use host::order::CALLS;
+use host::coverage::counting::Counting;
+use host::rules::order::CALLS;
 use std::io::{self, Read, Write};
 use std::process::ExitCode;
 

@@ -1,9 +1,9 @@
 //! Play a record and hold the answers against another program's: difference RECORD ANSWERS [--calls LIST].
 //! Exit 0 without difference, 1 with the first difference shown, 2 if the options cannot be read.
 
-use host::contents::taken_apart;
-use host::order::{call_list, Call, CALLS};
-use host::table::{Reply, Table};
+use host::record::table::{Reply, Table};
+use host::rules::board::contents::taken_apart;
+use host::rules::order::{call_list, Call, CALLS};
 use std::fs;
 use std::io::{self, Write};
 use std::process::ExitCode;

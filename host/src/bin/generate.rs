@@ -1,7 +1,7 @@
 //! Write a record made by chance: generate SEED COUNT [--calls LIST].
 
 use host::generator::record;
-use host::order::{call_list, Call, CALLS};
+use host::rules::order::{call_list, Call, CALLS};
 use std::io::{self, Write};
 use std::process::ExitCode;
 

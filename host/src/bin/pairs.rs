@@ -3,14 +3,14 @@
 //! Both are the generated record of the seed, with `echo` and with a `map` after each position and call. In the second,
 //! strengths are others where they stay face down until the next position. Lines that show bytes are left out of both.
 
-use host::acceptance::accepted;
-use host::contents::written;
 use host::generator::chance::Chance;
 use host::generator::record;
-use host::order::CALLS;
-use host::position::TRIED;
-use host::record::{hex_digits, read, Line};
-use host::table::Table;
+use host::record::line::{hex_digits, read, Line};
+use host::record::table::Table;
+use host::rules::board::acceptance::accepted;
+use host::rules::board::contents::written;
+use host::rules::board::position::TRIED;
+use host::rules::order::CALLS;
 use std::fs;
 use std::io::{self, Write};
 use std::process::ExitCode;

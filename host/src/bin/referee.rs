@@ -1,7 +1,7 @@
 //! Play a record from standard input and answer it on standard output.
 
-use host::order::{call_list, Call, CALLS};
-use host::table::Table;
+use host::record::table::Table;
+use host::rules::order::{call_list, Call, CALLS};
 use std::io::{self, BufRead, BufReader, BufWriter, Write};
 use std::process::ExitCode;
 

@@ -1,6 +1,6 @@
-//! Write the stored files that hold positions anew, with the positions that `host::samples` makes.
+//! Write the stored files that hold positions anew, with the positions that `host::upkeep::samples` makes.
 
-use host::samples::stored;
+use host::upkeep::samples::stored;
 use std::fs;
 use std::path::Path;
 

@@ -1,28 +1,14 @@
 //! Records made by chance, to compare referees by.
 
-pub mod breaks;
 pub mod chance;
-pub mod crowds;
-pub mod dead_ends;
-pub mod forces;
-pub mod ground;
-pub mod groups;
-pub mod lists;
-pub mod neutral_orders;
 pub mod neutral_stories;
-pub mod neutrals;
 pub mod orders;
-pub mod part_route_orders;
-pub mod retreat_orders;
-pub mod scene;
-pub mod staged;
+pub mod positions;
 pub mod stories;
-pub mod supply_lines;
-pub mod units;
 pub mod ways;
 pub mod writer;
 
-use crate::order::Call;
+use crate::rules::order::Call;
 use writer::Writer;
 
 /// A record of about `count` call lines, the same for the same seed.

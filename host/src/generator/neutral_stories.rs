@@ -1,17 +1,17 @@
 //! Stories that neutrals decide.
 
-use super::breaks::{break_names, PLAYER_LINES};
-use super::neutrals::{add_neutrals, hold_routes};
 use super::orders;
-use super::scene::scene;
-use super::staged::enter_stage;
+use super::positions::breaks::{break_names, PLAYER_LINES};
+use super::positions::neutrals::{add_neutrals, hold_routes};
+use super::positions::scene::scene;
+use super::positions::staged::enter_stage;
+use super::positions::supply_lines;
 use super::stories::{broken_in, is_in_stage, make_someone_phasing, some_calls};
-use super::supply_lines;
 use super::writer::{Aim, Writer};
-use crate::contents::written;
-use crate::order::Call;
-use crate::position::*;
-use crate::unit_type::SUPPLY_UNIT;
+use crate::rules::board::contents::written;
+use crate::rules::board::position::*;
+use crate::rules::board::unit_type::SUPPLY_UNIT;
+use crate::rules::order::Call;
 
 /// Movers with a long way to go, and neutrals in it.
 pub fn in_the_way(writer: &mut Writer) {

@@ -1,19 +1,19 @@
 //! Stories: a position and several calls on it.
 
-use super::breaks::{break_names, broken_bytes, changed_byte};
 use super::chance::Chance;
-use super::crowds::crowded_road;
-use super::dead_ends::dead_end;
-use super::forces::neutral_of;
-use super::neutrals::{add_neutrals, hold_routes};
 use super::orders::{self, targets};
-use super::scene::{add_unit, empty_scene, few_units, large_size, scene, small_size};
-use super::staged::{add_battle, add_rivers, enter_special_losses, enter_stage};
-use super::units::add;
+use super::positions::breaks::{break_names, broken_bytes, changed_byte};
+use super::positions::crowds::crowded_road;
+use super::positions::dead_ends::dead_end;
+use super::positions::forces::neutral_of;
+use super::positions::neutrals::{add_neutrals, hold_routes};
+use super::positions::scene::{add_unit, empty_scene, few_units, large_size, scene, small_size};
+use super::positions::staged::{add_battle, add_rivers, enter_special_losses, enter_stage};
+use super::positions::units::add;
 use super::writer::{Aim, Writer};
-use crate::contents::written;
-use crate::order::{Answer, Call};
-use crate::position::*;
+use crate::rules::board::contents::written;
+use crate::rules::board::position::*;
+use crate::rules::order::{Answer, Call, CALLS};
 
 /// A small position of any kind: any phase, any stage.
 pub fn any_position(chance: &mut Chance) -> Position {
@@ -278,7 +278,7 @@ pub fn changed(writer: &mut Writer) {
 /// Calls of any kind, the right one for the stage no likelier than others.
 fn any_calls(writer: &mut Writer, count: usize) {
     for _ in 0..count {
-        let calls: Vec<Call> = crate::order::CALLS.into_iter().filter(|&call| writer.exists(call)).collect();
+        let calls: Vec<Call> = CALLS.into_iter().filter(|&call| writer.exists(call)).collect();
         let call = writer.chance.pick(&calls);
         writer.order(call, Aim::Any);
     }

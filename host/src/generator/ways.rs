@@ -1,12 +1,12 @@
 //! Ways about a hex: what lies next to it, a series of steps that serves a group, and walks that curl.
 
 use super::chance::Chance;
-use crate::owing::owing_group;
-use crate::part_routes::runs;
-use crate::position::*;
-use crate::pushes::{Step, Way};
-use crate::vacant_routes::longer_by_one;
-use crate::zones::enemy_zones;
+use crate::rules::board::position::*;
+use crate::rules::board::zones::enemy_zones;
+use crate::rules::calls::owing::owing_group;
+use crate::rules::calls::part_routes::runs;
+use crate::rules::calls::pushes::{Step, Way};
+use crate::rules::calls::vacant_routes::longer_by_one;
 
 /// The hexes next to one over an unblocked side where a unit may stand.
 pub fn beside(board: &Position, hex: usize) -> Vec<usize> {

@@ -1,17 +1,17 @@
 //! The record as it is being written, played along so that orders can be chosen by what they would bring.
 
 use super::chance::Chance;
-use super::forces::shared_players;
 use super::orders;
-use crate::acceptance::accepted;
-use crate::contents::written;
-use crate::order::{Answer, Call, Order};
-use crate::player_cases::{if_away, if_enemy, Ruled};
-use crate::position::*;
-use crate::record::{hex_digits, order_text};
-use crate::retreat_cases::cases_of;
-use crate::table::{Reply, Table};
-use crate::tally::Tally;
+use super::positions::forces::shared_players;
+use crate::coverage::player_cases::{if_away, if_enemy, Ruled};
+use crate::coverage::retreat_cases::cases_of;
+use crate::coverage::tally::Tally;
+use crate::record::line::{hex_digits, order_text};
+use crate::record::table::{Reply, Table};
+use crate::rules::board::acceptance::accepted;
+use crate::rules::board::contents::written;
+use crate::rules::board::position::*;
+use crate::rules::order::{Answer, Call, Order};
 
 /// No story has more calls on one position.
 const LONGEST_STORY: u64 = 60;

@@ -3,10 +3,10 @@
 
 pub mod crowds;
 
-use host::acceptance::accepted;
-use host::contents::written;
-use host::position::*;
-use host::table::Table;
+use host::record::table::Table;
+use host::rules::board::acceptance::accepted;
+use host::rules::board::contents::written;
+use host::rules::board::position::*;
 
 pub const SAU: u8 = 0;
 pub const ESC: u8 = 1;

@@ -2,7 +2,7 @@
 //! `bench` alone prints the calls, a line each, for `painted.c` and `timed.c` to make; `bench ANSWERS COUNTS [TIMES]`
 //! prints the tables from the files that those two and `counter.c` wrote.
 
-use host::referee::rule;
+use host::rules::referee::rule;
 use measure::cases::{among_friends, cases, tiny, two_players, Case, SIZES};
 use measure::crowds::crowds;
 use measure::deep::line;

@@ -3,8 +3,8 @@
 //! Ends with status 1 if a call may use more than its limit, or uses more than the frames allow, or if the library exports
 //! a function that is not among the calls.
 
-use host::order::{Call, CALLS};
-use host::refusal::BROKEN_POSITION;
+use host::rules::order::{Call, CALLS};
+use host::rules::refusal::BROKEN_POSITION;
 use measure::bound::{bytes, chain, Link};
 use measure::disassembly::{functions, Function};
 use measure::frames::{frame, Frame};
