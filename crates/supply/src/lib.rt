@@ -34,7 +34,7 @@ pub fn fill(p: &[u8], v: View, n: usize, out: &mut [u8])
     ensures { λ _. ⌜ now (out .exit) ≡ supplyMap (scene (board (now (p .entry)))) n ⌝ }
 {
     grades(p, v, n, out);
-    walk::walk(p, v, out);
+    walking::walk(p, v, out);
 }
 
 // 2 or more for each hex that is supplied for nationality `n`, 1 for each other that is open, and 0 for each that is closed.
@@ -43,7 +43,7 @@ pub fn trace(p: &[u8], v: View, n: usize, out: &mut [u8])
     ensures { λ _. ⌜ Traced (scene (board (now (p .entry)))) n (now (out .exit)) ⌝ }
 {
     grades(p, v, n, out);
-    walk::reach(p, v, out);
+    walking::reach(p, v, out);
 }
 
 // The same for Canada, in a buffer that holds it for the US: they are one force, so that only the sources differ.
@@ -52,7 +52,7 @@ pub fn retrace(p: &[u8], v: View, out: &mut [u8])
     ensures { λ _. ⌜ Traced (scene (board (now (p .entry)))) canada (now (out .exit)) ⌝ }
 {
     grade::regrade(p, v, out);
-    walk::reach(p, v, out);
+    walking::reach(p, v, out);
 }
 
 // The supply call on a checked position: 1 or 0 per hex for a nationality, into a buffer of exactly width x height bytes.
