@@ -5,8 +5,8 @@ use borrow.Author.Needs.{needs}
 use Rattle.retreat.specs.Answers.{retreatedAs}
 use Rattle.retreat.specs.declared.Retreated.{Retreated}
 use Rattle.ruling.specs.Packed.{packed, valuesOf}
-use Rattle.referee.proofs.pack_retreated.Statement.{statement}
-use Rattle.referee.proofs.pack_retreated.Tie as tie
+use Rattle.packing.proofs.pack_retreated.Statement.{statement}
+use Rattle.packing.proofs.pack_retreated.Tie as tie
 
 enum-known-a : tie.Need-enum-known-a
 enum-known-a c = search needs

@@ -5,8 +5,8 @@ use borrow.Author.Needs.{needs}
 use Rattle.march.specs.Answers.{movedAs}
 use Rattle.march.specs.declared.Moved.{Moved}
 use Rattle.ruling.specs.Packed.{packed, valuesOf}
-use Rattle.referee.proofs.pack_moved.Statement.{statement}
-use Rattle.referee.proofs.pack_moved.Tie as tie
+use Rattle.packing.proofs.pack_moved.Statement.{statement}
+use Rattle.packing.proofs.pack_moved.Tie as tie
 
 enum-told : tie.Need-enum-told
 enum-told c = search needs

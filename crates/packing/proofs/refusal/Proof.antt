@@ -3,8 +3,8 @@
 use mathlib.Core.Path.{refl}
 use borrow.Author.Needs.{needs}
 use Rattle.ruling.specs.Packed.{refusalOf}
-use Rattle.referee.proofs.refusal.Statement.{statement}
-use Rattle.referee.proofs.refusal.Tie as tie
+use Rattle.packing.proofs.refusal.Statement.{statement}
+use Rattle.packing.proofs.refusal.Tie as tie
 
 mul-result : tie.Need-mul-result
 mul-result c = search needs

@@ -5,8 +5,8 @@ use borrow.Author.Needs.{needs}
 use Rattle.battle.specs.Answers.{foughtAs}
 use Rattle.battle.specs.declared.Fought.{Fought}
 use Rattle.ruling.specs.Packed.{packed, valuesOf}
-use Rattle.referee.proofs.pack_fought.Statement.{statement}
-use Rattle.referee.proofs.pack_fought.Tie as tie
+use Rattle.packing.proofs.pack_fought.Statement.{statement}
+use Rattle.packing.proofs.pack_fought.Tie as tie
 
 enum-known-a : tie.Need-enum-known-a
 enum-known-a c = search needs

@@ -5,8 +5,8 @@ use borrow.Author.Needs.{needs}
 use Rattle.ruling.specs.Answers.{answerAs}
 use Rattle.ruling.specs.declared.Answer.{Answer}
 use Rattle.ruling.specs.Packed.{packed, valuesOf}
-use Rattle.referee.proofs.pack_answer.Statement.{statement}
-use Rattle.referee.proofs.pack_answer.Tie as tie
+use Rattle.packing.proofs.pack_answer.Statement.{statement}
+use Rattle.packing.proofs.pack_answer.Tie as tie
 
 enum-told : tie.Need-enum-told
 enum-told c = search needs
