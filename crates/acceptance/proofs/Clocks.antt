@@ -4,5 +4,5 @@ use Rattle.clock.specs.Clock.{Timely}
 use Rattle.position.specs.Board.{Desk}
 use Rattle.acceptance.specs.Accepted.{ClockOk}
 
-pub timely : {d : Desk} → ClockOk d → Timely d.lastTurn d.clock
-timely k = record { turn = k.lastTurn.low; force = k.force; phase = k.phase }
+pub timely : {d : Desk} → ClockOk d → Timely d.last_turn d.clock
+timely k = record { turn = k.last_turn.low; force = k.force; phase = k.phase }

@@ -11,13 +11,13 @@ use Rattle.position.specs.Crowd.{crowd}
 use Rattle.position.specs.Change.Change.{destroyed, assigned}
 use Rattle.position.specs.Effect.{change}
 use Rattle.position.specs.Role as Role
-use Rattle.position.proofs.Tallies.{same_or, equals, equals-yes, equals-is, tally-le}
-use Rattle.position.proofs.Crowds.{crowd-is}
-use Rattle.position.proofs.Effects.{upd-there, upd-else, faced-face}
+use Rattle.position.proofs.Tallies.{same_or, equals, equals_yes, equals_is, tally_le}
+use Rattle.position.proofs.Crowds.{crowd_is}
+use Rattle.position.proofs.Effects.{upd_there, upd_else, faced_face}
 use Rattle.acceptance.specs.Accepted.{UnitsOk}
 use Rattle.acceptance.specs.Asked.{AloneOk, StacksOk, OneForce, RolesOk}
-use Rattle.acceptance.proofs.Carries.{Fixed, standable-by, force-by}
-use Rattle.acceptance.proofs.Asking.{units-asked, alone_of, stacks-of, roles-of}
+use Rattle.acceptance.proofs.Carries.{Fixed, standable_by, force_by}
+use Rattle.acceptance.proofs.Asking.{units_asked, alone_of, stacks_of, roles_of}
 
 -- unit w is as it was
 pub record Same (s t : Units) (w : ℕ) : Type 0 where
@@ -45,12 +45,12 @@ pub record Freed (s t : Units) (w : ℕ) : Type 0 where
   pub role : t.state.role w ≡ Role.none
 
 module _ {s t v : Units} {w : ℕ} where
-  pub same-trans : Same s t w → Same t v w → Same s v w
-  same-trans a b = record { hex = b.hex ∙ a.hex; marks = b.marks ∙ a.marks; role = b.role ∙ a.role }
+  pub same_trans : Same s t w → Same t v w → Same s v w
+  same_trans a b = record { hex = b.hex ∙ a.hex; marks = b.marks ∙ a.marks; role = b.role ∙ a.role }
 
   module _ {f : ℕ} where
-    pub same-fated : Same s t w → Fated t v f w → Fated s v f w
-    same-fated a b =
+    pub same_fated : Same s t w → Fated t v f w → Fated s v f w
+    same_fated a b =
         record {
           role = b.role;
           face = b.face ∙ ap (has tried) a.marks;
@@ -59,8 +59,8 @@ module _ {s t v : Units} {w : ℕ} where
           keeps = λ n. b.keeps n ∙ a.marks;
         }
 
-    pub fated-same : Fated s t f w → Same t v w → Fated s v f w
-    fated-same a b =
+    pub fated_same : Fated s t f w → Same t v w → Fated s v f w
+    fated_same a b =
         record {
           role = b.role ∙ a.role;
           face = ap (has tried) b.marks ∙ a.face;
@@ -69,8 +69,8 @@ module _ {s t v : Units} {w : ℕ} where
           keeps = λ n. b.marks ∙ a.keeps n;
         }
 
-    pub fated-twice : Fated s t f w → Fated t v f w → Fated s v f w
-    fated-twice a b =
+    pub fated_twice : Fated s t f w → Fated t v f w → Fated s v f w
+    fated_twice a b =
         record {
           role = b.role;
           face = b.face ∙ a.face;
@@ -80,58 +80,58 @@ module _ {s t v : Units} {w : ℕ} where
         }
 
 -- a unit destroyed, and one given a role
-faced-none : (m : ℕ) → faced m 0 ≤ tried
+faced_none : (m : ℕ) → faced m 0 ≤ tried
 unfolding faced
-faced-none m = omega arith
+faced_none m = omega arith
 
 module _ (b : Board) (u : ℕ) where
-  pub destroyed-else : (w : ℕ) → (w ≡ u → ⊥) → Same b.units (change b (destroyed u)).units w
+  pub destroyed_else : (w : ℕ) → (w ≡ u → ⊥) → Same b.units (change b (destroyed u)).units w
   unfolding change
-  destroyed-else w n =
-      let at : (f : ℕ → ℕ) (x : ℕ) → _ = λ f x. upd-else b.units.count f u x w (λ _ e. n e) in
+  destroyed_else w n =
+      let at : (f : ℕ → ℕ) (x : ℕ) → _ = λ f x. upd_else b.units.count f u x w (λ _ e. n e) in
       record { hex = at b.units.state.hex nowhere; marks = at b.units.state.marks (faced (b.units.state.marks u) 0); role = at b.units.state.role 0 }
 
-  pub destroyed-here : u < b.units.count → Fated b.units (change b (destroyed u)).units Role.none u
+  pub destroyed_here : u < b.units.count → Fated b.units (change b (destroyed u)).units Role.none u
   unfolding change
-  destroyed-here l =
-      let m = upd-there b.units.count b.units.state.marks u (faced (b.units.state.marks u) 0) l in
+  destroyed_here l =
+      let m = upd_there b.units.count b.units.state.marks u (faced (b.units.state.marks u) 0) l in
       record {
-        role = upd-there b.units.count b.units.state.role u Role.none l;
-        face = ap (has tried) m ∙ faced-face (b.units.state.marks u) 0;
+        role = upd_there b.units.count b.units.state.role u Role.none l;
+        face = ap (has tried) m ∙ faced_face (b.units.state.marks u) 0;
         lost =
             λ _.
             record {
-              hex = upd-there b.units.count b.units.state.hex u nowhere l;
-              marks = rw m (faced-none (b.units.state.marks u));
+              hex = upd_there b.units.count b.units.state.hex u nowhere l;
+              marks = rw m (faced_none (b.units.state.marks u));
             };
         stays = λ n. absurd (n refl);
         keeps = λ n. absurd (n refl);
       }
 
   module _ (r : ℕ) where
-    pub assigned-else : (w : ℕ) → (w ≡ u → ⊥) → Same b.units (change b (assigned u r)).units w
+    pub assigned_else : (w : ℕ) → (w ≡ u → ⊥) → Same b.units (change b (assigned u r)).units w
     unfolding change
-    assigned-else w n = record { hex = refl; marks = refl; role = upd-else b.units.count b.units.state.role u r w (λ _ e. n e) }
+    assigned_else w n = record { hex = refl; marks = refl; role = upd_else b.units.count b.units.state.role u r w (λ _ e. n e) }
 
-    pub assigned-here : u < b.units.count → (r ≡ 0 → ⊥) → Fated b.units (change b (assigned u r)).units r u
+    pub assigned_here : u < b.units.count → (r ≡ 0 → ⊥) → Fated b.units (change b (assigned u r)).units r u
     unfolding change
-    assigned-here l n =
+    assigned_here l n =
         record {
-          role = upd-there b.units.count b.units.state.role u r l;
+          role = upd_there b.units.count b.units.state.role u r l;
           face = refl;
           lost = λ e. absurd (n e);
           stays = λ _. refl;
           keeps = λ _. refl;
         }
 
-  pub assigned-none : u < b.units.count → Freed b.units (change b (assigned u Role.none)).units u
+  pub assigned_none : u < b.units.count → Freed b.units (change b (assigned u Role.none)).units u
   unfolding change
-  assigned-none l = record { hex = refl; marks = refl; role = upd-there b.units.count b.units.state.role u Role.none l }
+  assigned_none l = record { hex = refl; marks = refl; role = upd_there b.units.count b.units.state.role u Role.none l }
 
 -- the lines on one unit, on stacks and on roles
 module _ {b c : Board} (f : Fixed b c) where
-  pub alone-same : (w : ℕ) → Same b.units c.units w → AloneOk b w → AloneOk c w
-  alone-same w e o =
+  pub alone_same : (w : ℕ) → Same b.units c.units w → AloneOk b w → AloneOk c w
+  alone_same w e o =
       record {
         counter =
             record {
@@ -155,7 +155,7 @@ module _ {b c : Board} (f : Fixed b c) where
                   let d = o.ground.destroyed (sym e.hex ∙ n) in
                   record { role = e.role ∙ d.role; marks = rw e.marks d.marks };
               stands =
-                  λ n. ap (standable c) e.hex ∙ standable-by f (b.units.state.hex w) ∙ o.ground.stands (λ z. n (e.hex ∙ z));
+                  λ n. ap (standable c) e.hex ∙ standable_by f (b.units.state.hex w) ∙ o.ground.stands (λ z. n (e.hex ∙ z));
             };
       }
 
@@ -192,13 +192,13 @@ module _ {b c : Board} (f : Fixed b c) where
                   λ n.
                   same_or r 0
                   (λ z. absurd (n (e.lost z).hex))
-                  (λ z. ap (standable c) (e.stays z) ∙ standable-by f (b.units.state.hex w) ∙ o.ground.stands (m z));
+                  (λ z. ap (standable c) (e.stays z) ∙ standable_by f (b.units.state.hex w) ∙ o.ground.stands (m z));
             };
       }
 
   -- a unit without its role
-  pub alone-freed : (w : ℕ) → Freed b.units c.units w → AloneOk b w → AloneOk c w
-  alone-freed w e o =
+  pub alone_freed : (w : ℕ) → Freed b.units c.units w → AloneOk b w → AloneOk c w
+  alone_freed w e o =
       record {
         counter =
             record {
@@ -213,7 +213,7 @@ module _ {b c : Board} (f : Fixed b c) where
               destroyed =
                   λ n. record { role = e.role; marks = rw e.marks (o.ground.destroyed (sym e.hex ∙ n)).marks };
               stands =
-                  λ n. ap (standable c) e.hex ∙ standable-by f (b.units.state.hex w) ∙ o.ground.stands (λ z. n (e.hex ∙ z));
+                  λ n. ap (standable c) e.hex ∙ standable_by f (b.units.state.hex w) ∙ o.ground.stands (λ z. n (e.hex ∙ z));
             };
       }
 
@@ -221,27 +221,27 @@ module _ {b c : Board} (f : Fixed b c) where
   module _
       (most : b.map.hexes ≤ nowhere)
       (at : (w : ℕ) → w < b.units.count → (c.units.state.hex w ≡ nowhere → ⊥) → c.units.state.hex w ≡ b.units.state.hex w) where
-    crowd-less : (h : ℕ) → (h ≡ nowhere → ⊥) → crowd c h ≤ crowd b h
-    crowd-less h n =
-        rw (crowd-is c h, crowd-is b h, f.count)
-        (tally-le (equals c.units.state.hex h) (equals b.units.state.hex h) b.units.count
+    crowd_less : (h : ℕ) → (h ≡ nowhere → ⊥) → crowd c h ≤ crowd b h
+    crowd_less h n =
+        rw (crowd_is c h, crowd_is b h, f.count)
+        (tally_le (equals c.units.state.hex h) (equals b.units.state.hex h) b.units.count
         (λ w l e.
-        let q = equals-is c.units.state.hex h w e in
-        equals-yes b.units.state.hex h w (sym (at w l (λ z. n (sym q ∙ z))) ∙ q)))
+        let q = equals_is c.units.state.hex h w e in
+        equals_yes b.units.state.hex h w (sym (at w l (λ z. n (sym q ∙ z))) ∙ q)))
 
-    pub stacks-fewer : StacksOk b → StacksOk c
-    stacks-fewer s u l low high =
+    pub stacks_fewer : StacksOk b → StacksOk c
+    stacks_fewer s u l low high =
         let h : c.units.state.hex u < b.map.hexes = rw f.map at high in
         let n : c.units.state.hex u ≡ nowhere → ⊥ = λ e. absurd (omega arith) in
         let m : u < b.units.count = omega (arith, f.count) in
         let q = at u m n in
         let k = s u m (omega arith) (rw q at h) in
         record {
-          room = omega (arith, crowd-less (c.units.state.hex u) n, ap (crowd b) q, k.room);
+          room = omega (arith, crowd_less (c.units.state.hex u) n, ap (crowd b) q, k.room);
           one =
               λ w g e.
               let i : w < b.units.count = omega (arith, f.count) in
-              force-by f w ∙ k.one w i (sym (at w i (λ z. n (sym e ∙ z))) ∙ e ∙ q) ∙ sym (force-by f u);
+              force_by f w ∙ k.one w i (sym (at w i (λ z. n (sym e ∙ z))) ∙ e ∙ q) ∙ sym (force_by f u);
         }
 
   -- who has a role had it before
@@ -252,22 +252,22 @@ module _ {b c : Board} (f : Fixed b c) where
         let m : w < b.units.count = omega (arith, f.count) in
         (m, sym (had w m (λ z. n (sym e ∙ z))) ∙ e)
 
-    one-force-fewer : (r : ℕ) → (r ≡ 0 → ⊥) → OneForce b r → OneForce c r
-    one-force-fewer r n o u l w m p q =
+    one_force_fewer : (r : ℕ) → (r ≡ 0 → ⊥) → OneForce b r → OneForce c r
+    one_force_fewer r n o u l w m p q =
         let x = role-before r u l n p in
         let y = role-before r w m n q in
-        force-by f w ∙ o u x.0 w y.0 x.1 y.1 ∙ sym (force-by f u)
+        force_by f w ∙ o u x.0 w y.0 x.1 y.1 ∙ sym (force_by f u)
 
-    pub roles-fewer : RolesOk b → RolesOk c
-    roles-fewer o =
+    pub roles_fewer : RolesOk b → RolesOk c
+    roles_fewer o =
         record {
-          owing = one-force-fewer 1 (λ e. omega arith) o.owing;
-          advancing = one-force-fewer 2 (λ e. omega arith) o.advancing;
+          owing = one_force_fewer 1 (λ e. omega arith) o.owing;
+          advancing = one_force_fewer 2 (λ e. omega arith) o.advancing;
           apart =
               λ u l w m p q e.
               let x = role-before Role.owes u l (λ z. omega arith) p in
               let y = role-before Role.advances w m (λ z. omega arith) q in
-              o.apart u x.0 w y.0 x.1 y.1 (sym (force-by f w) ∙ e ∙ force-by f u);
+              o.apart u x.0 w y.0 x.1 y.1 (sym (force_by f w) ∙ e ∙ force_by f u);
         }
 
   -- who may advance owed before, and none owes now
@@ -286,7 +286,7 @@ module _ {b c : Board} (f : Fixed b c) where
         owing = λ u l w m p q. absurd (two u l p);
         advancing =
             λ u l w m p q.
-            force-by f w ∙ o.owing u (below u l) w (below w m) (one u l p) (one w m q) ∙ sym (force-by f u);
+            force_by f w ∙ o.owing u (below u l) w (below w m) (one u l p) (one w m q) ∙ sym (force_by f u);
         apart = λ u l w m p q e. two u l p;
       }
 
@@ -296,29 +296,29 @@ pub data Lesser (s t : Units) (w : ℕ) : Type 0 where
   freed : Freed s t w → Lesser s t w
   gone : Fated s t Role.none w → Lesser s t w
 
-lesser-hex : {s t : Units} {w : ℕ} → Lesser s t w → (t.state.hex w ≡ nowhere → ⊥) → t.state.hex w ≡ s.state.hex w
-lesser-hex (same e) n = e.hex
-lesser-hex (freed e) n = e.hex
-lesser-hex (gone e) n = absurd (n (e.lost refl).hex)
+lesser_hex : {s t : Units} {w : ℕ} → Lesser s t w → (t.state.hex w ≡ nowhere → ⊥) → t.state.hex w ≡ s.state.hex w
+lesser_hex (same e) n = e.hex
+lesser_hex (freed e) n = e.hex
+lesser_hex (gone e) n = absurd (n (e.lost refl).hex)
 
-lesser-role : {s t : Units} {w : ℕ} → Lesser s t w → (t.state.role w ≡ Role.none → ⊥) → t.state.role w ≡ s.state.role w
-lesser-role (same e) n = e.role
-lesser-role (freed e) n = absurd (n e.role)
-lesser-role (gone e) n = absurd (n e.role)
+lesser_role : {s t : Units} {w : ℕ} → Lesser s t w → (t.state.role w ≡ Role.none → ⊥) → t.state.role w ≡ s.state.role w
+lesser_role (same e) n = e.role
+lesser_role (freed e) n = absurd (n e.role)
+lesser_role (gone e) n = absurd (n e.role)
 
-lesser-alone : {b c : Board} → Fixed b c → (w : ℕ) → Lesser b.units c.units w → AloneOk b w → AloneOk c w
-lesser-alone f w (same e) o = alone-same f w e o
-lesser-alone f w (freed e) o = alone-freed f w e o
-lesser-alone f w (gone e) o = alone-fated f 0 w e (omega arith) (λ n. absurd (n refl)) (λ n. absurd (n refl)) o
+lesser_alone : {b c : Board} → Fixed b c → (w : ℕ) → Lesser b.units c.units w → AloneOk b w → AloneOk c w
+lesser_alone f w (same e) o = alone_same f w e o
+lesser_alone f w (freed e) o = alone_freed f w e o
+lesser_alone f w (gone e) o = alone-fated f 0 w e (omega arith) (λ n. absurd (n refl)) (λ n. absurd (n refl)) o
 
 -- units that only lose keep the lines on units
 pub units-fewer :
     {b c : Board} → Fixed b c → b.map.hexes ≤ nowhere → ((w : ℕ) → w < b.units.count → Lesser b.units c.units w)
     → UnitsOk b → UnitsOk c
 units-fewer {b} {c} f most each o =
-    units-asked
+    units_asked
     (λ w l.
     let m : w < b.units.count = omega (arith, f.count) in
-    lesser-alone f w (each w m) (alone_of o w m))
-    (stacks-fewer f most (λ w l. lesser-hex (each w l)) (stacks-of o most))
-    (roles-fewer f (λ w l. lesser-role (each w l)) (roles-of o))
+    lesser_alone f w (each w m) (alone_of o w m))
+    (stacks_fewer f most (λ w l. lesser_hex (each w l)) (stacks_of o most))
+    (roles_fewer f (λ w l. lesser_role (each w l)) (roles_of o))

@@ -10,138 +10,138 @@ use lib.Seq.{get_or-set_same, get_or-set_other}
 use lib.Dec.{eqb}
 use borrow.Author.Tests.{eq-eqb, ne_eqb, eqb-true}
 use Rattle.position.specs.Tally.{tally, any}
-use Rattle.position.specs.Layout.{routeCount}
+use Rattle.position.specs.Layout.{route_count}
 use Rattle.position.specs.Board.{Board}
-use Rattle.position.specs.Crowd.{owesAt, owingHexes}
+use Rattle.position.specs.Crowd.{owes_at, owing_hexes}
 use Rattle.position.specs.Role as Role
 use Rattle.position.proofs.Tallies.{
-  not-both,
+  not_both,
   same_or,
   either,
-  tally-zero,
-  tally-hit,
-  tally-miss,
-  tally-grows,
-  any-zero,
-  any-miss,
+  tally_zero,
+  tally_hit,
+  tally_miss,
+  tally_grows,
+  any_zero,
+  any_miss,
   any_step,
-  any-true,
+  any_true,
   any_same,
 }
 use Rattle.acceptance.specs.Holder.{UpToSeven}
 use Rattle.acceptance.specs.Noted.{among, NoteOf, heads, Noted}
 
 -- a count up to seven is never more than what it counts
-pub seven-most : {k r : ℕ} → UpToSeven k r → r ≤ k
-seven-most {r = r} s = same_or r 7 (λ e. omega (arith, s.over e)) (λ n. omega (arith, s.exact (omega arith)))
+pub seven_most : {k r : ℕ} → UpToSeven k r → r ≤ k
+seven_most {r = r} s = same_or r 7 (λ e. omega (arith, s.over e)) (λ n. omega (arith, s.exact (omega arith)))
 
 module _ (s : List ℕ) (h : ℕ) where
   pub among_none : among s 0 h ≡ false
   unfolding among
-  among_none = any-zero _
+  among_none = any_zero _
 
   module _ (j : ℕ) where
-    pub among-found : (k : ℕ) → j < k → get_or s j 0 ≡ h → among s k h ≡ true
+    pub among_found : (k : ℕ) → j < k → get_or s j 0 ≡ h → among s k h ≡ true
     unfolding among
-    among-found k l e = any-true _ k j l (eq-eqb (get_or s j 0) h e)
+    among_found k l e = any_true _ k j l (eq-eqb (get_or s j 0) h e)
 
-    pub among-past : (get_or s j 0 ≡ h → ⊥) → among s j h ≡ false → among s (j + 1) h ≡ false
+    pub among_past : (get_or s j 0 ≡ h → ⊥) → among s j h ≡ false → among s (j + 1) h ≡ false
     unfolding among
-    among-past n e = any-miss _ j (ne_eqb (get_or s j 0) h n) ∙ e
+    among_past n e = any_miss _ j (ne_eqb (get_or s j 0) h n) ∙ e
 
   -- one hex more at the end of those noted
-  among-set : (k : ℕ) → k < length s → (x : ℕ) → among (set s k h) (k + 1) x ≡ (eqb h x || among s k x)
+  among_set : (k : ℕ) → k < length s → (x : ℕ) → among (set s k h) (k + 1) x ≡ (eqb h x || among s k x)
   unfolding among
-  among-set k l x =
+  among_set k l x =
       any_step _ k
       ∙ ap (λ (y : ℕ). eqb y x || any (λ j. eqb (get_or (set s k h) j 0) x) k) (get_or-set_same s k h 0 l)
       ∙ ap (λ (y : Bool). eqb h x || y)
       (any_same _ _ k (λ j m. ap (λ (y : ℕ). eqb y x) (get_or-set_other s k j h 0 (λ e. omega arith))))
 
   -- a hex that is noted already is none more
-  among-known : (k : ℕ) → among s k h ≡ true → (x : ℕ) → among s k x ≡ (eqb h x || among s k x)
-  among-known k e x = either (eqb h x) (λ p. ap (among s k) (sym (eqb-true h x p)) ∙ e ∙ sym (simp p)) (λ p. sym (simp p))
+  among_known : (k : ℕ) → among s k h ≡ true → (x : ℕ) → among s k x ≡ (eqb h x || among s k x)
+  among_known k e x = either (eqb h x) (λ p. ap (among s k) (sym (eqb-true h x p)) ∙ e ∙ sym (simp p)) (λ p. sym (simp p))
 
   module _ (k : ℕ) where
-    pub note-known : among s k h ≡ true → NoteOf s s k h k
-    note-known e = record { long = refl; known = λ p. refl; fresh = λ p. not-both _ e p; here = λ l. among-known k e }
+    pub note_known : among s k h ≡ true → NoteOf s s k h k
+    note_known e = record { long = refl; known = λ p. refl; fresh = λ p. not_both _ e p; here = λ l. among_known k e }
 
-    pub note-fresh : among s k h ≡ false → k < length s → NoteOf s (set s k h) k h (k + 1)
-    note-fresh e l = record { long = length-set s k h; known = λ p. not-both _ p e; fresh = λ p. refl; here = λ m. among-set k l }
+    pub note_fresh : among s k h ≡ false → k < length s → NoteOf s (set s k h) k h (k + 1)
+    note_fresh e l = record { long = length-set s k h; known = λ p. not_both _ p e; fresh = λ p. refl; here = λ m. among_set k l }
 
-    pub note-full : among s k h ≡ false → k ≡ routeCount → NoteOf s s k h (routeCount + 1)
-    note-full e l = record { long = refl; known = λ p. not-both _ p e; fresh = λ p. omega arith; here = λ m. absurd (omega arith) }
+    pub note_full : among s k h ≡ false → k ≡ route_count → NoteOf s s k h (route_count + 1)
+    note_full e l = record { long = refl; known = λ p. not_both _ p e; fresh = λ p. omega arith; here = λ m. absurd (omega arith) }
 
 module _ (b : Board) (u : ℕ) where
-  owes-hex : (h : ℕ) → b.units.state.role u ≡ Role.owes → b.units.state.hex u ≡ h → (x : ℕ) → owesAt b x u ≡ eqb h x
-  unfolding owesAt
-  owes-hex h e i x = simp (eq-eqb (b.units.state.role u) Role.owes e, i)
+  owes_hex : (h : ℕ) → b.units.state.role u ≡ Role.owes → b.units.state.hex u ≡ h → (x : ℕ) → owes_at b x u ≡ eqb h x
+  unfolding owes_at
+  owes_hex h e i x = simp (eq-eqb (b.units.state.role u) Role.owes e, i)
 
-  owes-no : (b.units.state.role u ≡ Role.owes → ⊥) → (x : ℕ) → owesAt b x u ≡ false
-  unfolding owesAt
-  owes-no e x = simp (ne_eqb (b.units.state.role u) Role.owes e)
+  owes_no : (b.units.state.role u ≡ Role.owes → ⊥) → (x : ℕ) → owes_at b x u ≡ false
+  unfolding owes_at
+  owes_no e x = simp (ne_eqb (b.units.state.role u) Role.owes e)
 
-  heads-yes : b.units.state.role u ≡ Role.owes → any (owesAt b (b.units.state.hex u)) u ≡ false → heads b u ≡ true
+  heads_yes : b.units.state.role u ≡ Role.owes → any (owes_at b (b.units.state.hex u)) u ≡ false → heads b u ≡ true
   unfolding heads
-  heads-yes e f = simp (eq-eqb (b.units.state.role u) Role.owes e, f)
+  heads_yes e f = simp (eq-eqb (b.units.state.role u) Role.owes e, f)
 
-  heads-late : any (owesAt b (b.units.state.hex u)) u ≡ true → heads b u ≡ false
+  heads_late : any (owes_at b (b.units.state.hex u)) u ≡ true → heads b u ≡ false
   unfolding heads
-  heads-late e = simp (e, and-false)
+  heads_late e = simp (e, and-false)
 
-  heads-no : (b.units.state.role u ≡ Role.owes → ⊥) → heads b u ≡ false
+  heads_no : (b.units.state.role u ≡ Role.owes → ⊥) → heads b u ≡ false
   unfolding heads
-  heads-no e = simp (ne_eqb (b.units.state.role u) Role.owes e)
+  heads_no e = simp (ne_eqb (b.units.state.role u) Role.owes e)
 
-pub owing-hexes-is : (b : Board) → owingHexes b ≡ tally (heads b) b.units.count
-unfolding owingHexes heads
-owing-hexes-is b = refl
+pub owing_hexes_is : (b : Board) → owing_hexes b ≡ tally (heads b) b.units.count
+unfolding owing_hexes heads
+owing_hexes_is b = refl
 
 module _ {b : Board} where
-  pub noted-none : (s : List ℕ) → length s ≡ routeCount → Noted b 0 0 s
-  noted-none s l = record { long = l; many = sym (tally-zero _); here = λ h. among_none s h ∙ sym (any-zero _) }
+  pub noted_none : (s : List ℕ) → length s ≡ route_count → Noted b 0 0 s
+  noted_none s l = record { long = l; many = sym (tally_zero _); here = λ h. among_none s h ∙ sym (any_zero _) }
 
   module _ {u k : ℕ} {s : List ℕ} (o : Noted b u k s) where
     -- past a unit that does not owe
-    pub noted-past : (b.units.state.role u ≡ Role.owes → ⊥) → Noted b (u + 1) k s
-    noted-past n =
+    pub noted_past : (b.units.state.role u ≡ Role.owes → ⊥) → Noted b (u + 1) k s
+    noted_past n =
         record {
           long = o.long;
-          many = o.many ∙ sym (tally-miss _ u (heads-no b u n));
-          here = λ h. o.here h ∙ sym (any-miss _ u (owes-no b u n h));
+          many = o.many ∙ sym (tally_miss _ u (heads_no b u n));
+          here = λ h. o.here h ∙ sym (any_miss _ u (owes_no b u n h));
         }
 
     module _ {t : List ℕ} {h r : ℕ} (e : b.units.state.role u ≡ Role.owes) (i : b.units.state.hex u ≡ h) (n : NoteOf s t k h r) where
       -- past one that does, whose hex is noted
       many_more : r ≡ tally (heads b) (u + 1)
       many_more =
-          let q = ap (λ (y : ℕ). any (owesAt b y) u) i ∙ sym (o.here h) in
+          let q = ap (λ (y : ℕ). any (owes_at b y) u) i ∙ sym (o.here h) in
           either (among s k h)
-          (λ p. n.known p ∙ o.many ∙ sym (tally-miss _ u (heads-late b u (q ∙ p))))
-          (λ p. omega (arith, n.fresh p, tally-hit (heads b) u (heads-yes b u e (q ∙ p))))
+          (λ p. n.known p ∙ o.many ∙ sym (tally_miss _ u (heads_late b u (q ∙ p))))
+          (λ p. omega (arith, n.fresh p, tally_hit (heads b) u (heads_yes b u e (q ∙ p))))
 
-      pub noted_more : r ≤ routeCount → Noted b (u + 1) r t
+      pub noted_more : r ≤ route_count → Noted b (u + 1) r t
       noted_more l =
           record {
             long = n.long ∙ o.long;
             many = many_more;
-            here = λ x. n.here l x ∙ rw (o.here x, ← owes-hex b u h e i x) (sym (any_step _ u));
+            here = λ x. n.here l x ∙ rw (o.here x, ← owes_hex b u h e i x) (sym (any_step _ u));
           }
 
       -- a seventh hex
-      pub noted-over : routeCount < r → u < b.units.count → UpToSeven (owingHexes b) 7
-      noted-over q l =
-          let g = tally-grows (heads b) (u + 1) b.units.count (omega arith) in
+      pub noted_over : route_count < r → u < b.units.count → UpToSeven (owing_hexes b) 7
+      noted_over q l =
+          let g = tally_grows (heads b) (u + 1) b.units.count (omega arith) in
           record {
             small = omega arith;
             exact = λ m. absurd (omega arith);
-            over = λ m. omega (arith, many_more, owing-hexes-is b);
+            over = λ m. omega (arith, many_more, owing_hexes_is b);
           }
 
-    pub noted-all : u ≡ b.units.count → k ≤ routeCount → UpToSeven (owingHexes b) k
-    noted-all e l =
+    pub noted_all : u ≡ b.units.count → k ≤ route_count → UpToSeven (owing_hexes b) k
+    noted_all e l =
         record {
           small = omega arith;
-          exact = λ m. o.many ∙ ap (tally (heads b)) e ∙ sym (owing-hexes-is b);
+          exact = λ m. o.many ∙ ap (tally (heads b)) e ∙ sym (owing_hexes_is b);
           over = λ m. absurd (omega arith);
         }

@@ -7,16 +7,16 @@ use native.Mathlib.Omega.{arith}
 use native.Mathlib.Numerals.{add-one}
 use lib.Dec.{eqb}
 use borrow.Author.Tests.{lt-ltb, eq-eqb, ne_eqb}
-use Rattle.position.specs.Layout.{routeCount, routeHexes}
+use Rattle.position.specs.Layout.{route_count, route_hexes}
 use Rattle.position.specs.Board.{Board, nowhere}
 use Rattle.position.specs.Ground.{standable}
 use Rattle.position.specs.Crowd.{filled, routes}
 use Rattle.position.specs.Change.Change.{routed, unrouted}
 use Rattle.position.specs.Effect.{of_four, reroute, unfilled, change}
-use Rattle.position.proofs.Tallies.{not-both, same_or, either, tally-most, tally-same, but, but-self, but-other, tally-but-hit, tally-but-miss}
+use Rattle.position.proofs.Tallies.{not_both, same_or, either, tally_most, tally_same, but, but_self, but_other, tally_but_hit, tally_but_miss}
 use Rattle.acceptance.specs.Accepted.{PlaceOk, RoutesOk}
-use Rattle.acceptance.proofs.Carries.{Fixed, fixed-change, standable-by}
-use Rattle.acceptance.proofs.Counts.{tally-nought, front-passes, front-counted}
+use Rattle.acceptance.proofs.Carries.{Fixed, fixed_change, standable_by}
+use Rattle.acceptance.proofs.Counts.{tally_nought, front_passes, front_counted}
 
 -- a place of a route that is as it was
 place_same :
@@ -29,77 +29,77 @@ place_same {b} {c} f i j e g o =
             front = λ n q. o.link.front (λ z. n (g ∙ z)) (sym e ∙ q);
             step = λ n. rw (e, g, f.map) (o.link.step (λ z. n (g ∙ z)));
           };
-      stands = λ n. ap (standable c) e ∙ standable-by f (b.desk.route i j) ∙ o.stands (λ z. n (e ∙ z));
+      stands = λ n. ap (standable c) e ∙ standable_by f (b.desk.route i j) ∙ o.stands (λ z. n (e ∙ z));
     }
 
 module _ (b : Board) (r w x y z : ℕ) where
   abbrev written : Board
   written = change b (routed r w x y z)
 
-  pub route-there : r < routeCount → (j : ℕ) → written.desk.route r j ≡ of_four j w x y z
+  pub route_there : r < route_count → (j : ℕ) → written.desk.route r j ≡ of_four j w x y z
   unfolding change reroute
-  route-there l j = simp (lt-ltb r routeCount l, eq-eqb r r refl)
+  route_there l j = simp (lt-ltb r route_count l, eq-eqb r r refl)
 
-  route-else : (i : ℕ) → (i ≡ r → ⊥) → (j : ℕ) → written.desk.route i j ≡ b.desk.route i j
+  route_else : (i : ℕ) → (i ≡ r → ⊥) → (j : ℕ) → written.desk.route i j ≡ b.desk.route i j
   unfolding change reroute
-  route-else i n j = simp (ne_eqb i r n, and-false)
+  route_else i n j = simp (ne_eqb i r n, and-false)
 
-  pub filled-there : r < routeCount → (w ≡ nowhere → ⊥) → filled written r ≡ true
+  pub filled_there : r < route_count → (w ≡ nowhere → ⊥) → filled written r ≡ true
   unfolding filled
-  filled-there l n = ap (λ (k : ℕ). not (eqb k nowhere)) (route-there l 0) ∙ ap not (ne_eqb w nowhere n)
+  filled_there l n = ap (λ (k : ℕ). not (eqb k nowhere)) (route_there l 0) ∙ ap not (ne_eqb w nowhere n)
 
-  pub filled-else : (i : ℕ) → (i ≡ r → ⊥) → filled written i ≡ filled b i
+  pub filled_else : (i : ℕ) → (i ≡ r → ⊥) → filled written i ≡ filled b i
   unfolding filled
-  filled-else i n = ap (λ (k : ℕ). not (eqb k nowhere)) (route-else i n 0)
+  filled_else i n = ap (λ (k : ℕ). not (eqb k nowhere)) (route_else i n 0)
 
   pub routes-written :
-      r < routeCount → (w ≡ nowhere → ⊥) → ((i : ℕ) → i + 1 ≡ r → filled b i ≡ true) → ((j : ℕ) → j < routeHexes → PlaceOk written r j)
+      r < route_count → (w ≡ nowhere → ⊥) → ((i : ℕ) → i + 1 ≡ r → filled b i ≡ true) → ((j : ℕ) → j < route_hexes → PlaceOk written r j)
       → RoutesOk b → RoutesOk written
   routes-written l n before path o i m =
       record {
         first =
             λ p.
-            same_or i r (λ e. ap (filled written) e ∙ filled-there l n)
-            (λ d. filled-else i d ∙ same_or (i + 1) r (before i) (λ k. (o i m).first (sym (filled-else (i + 1) k) ∙ p)));
+            same_or i r (λ e. ap (filled written) e ∙ filled_there l n)
+            (λ d. filled_else i d ∙ same_or (i + 1) r (before i) (λ k. (o i m).first (sym (filled_else (i + 1) k) ∙ p)));
         places =
             λ j k.
             same_or i r (λ e. subst (λ (h : ℕ). PlaceOk written h j) (sym e) (path j k))
             (λ d.
-            place_same (fixed-change b (routed r w x y z)) i j (route-else i d j) (route-else i d (j + 1)) ((o i m).places j k));
+            place_same (fixed_change b (routed r w x y z)) i j (route_else i d j) (route_else i d (j + 1)) ((o i m).places j k));
       }
 
 -- behind a hex alone nothing follows
-alone-after : (h j : ℕ) → of_four (suc j) h nowhere nowhere nowhere ≡ nowhere
-alone-after h zero = refl
-alone-after h (suc zero) = refl
-alone-after h (suc (suc zero)) = refl
-alone-after h (suc (suc (suc j))) = refl
+alone_after : (h j : ℕ) → of_four (suc j) h nowhere nowhere nowhere ≡ nowhere
+alone_after h zero = refl
+alone_after h (suc zero) = refl
+alone_after h (suc (suc zero)) = refl
+alone_after h (suc (suc (suc j))) = refl
 
 -- a hex alone as a route
-module _ (b : Board) (r h : ℕ) (l : r < routeCount) (s : standable b h ≡ true) where
+module _ (b : Board) (r h : ℕ) (l : r < route_count) (s : standable b h ≡ true) where
   abbrev lone : Board
   lone = change b (routed r h nowhere nowhere nowhere)
 
-  lone-next : (j : ℕ) → lone.desk.route r (j + 1) ≡ nowhere
-  lone-next j = route-there b r h nowhere nowhere nowhere l (j + 1) ∙ rw (add-one j) (alone-after h j)
+  lone_next : (j : ℕ) → lone.desk.route r (j + 1) ≡ nowhere
+  lone_next j = route_there b r h nowhere nowhere nowhere l (j + 1) ∙ rw (add-one j) (alone_after h j)
 
-  lone-stands : (j : ℕ) → (lone.desk.route r j ≡ nowhere → ⊥) → standable lone (lone.desk.route r j) ≡ true
-  lone-stands zero n =
-      ap (standable lone) (route-there b r h nowhere nowhere nowhere l 0)
-      ∙ standable-by (fixed-change b (routed r h nowhere nowhere nowhere)) h
+  lone_stands : (j : ℕ) → (lone.desk.route r j ≡ nowhere → ⊥) → standable lone (lone.desk.route r j) ≡ true
+  lone_stands zero n =
+      ap (standable lone) (route_there b r h nowhere nowhere nowhere l 0)
+      ∙ standable_by (fixed_change b (routed r h nowhere nowhere nowhere)) h
       ∙ s
-  lone-stands (suc j) n = absurd (n (route-there b r h nowhere nowhere nowhere l (suc j) ∙ alone-after h j))
+  lone_stands (suc j) n = absurd (n (route_there b r h nowhere nowhere nowhere l (suc j) ∙ alone_after h j))
 
-  lone-place : (j : ℕ) → PlaceOk lone r j
-  lone-place j =
+  lone_place : (j : ℕ) → PlaceOk lone r j
+  lone_place j =
       record {
-        link = record { front = λ n. absurd (n (lone-next j)); step = λ n. absurd (n (lone-next j)) };
-        stands = lone-stands j;
+        link = record { front = λ n. absurd (n (lone_next j)); step = λ n. absurd (n (lone_next j)) };
+        stands = lone_stands j;
       }
 
   pub routes-lone :
       (h ≡ nowhere → ⊥) → ((i : ℕ) → i + 1 ≡ r → filled b i ≡ true) → RoutesOk b → RoutesOk lone
-  routes-lone n before o = routes-written b r h nowhere nowhere nowhere l n before (λ j _. lone-place j) o
+  routes-lone n before o = routes-written b r h nowhere nowhere nowhere l n before (λ j _. lone_place j) o
 
 -- no route at all
 module _ (b : Board) where
@@ -111,10 +111,10 @@ module _ (b : Board) where
   unfolding filled
   empty r = ap (λ (k : ℕ). not (eqb k nowhere)) (cleared r 0)
 
-  pub routes-cleared : RoutesOk (change b unrouted)
-  routes-cleared r l =
+  pub routes_cleared : RoutesOk (change b unrouted)
+  routes_cleared r l =
       record {
-        first = λ p. not-both (filled (change b unrouted) (r + 1)) p (empty (r + 1));
+        first = λ p. not_both (filled (change b unrouted) (r + 1)) p (empty (r + 1));
         places =
             λ j k.
             record {
@@ -123,38 +123,38 @@ module _ (b : Board) where
             };
       }
 
-  pub routes-none : routes (change b unrouted) ≡ 0
+  pub routes_none : routes (change b unrouted) ≡ 0
   unfolding routes
-  routes-none = tally-nought (filled (change b unrouted)) routeCount (λ r _. empty r)
+  routes_none = tally_nought (filled (change b unrouted)) route_count (λ r _. empty r)
 
 -- Filled routes come first: those below their number are filled, the others are not.
 module _ {b : Board} (o : RoutesOk b) where
-  first-filled : (i : ℕ) → i + 1 < routeCount → filled b (i + 1) ≡ true → filled b i ≡ true
-  first-filled i l = (o i (omega arith)).first
+  first_filled : (i : ℕ) → i + 1 < route_count → filled b (i + 1) ≡ true → filled b i ≡ true
+  first_filled i l = (o i (omega arith)).first
 
-  pub routes-filled : (i : ℕ) → i < routes b → filled b i ≡ true
+  pub routes_filled : (i : ℕ) → i < routes b → filled b i ≡ true
   unfolding routes
-  routes-filled i l = front-passes (filled b) routeCount first-filled i (omega (arith, tally-most (filled b) routeCount)) l
+  routes_filled i l = front_passes (filled b) route_count first_filled i (omega (arith, tally_most (filled b) route_count)) l
 
-  pub routes-empty : (i : ℕ) → routes b ≤ i → i < routeCount → filled b i ≡ false
+  pub routes_empty : (i : ℕ) → routes b ≤ i → i < route_count → filled b i ≡ false
   unfolding routes
-  routes-empty i l m = either (filled b i) (λ e. absurd (omega (arith, front-counted (filled b) routeCount first-filled i m e))) (λ e. e)
+  routes_empty i l m = either (filled b i) (λ e. absurd (omega (arith, front_counted (filled b) route_count first_filled i m e))) (λ e. e)
 
 -- a route written where none was is one more
 pub routes-more :
-    (b : Board) (r w x y z : ℕ) → r < routeCount → (w ≡ nowhere → ⊥) → filled b r ≡ false
+    (b : Board) (r w x y z : ℕ) → r < route_count → (w ≡ nowhere → ⊥) → filled b r ≡ false
     → routes (change b (routed r w x y z)) ≡ routes b + 1
 unfolding routes
 routes-more b r w x y z l n e =
     let s = filled (change b (routed r w x y z)) in
     let t = filled b in
-    let h = tally-but-hit s r routeCount l (filled-there b r w x y z l n) in
-    let m = tally-but-miss t r routeCount e in
+    let h = tally_but_hit s r route_count l (filled_there b r w x y z l n) in
+    let m = tally_but_miss t r route_count e in
     let k =
-    tally-same (but s r) (but t r) routeCount
+    tally_same (but s r) (but t r) route_count
     (λ i _.
     same_or i r
-    (λ q. but-self s r i q ∙ sym (but-self t r i q))
-    (λ q. but-other s r i q ∙ filled-else b r w x y z i q ∙ sym (but-other t r i q)))
+    (λ q. but_self s r i q ∙ sym (but_self t r i q))
+    (λ q. but_other s r i q ∙ filled_else b r w x y z i q ∙ sym (but_other t r i q)))
     in
     omega arith

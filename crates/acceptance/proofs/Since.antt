@@ -6,22 +6,22 @@ use mathlib.Core.Path.{◌≡◌, refl, sym, ap, ◌∙◌}
 use mathlib.Core.Bool.{true}
 use native.Mathlib.Omega.{arith}
 use lib.Dec.{ltb}
-use Rattle.position.specs.Layout.{routeCount, routeHexes}
+use Rattle.position.specs.Layout.{route_count, route_hexes}
 use Rattle.position.specs.Board.{Board, Desk, nowhere}
 use Rattle.position.specs.Crowd.{filled}
 use Rattle.position.specs.Change.{Change}
 use Rattle.position.specs.Change.Change.{placed, destroyed, assigned, staged, routed, unrouted}
-use Rattle.position.specs.Effect.{withStage, withRoutes, reroute, unfilled, withDesk, change}
+use Rattle.position.specs.Effect.{with_stage, with_routes, reroute, unfilled, with_desk, change}
 use Rattle.position.specs.Stage as Stage
 use Rattle.position.specs.Role as Role
 use Rattle.position.proofs.Tallies.{same_or, either}
 use Rattle.acceptance.specs.Accepted.{UnitsOk, StageOk, PlaceOk, RoutesOk, Lawful}
-use Rattle.acceptance.proofs.Carries.{Fixed, fixed-desk, fixed-change, routes-ok-by, lawful-by}
-use Rattle.acceptance.proofs.Lawfuls.{Room, units-placed}
-use Rattle.acceptance.proofs.Fates.{destroyed-else, destroyed-here, assigned-else, assigned-none, units-fewer}
+use Rattle.acceptance.proofs.Carries.{Fixed, fixed_desk, fixed_change, routes_ok_by, lawful_by}
+use Rattle.acceptance.proofs.Lawfuls.{Room, units_placed}
+use Rattle.acceptance.proofs.Fates.{destroyed_else, destroyed_here, assigned_else, assigned_none, units-fewer}
 use Rattle.acceptance.proofs.Fates.Lesser.{same, freed, gone}
-use Rattle.acceptance.proofs.Stills.{fixed-refl, fixed-trans}
-use Rattle.acceptance.proofs.Routings.{routes-written, routes-cleared}
+use Rattle.acceptance.proofs.Stills.{fixed_refl, fixed_trans}
+use Rattle.acceptance.proofs.Routings.{routes-written, routes_cleared}
 use Rattle.clock.specs.Phase as Phase
 
 -- board c, since board b
@@ -31,8 +31,8 @@ pub record Since (b c : Board) : Type 0 where
   pub units : UnitsOk c
   pub routes : RoutesOk c
 
-pub since-lawful : {b : Board} → Lawful b → Since b b
-since-lawful {b} l = record { fixed = fixed-refl b; clock = refl; units = l.units; routes = l.routes }
+pub since_lawful : {b : Board} → Lawful b → Since b b
+since_lawful {b} l = record { fixed = fixed_refl b; clock = refl; units = l.units; routes = l.routes }
 
 -- the board at the end
 pub lawful-since :
@@ -41,10 +41,10 @@ pub lawful-since :
 lawful-since l s most combat stage =
     let k = l.clock in
     let i = s.clock in
-    lawful-by s.fixed s.units
+    lawful_by s.fixed s.units
     (record {
       turn = rw i k.turn;
-      lastTurn = rw (i, s.fixed.lastTurn) k.lastTurn;
+      last_turn = rw (i, s.fixed.last_turn) k.last_turn;
       force = rw i k.force;
       phase = rw i k.phase;
       stage = most;
@@ -55,80 +55,80 @@ lawful-since l s most combat stage =
     l
 
 -- placing a unit leaves the desk
-pub placed-desk : (c : Board) (u h : ℕ) → (change c (placed u h)).desk ≡ c.desk
+pub placed_desk : (c : Board) (u h : ℕ) → (change c (placed u h)).desk ≡ c.desk
 unfolding change
-placed-desk c u h = either (ltb h c.map.hexes) (λ e. simp e) (λ e. simp e)
+placed_desk c u h = either (ltb h c.map.hexes) (λ e. simp e) (λ e. simp e)
 
 module _ {b c : Board} (most : b.map.hexes ≤ nowhere) (s : Since b c) where
   small : c.map.hexes ≤ nowhere
   small = rw s.fixed.map most
 
   -- a change that leaves the desk, and another desk
-  since-units : (x : Change) → (change c x).desk ≡ c.desk → UnitsOk (change c x) → Since b (change c x)
-  since-units x e o =
-      let f = fixed-change c x in
+  since_units : (x : Change) → (change c x).desk ≡ c.desk → UnitsOk (change c x) → Since b (change c x)
+  since_units x e o =
+      let f = fixed_change c x in
       record {
-        fixed = fixed-trans s.fixed f;
+        fixed = fixed_trans s.fixed f;
         clock = ap (λ (d : Desk). d.clock) e ∙ s.clock;
         units = o;
-        routes = routes-ok-by f (ap (λ (d : Desk). d.route) e) s.routes;
+        routes = routes_ok_by f (ap (λ (d : Desk). d.route) e) s.routes;
       }
 
   since-desk :
-      (d : Desk) → d.lastTurn ≡ c.desk.lastTurn → d.player ≡ c.desk.player → d.clock ≡ c.desk.clock → RoutesOk (withDesk c d)
-      → Since b (withDesk c d)
+      (d : Desk) → d.last_turn ≡ c.desk.last_turn → d.player ≡ c.desk.player → d.clock ≡ c.desk.clock → RoutesOk (with_desk c d)
+      → Since b (with_desk c d)
   since-desk d e g k o =
-      let f = fixed-desk c d e g in
+      let f = fixed_desk c d e g in
       record {
-        fixed = fixed-trans s.fixed f;
+        fixed = fixed_trans s.fixed f;
         clock = k ∙ s.clock;
         units = units-fewer f small (λ w l. same (record { hex = refl; marks = refl; role = refl })) s.units;
         routes = o;
       }
 
   -- unit u is destroyed, has no role any more, or goes where there is room
-  pub since-destroyed : (u : ℕ) → Since b (change c (destroyed u))
+  pub since_destroyed : (u : ℕ) → Since b (change c (destroyed u))
   unfolding change
-  since-destroyed u =
-      since-units (destroyed u) refl
-      (units-fewer (fixed-change c (destroyed u)) small
+  since_destroyed u =
+      since_units (destroyed u) refl
+      (units-fewer (fixed_change c (destroyed u)) small
       (λ w l.
       same_or u w
-      (λ e. rw (sym e) (gone (destroyed-here c u (omega arith))))
-      (λ n. same (destroyed-else c u w (λ e. n (sym e)))))
+      (λ e. rw (sym e) (gone (destroyed_here c u (omega arith))))
+      (λ n. same (destroyed_else c u w (λ e. n (sym e)))))
       s.units)
 
-  pub since-freed : (u : ℕ) → Since b (change c (assigned u Role.none))
+  pub since_freed : (u : ℕ) → Since b (change c (assigned u Role.none))
   unfolding change
-  since-freed u =
-      since-units (assigned u Role.none) refl
-      (units-fewer (fixed-change c (assigned u Role.none)) small
+  since_freed u =
+      since_units (assigned u Role.none) refl
+      (units-fewer (fixed_change c (assigned u Role.none)) small
       (λ w l.
       same_or u w
-      (λ e. rw (sym e) (freed (assigned-none c u (omega arith))))
-      (λ n. same (assigned-else c u 0 w (λ e. n (sym e)))))
+      (λ e. rw (sym e) (freed (assigned_none c u (omega arith))))
+      (λ n. same (assigned_else c u 0 w (λ e. n (sym e)))))
       s.units)
 
-  pub since-placed : (u h : ℕ) → u < c.units.count → Room c u h → Since b (change c (placed u h))
-  since-placed u h l r = since-units (placed u h) (placed-desk c u h) (units-placed s.units u h l r)
+  pub since_placed : (u h : ℕ) → u < c.units.count → Room c u h → Since b (change c (placed u h))
+  since_placed u h l r = since_units (placed u h) (placed_desk c u h) (units_placed s.units u h l r)
 
   -- the stage is set, and route r is written, given what its places are
-  pub since-staged : (t n x : ℕ) → Since b (change c (staged t n x))
+  pub since_staged : (t n x : ℕ) → Since b (change c (staged t n x))
   unfolding change
-  since-staged t n x =
-      since-desk (withStage c.desk t n x) refl refl refl
-      (routes-ok-by (fixed-change c (staged t n x)) refl s.routes)
+  since_staged t n x =
+      since-desk (with_stage c.desk t n x) refl refl refl
+      (routes_ok_by (fixed_change c (staged t n x)) refl s.routes)
 
   pub since-routed :
-      (r w x y z : ℕ) → r < routeCount → (w ≡ nowhere → ⊥) → ((i : ℕ) → i + 1 ≡ r → filled c i ≡ true)
-      → ((j : ℕ) → j < routeHexes → PlaceOk (change c (routed r w x y z)) r j) → Since b (change c (routed r w x y z))
+      (r w x y z : ℕ) → r < route_count → (w ≡ nowhere → ⊥) → ((i : ℕ) → i + 1 ≡ r → filled c i ≡ true)
+      → ((j : ℕ) → j < route_hexes → PlaceOk (change c (routed r w x y z)) r j) → Since b (change c (routed r w x y z))
   unfolding change
   since-routed r w x y z l n before path =
-      since-desk (withRoutes c.desk (reroute c.desk.route r w x y z)) refl refl refl
+      since-desk (with_routes c.desk (reroute c.desk.route r w x y z)) refl refl refl
       (routes-written c r w x y z l n before path s.routes)
 
   -- the routes are cleared
-  pub since-unrouted : Since b (change c unrouted)
+  pub since_unrouted : Since b (change c unrouted)
   unfolding change
-  since-unrouted =
-      since-desk (withRoutes c.desk unfilled) refl refl refl (routes-cleared c)
+  since_unrouted =
+      since-desk (with_routes c.desk unfilled) refl refl refl (routes_cleared c)

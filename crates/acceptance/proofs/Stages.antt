@@ -7,8 +7,8 @@ use Rattle.position.specs.Stage as Stage
 use Rattle.acceptance.specs.Accepted.{QuietOk, RetreatsOk, AdvancesOk, StageOk}
 
 module _ {b : Board} where
-  pub stage-quiet : b.desk.battle.stage ≡ Stage.quiet → b.desk.battle.owed ≡ 0 → b.desk.battle.need ≡ 0 → QuietOk b → StageOk b
-  stage-quiet e n x o =
+  pub stage_quiet : b.desk.battle.stage ≡ Stage.quiet → b.desk.battle.owed ≡ 0 → b.desk.battle.need ≡ 0 → QuietOk b → StageOk b
+  stage_quiet e n x o =
       record {
         during =
             record {
@@ -21,8 +21,8 @@ module _ {b : Board} where
         need = λ _. x;
       }
 
-  pub stage-retreats : b.desk.battle.stage ≡ Stage.retreats → b.desk.battle.need ≡ 0 → RetreatsOk b → StageOk b
-  stage-retreats e x o =
+  pub stage_retreats : b.desk.battle.stage ≡ Stage.retreats → b.desk.battle.need ≡ 0 → RetreatsOk b → StageOk b
+  stage_retreats e x o =
       record {
         during =
             record {
@@ -35,8 +35,8 @@ module _ {b : Board} where
         need = λ _. x;
       }
 
-  pub stage-advances : b.desk.battle.stage ≡ Stage.advances → b.desk.battle.owed ≡ 0 → b.desk.battle.need ≡ 0 → AdvancesOk b → StageOk b
-  stage-advances e n x o =
+  pub stage_advances : b.desk.battle.stage ≡ Stage.advances → b.desk.battle.owed ≡ 0 → b.desk.battle.need ≡ 0 → AdvancesOk b → StageOk b
+  stage_advances e n x o =
       record {
         during =
             record {

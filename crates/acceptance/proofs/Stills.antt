@@ -5,38 +5,38 @@ use mathlib.Core.Path.{◌≡◌, refl, sym, ap, subst, ◌∙◌}
 use mathlib.Core.Bool.{true}
 use mathlib.Core.List.{List, [], ◌∷◌}
 use native.Mathlib.Omega.{arith}
-use Rattle.position.specs.Bits.{marksEnd, has, with, tried, faced}
+use Rattle.position.specs.Bits.{marks_end, has, with, tried, faced}
 use Rattle.position.specs.Board.{Board}
 use Rattle.position.specs.Change.{Change}
 use Rattle.position.specs.Change.Change.{destroyed, marked}
-use Rattle.position.specs.Effect.{withShown, change, changes, turnedUp}
-use Rattle.position.proofs.BitLaws.{with-within}
+use Rattle.position.specs.Effect.{with_shown, change, changes, turned_up}
+use Rattle.position.proofs.BitLaws.{with_within}
 use Rattle.position.proofs.BitLaws.UnitMark.{is-tried}
-use Rattle.position.proofs.Effects.{upd-there, upd-case, faced-face, turned-face}
+use Rattle.position.proofs.Effects.{upd_there, upd_case, faced_face, turned_face}
 use Rattle.acceptance.specs.Accepted.{Lawful}
-use Rattle.acceptance.proofs.Carries.{Fixed, fixed-units, fixed-desk, fixed-change}
-use Rattle.acceptance.proofs.Lawfuls.{Suited, suited-same, lawful-still}
+use Rattle.acceptance.proofs.Carries.{Fixed, fixed_units, fixed_desk, fixed_change}
+use Rattle.acceptance.proofs.Lawfuls.{Suited, suited_same, lawful-still}
 
 -- what never changes, after one change and another
-pub fixed-refl : (b : Board) → Fixed b b
-fixed-refl b = fixed-desk b b.desk refl refl
+pub fixed_refl : (b : Board) → Fixed b b
+fixed_refl b = fixed_desk b b.desk refl refl
 
-pub fixed-trans : {b c d : Board} → Fixed b c → Fixed c d → Fixed b d
-fixed-trans f g =
+pub fixed_trans : {b c d : Board} → Fixed b c → Fixed c d → Fixed b d
+fixed_trans f g =
     record {
       chart = g.chart ∙ f.chart;
       results = g.results ∙ f.results;
       map = g.map ∙ f.map;
       count = g.count ∙ f.count;
       counter = g.counter ∙ f.counter;
-      lastTurn = g.lastTurn ∙ f.lastTurn;
+      last_turn = g.last_turn ∙ f.last_turn;
       players = g.players ∙ f.players;
     }
 
-pub fixed-changes : (xs : List Change) (b : Board) → Fixed b (changes b xs)
+pub fixed_changes : (xs : List Change) (b : Board) → Fixed b (changes b xs)
 unfolding changes
-fixed-changes [] b = fixed-refl b
-fixed-changes (x ∷ xs) b = fixed-trans (fixed-change b x) (fixed-changes xs (change b x))
+fixed_changes [] b = fixed_refl b
+fixed_changes (x ∷ xs) b = fixed_trans (fixed_change b x) (fixed_changes xs (change b x))
 
 -- nobody moves, owes or may advance otherwise, the desk is the same, and nothing that was seen is hidden
 pub record Still (b c : Board) : Type 0 where
@@ -46,13 +46,13 @@ pub record Still (b c : Board) : Type 0 where
   pub desk : c.desk ≡ b.desk
   pub face : (w : ℕ) → has tried (b.units.state.marks w) ≡ true → has tried (c.units.state.marks w) ≡ true
 
-pub still-refl : (b : Board) → Still b b
-still-refl b = record { fixed = fixed-refl b; hex = refl; role = refl; desk = refl; face = λ w e. e }
+pub still_refl : (b : Board) → Still b b
+still_refl b = record { fixed = fixed_refl b; hex = refl; role = refl; desk = refl; face = λ w e. e }
 
-pub still-trans : {b c d : Board} → Still b c → Still c d → Still b d
-still-trans s t =
+pub still_trans : {b c d : Board} → Still b c → Still c d → Still b d
+still_trans s t =
     record {
-      fixed = fixed-trans s.fixed t.fixed;
+      fixed = fixed_trans s.fixed t.fixed;
       hex = t.hex ∙ s.hex;
       role = t.role ∙ s.role;
       desk = t.desk ∙ s.desk;
@@ -60,65 +60,65 @@ still-trans s t =
     }
 
 -- a unit turned over
-with-tried-bare : (m : ℕ) → m ≤ tried → with tried m ≤ tried
+with_tried_bare : (m : ℕ) → m ≤ tried → with tried m ≤ tried
 unfolding with
-with-tried-bare m l = omega arith
+with_tried_bare m l = omega arith
 
 module _ (b : Board) (u x : ℕ) where
   turned-case :
       (P : ℕ → Type 0) (w : ℕ) → (w ≡ u → P (with tried (b.units.state.marks u))) → P (b.units.state.marks w)
-      → P ((turnedUp b u x).units.state.marks w)
-  unfolding turnedUp
-  turned-case P w f y = upd-case P b.units.count b.units.state.marks u (with tried (b.units.state.marks u)) w (λ _ e. f e) y
+      → P ((turned_up b u x).units.state.marks w)
+  unfolding turned_up
+  turned-case P w f y = upd_case P b.units.count b.units.state.marks u (with tried (b.units.state.marks u)) w (λ _ e. f e) y
 
-  pub turned-still : Still b (turnedUp b u x)
-  unfolding turnedUp
-  turned-still =
+  pub turned_still : Still b (turned_up b u x)
+  unfolding turned_up
+  turned_still =
       record {
-        fixed = fixed-units b (withShown b.units u x) refl refl;
+        fixed = fixed_units b (with_shown b.units u x) refl refl;
         hex = refl;
         role = refl;
         desk = refl;
-        face = λ w t. turned-case (λ m. has tried m ≡ true) w (λ e. turned-face (b.units.state.marks u)) t;
+        face = λ w t. turned-case (λ m. has tried m ≡ true) w (λ e. turned_face (b.units.state.marks u)) t;
       }
 
-  pub turned-tried : u < b.units.count → has tried ((turnedUp b u x).units.state.marks u) ≡ true
-  unfolding turnedUp
-  turned-tried l =
-      ap (has tried) (upd-there b.units.count b.units.state.marks u (with tried (b.units.state.marks u)) l) ∙ turned-face (b.units.state.marks u)
+  pub turned_tried : u < b.units.count → has tried ((turned_up b u x).units.state.marks u) ≡ true
+  unfolding turned_up
+  turned_tried l =
+      ap (has tried) (upd_there b.units.count b.units.state.marks u (with tried (b.units.state.marks u)) l) ∙ turned_face (b.units.state.marks u)
 
-  turned-suited : (w : ℕ) → Suited b b w → Suited b (turnedUp b u x) w
-  turned-suited w s =
+  turned_suited : (w : ℕ) → Suited b b w → Suited b (turned_up b u x) w
+  turned_suited w s =
       record {
         marks =
-            turned-case (λ m. m < marksEnd) w
-            (λ e. with-within is-tried (b.units.state.marks u) (subst (λ (k : ℕ). b.units.state.marks k < marksEnd) e s.marks))
+            turned-case (λ m. m < marks_end) w
+            (λ e. with_within is-tried (b.units.state.marks u) (subst (λ (k : ℕ). b.units.state.marks k < marks_end) e s.marks))
             s.marks;
-        face = turned-still.face w;
+        face = turned_still.face w;
         destroyed =
             λ z.
             turned-case (λ m. m ≤ tried) w
-            (λ e. with-tried-bare (b.units.state.marks u) (subst (λ (k : ℕ). b.units.state.marks k ≤ tried) e (s.destroyed z)))
+            (λ e. with_tried_bare (b.units.state.marks u) (subst (λ (k : ℕ). b.units.state.marks k ≤ tried) e (s.destroyed z)))
             (s.destroyed z);
       }
 
-  pub lawful-turned : Lawful b → Lawful (turnedUp b u x)
-  unfolding turnedUp
-  lawful-turned l =
-      lawful-still turned-still.fixed refl refl refl refl (λ w h. turned-suited w (suited-same l w h)) l.clock l
+  pub lawful_turned : Lawful b → Lawful (turned_up b u x)
+  unfolding turned_up
+  lawful_turned l =
+      lawful-still turned_still.fixed refl refl refl refl (λ w h. turned_suited w (suited_same l w h)) l.clock l
 
 -- other marks for a unit
-pub marked-still : (b : Board) (u m : ℕ) → Still b (change b (marked u m))
+pub marked_still : (b : Board) (u m : ℕ) → Still b (change b (marked u m))
 unfolding change
-marked-still b u m =
+marked_still b u m =
     record {
-      fixed = fixed-change b (marked u m);
+      fixed = fixed_change b (marked u m);
       hex = refl;
       role = refl;
       desk = refl;
       face =
           λ w t.
-          upd-case (λ (k : ℕ). has tried k ≡ true) b.units.count b.units.state.marks u (faced (b.units.state.marks u) m) w
-          (λ _ e. faced-face (b.units.state.marks u) m ∙ ap (λ (k : ℕ). has tried (b.units.state.marks k)) (sym e) ∙ t)
+          upd_case (λ (k : ℕ). has tried k ≡ true) b.units.count b.units.state.marks u (faced (b.units.state.marks u) m) w
+          (λ _ e. faced_face (b.units.state.marks u) m ∙ ap (λ (k : ℕ). has tried (b.units.state.marks k)) (sym e) ∙ t)
           t;
     }

@@ -4,13 +4,13 @@ use Rattle.std.specs.Prelude.{ℕ, ◌+◌, ◌≤◌, ◌<◌, ◌≡◌, List,
 use Rattle.position.specs.Stage as Stage
 use Rattle.position.specs.Role as Role
 use Rattle.clock.specs.Phase as Phase
-use Rattle.clock.specs.Clock.{lastForce, HasPhase}
-use Rattle.position.specs.Bits.{has, tried, marksEnd}
-use Rattle.position.specs.Kind.{home, mayBelong, mayAllow, alwaysTried}
+use Rattle.clock.specs.Clock.{last_force, HasPhase}
+use Rattle.position.specs.Bits.{has, tried, marks_end}
+use Rattle.position.specs.Kind.{home, may_belong, may_allow, always_tried}
 use Rattle.position.specs.Layout as Layout
-use Rattle.position.specs.Board.{Board, Desk, board, nowhere, forceOf}
+use Rattle.position.specs.Board.{Board, Desk, board, nowhere, force_of}
 use Rattle.position.specs.Ground.{joined, standable}
-use Rattle.position.specs.Crowd.{crowd, holders, owingHexes, filled, routes}
+use Rattle.position.specs.Crowd.{crowd, holders, owing_hexes, filled, routes}
 use Rattle.position.specs.Shape.{In, Shaped}
 use Rattle.setting.specs.Setting.{ChartOk, ResultsOk, MapOk}
 
@@ -32,12 +32,12 @@ pub record RoleOk (b : Board) (u : ℕ) : Type 0 where
 -- the counter itself
 pub record CounterOk (b : Board) (u : ℕ) : Type 0 where
   -- types 0..5 with their nationalities, and "allowance 0..30"
-  pub belongs : mayBelong (b.units.counter.kind u) (b.units.counter.nationality u) ≡ true
-  pub allows : mayAllow (b.units.counter.kind u) (b.units.counter.allowance u) ≡ true
+  pub belongs : may_belong (b.units.counter.kind u) (b.units.counter.nationality u) ≡ true
+  pub allows : may_allow (b.units.counter.kind u) (b.units.counter.allowance u) ≡ true
   -- "marks (1 tried + 2 supplied + 4 moved + 8 fought)"; "unnamed bits are 0"
-  pub marks : b.units.state.marks u < marksEnd
+  pub marks : b.units.state.marks u < marks_end
   -- "Types 4 and 5 are always tried."
-  pub always : alwaysTried (b.units.counter.kind u) ≡ true → has tried (b.units.state.marks u) ≡ true
+  pub always : always_tried (b.units.counter.kind u) ≡ true → has tried (b.units.state.marks u) ≡ true
 
 -- roles 0, 1 and 2
 pub record DutyOk (b : Board) (u : ℕ) : Type 0 where
@@ -66,8 +66,8 @@ pub record OneForceOk (b : Board) (u w : ℕ) : Type 0 where
 
 -- two units side by side
 pub record PairOk (b : Board) (u w : ℕ) : Type 0 where
-  pub two : (forceOf b u ≡ forceOf b w → ⊥) → TwoForcesOk b u w
-  pub one : forceOf b u ≡ forceOf b w → OneForceOk b u w
+  pub two : (force_of b u ≡ force_of b w → ⊥) → TwoForcesOk b u w
+  pub one : force_of b u ≡ force_of b w → OneForceOk b u w
 
 pub record UnitsOk (b : Board) : Type 0 where
   pub each : (u : ℕ) → u < b.units.count → UnitOk b u
@@ -76,8 +76,8 @@ pub record UnitsOk (b : Board) : Type 0 where
 -- "turn 1..60, last turn 1..60 not below turn, force 0..3, phase (0 land movement, 1 combat, 2 mechanised), stage"
 pub record ClockOk (d : Desk) : Type 0 where
   pub turn : In 1 d.clock.turn 60
-  pub lastTurn : In d.clock.turn d.lastTurn 60
-  pub force : d.clock.force ≤ lastForce
+  pub last_turn : In d.clock.turn d.last_turn 60
+  pub force : d.clock.force ≤ last_force
   pub phase : HasPhase d.clock.force d.clock.phase
   -- "Stages: 0 quiet, 1 retreats, 2 losses, 3 advances; 1 to 3 only in phase 1."
   pub stage : d.battle.stage ≤ Stage.advances
@@ -100,8 +100,8 @@ pub record QuietOk (b : Board) : Type 0 where
 -- "Stage 1: n is 1..3, role 1 units stand in k hexes, 1 or more, and k plus filled routes is at most 6."
 pub record RetreatsOk (b : Board) : Type 0 where
   pub owed : In 1 b.desk.battle.owed 3
-  pub some : 1 ≤ owingHexes b
-  pub room : owingHexes b + routes b ≤ Layout.routeCount
+  pub some : 1 ≤ owing_hexes b
+  pub room : owing_hexes b + routes b ≤ Layout.route_count
 
 -- "Stage 2: need is 1..1080, 1 to 18 of role 1, no role 2."
 pub record LossesOk (b : Board) : Type 0 where
@@ -140,10 +140,10 @@ pub record PlaceOk (b : Board) (r j : ℕ) : Type 0 where
 -- "Filled routes come first"
 pub record RouteOk (b : Board) (r : ℕ) : Type 0 where
   pub first : filled b (r + 1) ≡ true → filled b r ≡ true
-  pub places : (j : ℕ) → j < Layout.routeHexes → PlaceOk b r j
+  pub places : (j : ℕ) → j < Layout.route_hexes → PlaceOk b r j
 
 abbrev pub RoutesOk : Board → Type 0
-RoutesOk b = (r : ℕ) → r < Layout.routeCount → RouteOk b r
+RoutesOk b = (r : ℕ) → r < Layout.route_count → RouteOk b r
 
 -- all that a board shows of it
 pub record Lawful (b : Board) : Type 0 where

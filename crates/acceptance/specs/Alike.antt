@@ -2,7 +2,7 @@
 -- Assumes nothing.
 use Rattle.std.specs.Prelude.{ℕ, ◌+◌, ◌<◌, ◌≡◌, List, false, length}
 use Rattle.position.specs.Bits.{has, tried}
-use Rattle.position.specs.Layout.{byte, count, unit_at, marks, strengthField}
+use Rattle.position.specs.Layout.{byte, count, unit_at, marks, strength_field}
 use Rattle.acceptance.specs.Accepted.{Accepted}
 
 -- byte i is the strength of a unit that is face down
@@ -10,7 +10,7 @@ pub record Hidden (p : List ℕ) (i : ℕ) : Type 0 where
   pub unit : ℕ
   pub counted : unit < count p
   pub down : has tried (marks p unit) ≡ false
-  pub there : i ≡ unit_at p unit + strengthField
+  pub there : i ≡ unit_at p unit + strength_field
 
 -- equal in every byte but the strengths of units that are face down
 pub record Same (p q : List ℕ) : Type 0 where

@@ -4,7 +4,7 @@
 -- Assumes nothing.
 use Rattle.std.specs.Prelude.{ℕ, ◌≤◌, ◌<◌, ◌≡◌, true}
 use Rattle.position.specs.Role as Role
-use Rattle.position.specs.Board.{Board, nowhere, forceOf}
+use Rattle.position.specs.Board.{Board, nowhere, force_of}
 use Rattle.position.specs.Ground.{standable}
 use Rattle.position.specs.Crowd.{crowd}
 use Rattle.acceptance.specs.Accepted.{DestroyedOk, CounterOk, DutyOk}
@@ -23,7 +23,7 @@ pub record AloneOk (b : Board) (u : ℕ) : Type 0 where
 -- "at most three in a hex, of one force": the company of unit u
 pub record StackOk (b : Board) (u : ℕ) : Type 0 where
   pub room : crowd b (b.units.state.hex u) ≤ 3
-  pub one : (w : ℕ) → w < b.units.count → b.units.state.hex w ≡ b.units.state.hex u → forceOf b w ≡ forceOf b u
+  pub one : (w : ℕ) → w < b.units.count → b.units.state.hex w ≡ b.units.state.hex u → force_of b w ≡ force_of b u
 
 -- the stacks on the hexes from `low` to below `high`
 abbrev pub StacksIn : Board → ℕ → ℕ → Type 0
@@ -36,12 +36,12 @@ StacksOk b = StacksIn b 0 b.map.hexes
 -- the units of role r are of one force
 abbrev pub OneForce : Board → ℕ → Type 0
 OneForce b r =
-    (u : ℕ) → u < b.units.count → (w : ℕ) → w < b.units.count → b.units.state.role u ≡ r → b.units.state.role w ≡ r → forceOf b w ≡ forceOf b u
+    (u : ℕ) → u < b.units.count → (w : ℕ) → w < b.units.count → b.units.state.role u ≡ r → b.units.state.role w ≡ r → force_of b w ≡ force_of b u
 
 -- no unit of role 1 is of the force of one of role 2
 abbrev pub RolesApart : Board → Type 0
 RolesApart b =
-    (u : ℕ) → u < b.units.count → (w : ℕ) → w < b.units.count → b.units.state.role u ≡ Role.owes → b.units.state.role w ≡ Role.advances → forceOf b w ≡ forceOf b u → ⊥
+    (u : ℕ) → u < b.units.count → (w : ℕ) → w < b.units.count → b.units.state.role u ≡ Role.owes → b.units.state.role w ≡ Role.advances → force_of b w ≡ force_of b u → ⊥
 
 -- "Role 1 units are of one force, role 2 units of one, not the same."
 pub record RolesOk (b : Board) : Type 0 where

@@ -6,15 +6,15 @@ use Rattle.std.proofs.Math.Decide.{dec_le, dec_lt, ℕ_discrete}
 use Rattle.position.specs.Stage as Stage
 use Rattle.position.specs.Role as Role
 use Rattle.clock.specs.Phase as Phase
-use Rattle.clock.specs.Clock.{lastForce}
-use Rattle.position.specs.Bits.{has, tried, marksEnd}
-use Rattle.position.specs.Kind.{home, mayBelong, mayAllow, alwaysTried}
+use Rattle.clock.specs.Clock.{last_force}
+use Rattle.position.specs.Bits.{has, tried, marks_end}
+use Rattle.position.specs.Kind.{home, may_belong, may_allow, always_tried}
 use Rattle.position.specs.Layout as Layout
-use Rattle.position.specs.Board.{Board, Desk, board, nowhere, forceOf}
+use Rattle.position.specs.Board.{Board, Desk, board, nowhere, force_of}
 use Rattle.position.specs.Ground.{joined, standable}
-use Rattle.position.specs.Crowd.{crowd, holders, owingHexes, filled, routes}
+use Rattle.position.specs.Crowd.{crowd, holders, owing_hexes, filled, routes}
 use Rattle.position.specs.Shape.{Entry, Shaped}
-use Rattle.setting.specs.Decide.{iff, both, given, never, below, holds?, answersNo, says-no, says-yes}
+use Rattle.setting.specs.Decide.{iff, both, given, never, below, holds?, answers_no, says_no, says_yes}
 use Rattle.setting.specs.Decided.{in?, terrain?, results?, map?}
 use Rattle.acceptance.specs.Accepted.{MappedOk, DestroyedOk, RoleOk, CounterOk, DutyOk, StandOk, UnitOk, TwoForcesOk, OneForceOk, PairOk, UnitsOk, ClockOk, PlayerOk, QuietOk, RetreatsOk, LossesOk, AdvancesOk, DuringOk, StageOk, LinkOk, PlaceOk, RouteOk, Lawful, Accepted}
 
@@ -40,16 +40,16 @@ shaped? p =
       whole = x.1.1.1.1.1.1.1.1.1;
     })
     (λ s. (s.chart, (s.results, (s.columns, (s.map, (s.width, (s.height, (s.units, (s.count, (s.desk, s.whole))))))))))
-    (both (entry? p Layout.chartBody Layout.chartAt Layout.chartLength)
-    (both (entry? p Layout.resultsBody Layout.resultsAt (Layout.resultsLength p))
+    (both (entry? p Layout.chart_body Layout.chart_at Layout.chart_length)
+    (both (entry? p Layout.results_body Layout.results_at (Layout.results_length p))
     (both (in? 1 (Layout.columns p) 12)
-    (both (entry? p Layout.map_body (Layout.mapAt p) (Layout.mapLength p))
+    (both (entry? p Layout.map_body (Layout.map_at p) (Layout.map_length p))
     (both (in? 1 (Layout.width p) 64)
     (both (in? 1 (Layout.height p) 64)
-    (both (entry? p Layout.unitsBody (Layout.unitsAt p) (Layout.unitsLength p))
-    (both (dec_le (Layout.count p) Layout.unitsMost)
-    (both (entry? p Layout.deskBody (Layout.deskAt p) (Layout.deskLength p))
-    (ℕ_discrete (length p) (Layout.deskAt p + Layout.deskLength p)))))))))))
+    (both (entry? p Layout.units_body (Layout.units_at p) (Layout.units_length p))
+    (both (dec_le (Layout.count p) Layout.units_most)
+    (both (entry? p Layout.desk_body (Layout.desk_at p) (Layout.desk_length p))
+    (ℕ_discrete (length p) (Layout.desk_at p + Layout.desk_length p)))))))))))
 
 unfoldable pub mapped? : (b : Board) (u : ℕ) → Dec (MappedOk b u)
 mapped? b u =
@@ -70,10 +70,10 @@ unfoldable pub counter? : (b : Board) (u : ℕ) → Dec (CounterOk b u)
 counter? b u =
     iff (λ x. record { belongs = x.0; allows = x.1.0; marks = x.1.1.0; always = x.1.1.1 })
     (λ s. (s.belongs, (s.allows, (s.marks, s.always))))
-    (both (holds? (mayBelong (b.units.counter.kind u) (b.units.counter.nationality u)))
-    (both (holds? (mayAllow (b.units.counter.kind u) (b.units.counter.allowance u)))
-    (both (dec_lt (b.units.state.marks u) marksEnd)
-    (given (holds? (alwaysTried (b.units.counter.kind u))) (holds? (has tried (b.units.state.marks u)))))))
+    (both (holds? (may_belong (b.units.counter.kind u) (b.units.counter.nationality u)))
+    (both (holds? (may_allow (b.units.counter.kind u) (b.units.counter.allowance u)))
+    (both (dec_lt (b.units.state.marks u) marks_end)
+    (given (holds? (always_tried (b.units.counter.kind u))) (holds? (has tried (b.units.state.marks u)))))))
 
 unfoldable pub duty? : (b : Board) (u : ℕ) → Dec (DutyOk b u)
 duty? b u =
@@ -106,8 +106,8 @@ oneForce? b u w =
 unfoldable pub pair? : (b : Board) (u w : ℕ) → Dec (PairOk b u w)
 pair? b u w =
     iff (λ x. record { two = x.0; one = x.1 }) (λ s. (s.two, s.one))
-    (both (given (never (ℕ_discrete (forceOf b u) (forceOf b w))) (twoForces? b u w))
-    (given (ℕ_discrete (forceOf b u) (forceOf b w)) (oneForce? b u w)))
+    (both (given (never (ℕ_discrete (force_of b u) (force_of b w))) (twoForces? b u w))
+    (given (ℕ_discrete (force_of b u) (force_of b w)) (oneForce? b u w)))
 
 unfoldable pub units? : (b : Board) → Dec (UnitsOk b)
 units? b =
@@ -121,16 +121,16 @@ clock? d =
     (λ x.
     record {
       turn = x.0;
-      lastTurn = x.1.0;
+      last_turn = x.1.0;
       force = x.1.1.0;
       phase = x.1.1.1.0;
       stage = x.1.1.1.1.0;
       combat = x.1.1.1.1.1;
     })
-    (λ s. (s.turn, (s.lastTurn, (s.force, (s.phase, (s.stage, s.combat))))))
+    (λ s. (s.turn, (s.last_turn, (s.force, (s.phase, (s.stage, s.combat))))))
     (both (in? 1 d.clock.turn 60)
-    (both (in? d.clock.turn d.lastTurn 60)
-    (both (dec_le d.clock.force lastForce)
+    (both (in? d.clock.turn d.last_turn 60)
+    (both (dec_le d.clock.force last_force)
     (both (dec_le d.clock.phase Phase.last)
     (both (dec_le d.battle.stage Stage.advances) (given (never (ℕ_discrete d.battle.stage Stage.quiet)) (ℕ_discrete d.clock.phase Phase.combat)))))))
 
@@ -148,7 +148,7 @@ unfoldable pub retreats? : (b : Board) → Dec (RetreatsOk b)
 retreats? b =
     iff (λ x. record { owed = x.0; some = x.1.0; room = x.1.1 }) (λ s. (s.owed, (s.some, s.room)))
     (both (in? 1 b.desk.battle.owed 3)
-    (both (dec_le 1 (owingHexes b)) (dec_le (owingHexes b + routes b) Layout.routeCount)))
+    (both (dec_le 1 (owing_hexes b)) (dec_le (owing_hexes b + routes b) Layout.route_count)))
 
 unfoldable pub losses? : (b : Board) → Dec (LossesOk b)
 losses? b =
@@ -193,7 +193,7 @@ place? b r j =
 unfoldable pub route? : (b : Board) (r : ℕ) → Dec (RouteOk b r)
 route? b r =
     iff (λ x. record { first = x.0; places = x.1 }) (λ s. (s.first, s.places))
-    (both (given (holds? (filled b (r + 1))) (holds? (filled b r))) (below (place? b r) Layout.routeHexes))
+    (both (given (holds? (filled b (r + 1))) (holds? (filled b r))) (below (place? b r) Layout.route_hexes))
 
 unfoldable pub lawful? : (b : Board) → Dec (Lawful b)
 lawful? b =
@@ -210,11 +210,11 @@ lawful? b =
       routes = x.1.1.1.1.1.1.1;
     })
     (λ s. (s.chart, (s.results, (s.map, (s.units, (s.clock, (s.players, (s.stage, s.routes))))))))
-    (both (below (terrain? b.chart) Layout.chartRows)
+    (both (below (terrain? b.chart) Layout.chart_rows)
     (both (results? b.results)
     (both (map? b.map)
     (both (units? b)
-    (both (clock? b.desk) (both (below (player? b.desk) Layout.forces) (both (stage? b) (below (route? b) Layout.routeCount))))))))
+    (both (clock? b.desk) (both (below (player? b.desk) Layout.forces) (both (stage? b) (below (route? b) Layout.route_count))))))))
 
 unfoldable pub accepted? : (p : List ℕ) → Dec (Accepted p)
 accepted? p =
@@ -224,19 +224,19 @@ accepted? p =
 
 -- "1 | position breaks a line above"
 unfoldable pub broken : List ℕ → Bool
-broken p = answersNo (accepted? p)
+broken p = answers_no (accepted? p)
 
-pub broken-true : {p : List ℕ} → (Accepted p → ⊥) → broken p ≡ true
+pub broken_true : {p : List ℕ} → (Accepted p → ⊥) → broken p ≡ true
 unfolding broken
-broken-true {p} n = says-no (accepted? p) n
+broken_true {p} n = says_no (accepted? p) n
 
-pub broken-false : {p : List ℕ} → Accepted p → broken p ≡ false
+pub broken_false : {p : List ℕ} → Accepted p → broken p ≡ false
 unfolding broken
-broken-false {p} a = says-yes (accepted? p) a
+broken_false {p} a = says_yes (accepted? p) a
 
 pub unbroken : (p : List ℕ) → broken p ≡ false → Accepted p
 unbroken p e = at (accepted? p)
   where
     at : Dec (Accepted p) → Accepted p
     at (yes a) = a
-    at (no n) = let z : ◌≡◌ {A = ℕ} 0 1 = cc (broken-true n) in absurd (omega arith)
+    at (no n) = let z : ◌≡◌ {A = ℕ} 0 1 = cc (broken_true n) in absurd (omega arith)

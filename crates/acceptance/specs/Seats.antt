@@ -3,7 +3,7 @@
 -- Assumes nothing.
 use Rattle.std.specs.Prelude.{ℕ, ◌+◌, ◌-◌, ◌*◌, ◌/◌, ◌%◌, ◌<◌, ◌≡◌, Bool, true, false, cond, List, length, get_or, eqb, ltb}
 use Rattle.position.specs.Tally.{tally}
-use Rattle.position.specs.Board.{Board, forceOf}
+use Rattle.position.specs.Board.{Board, force_of}
 use Rattle.acceptance.specs.Asked.{StackOk}
 
 -- how many hexes a block has, and how many bytes its table
@@ -14,8 +14,8 @@ abbrev pub table : ℕ
 table = 256
 
 -- what table s says of hex k of the block: hexes k and k + 256 share a byte
-unfoldable pub seatOf : List ℕ → ℕ → ℕ
-seatOf s k = cond (ltb k table) (get_or s k 0 % 16) (get_or s (k - table) 0 / 16)
+unfoldable pub seat_of : List ℕ → ℕ → ℕ
+seat_of s k = cond (ltb k table) (get_or s k 0 % 16) (get_or s (k - table) 0 / 16)
 
 -- a table that counts nobody
 pub record Empty (s : List ℕ) : Type 0 where
@@ -34,12 +34,12 @@ pub record Seat (b : Board) (n h x : ℕ) : Type 0 where
   pub small : x < 16
   pub many : x % 4 ≡ tally (λ u. eqb (b.units.state.hex u) h) n
   pub none : x % 4 ≡ 0 → x ≡ 0
-  pub one : (u : ℕ) → u < n → b.units.state.hex u ≡ h → forceOf b u ≡ x / 4
+  pub one : (u : ℕ) → u < n → b.units.state.hex u ≡ h → force_of b u ≡ x / 4
 
 -- table s counts the units below n on the block of hexes that begins at `base`
 pub record Seated (b : Board) (base n : ℕ) (s : List ℕ) : Type 0 where
   pub long : length s ≡ table
-  pub seat : (k : ℕ) → k < block → Seat b n (base + k) (seatOf s k)
+  pub seat : (k : ℕ) → k < block → Seat b n (base + k) (seat_of s k)
 
 -- unit u is counted, and table t has it
 pub record Counts (b : Board) (base u : ℕ) (s t : List ℕ) : Type 0 where

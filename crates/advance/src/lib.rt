@@ -1,25 +1,25 @@
 // The advance and the close: their questions in their order, and then the changes.
 ghost use Rattle.std.specs.Prelude.{◌≡◌, [], ◌≤◌, ◌<◌};
-ghost use Rattle.position.specs.Layout.{routeHexes};
+ghost use Rattle.position.specs.Layout.{route_hexes};
 ghost use Rattle.position.specs.Tally.{any};
 ghost use Rattle.position.specs.Board.{board};
 ghost use Rattle.position.specs.Change.{makes};
 ghost use Rattle.position.specs.Laid.{Laid};
 ghost use Rattle.ruling.specs.Verdict.{Met};
 ghost use Rattle.ruling.specs.Judged.{TestedOf};
-ghost use Rattle.ruling.specs.Answers.{answerAs};
-ghost use Rattle.aftermath.specs.Stage.{thenOn};
+ghost use Rattle.ruling.specs.Answers.{answer_as};
+ghost use Rattle.aftermath.specs.Stage.{then_on};
 ghost use Rattle.aftermath.specs.Advance.{
   shut,
   held_at,
-  clearTo,
-  canFollow,
-  noRoute,
-  unitChecks,
-  advanceChecks,
-  advanceChanges,
-  advanceRule,
-  closeRule,
+  clear_to,
+  can_follow,
+  no_route,
+  unit_checks,
+  advance_checks,
+  advance_changes,
+  advance_rule,
+  close_rule,
 };
 
 use field::zone;
@@ -49,7 +49,7 @@ fn held_at(p: &[u8], v: View, u: usize, r: usize, i: usize) -> bool
 
 // Whether one of the first `n` numbers of route `r` is shut to unit `u`.
 fn held_along(p: &[u8], v: View, u: usize, r: usize, n: usize) -> bool
-    requires { Laid p.now v × (n ≤ routeHexes) }
+    requires { Laid p.now v × (n ≤ route_hexes) }
     ensures { result ≡ any (held_at (board p.now) u r) n }
 {
     let mut i = 0;
@@ -64,8 +64,8 @@ fn held_along(p: &[u8], v: View, u: usize, r: usize, n: usize) -> bool
 
 // Whether number `j` of route `r` is the hex, with nothing shut from its start to there.
 fn clear_to(p: &[u8], v: View, u: usize, hex: usize, r: usize, j: usize) -> bool
-    requires { Laid p.now v × (j < routeHexes) }
-    ensures { result ≡ clearTo (board p.now) u hex r j }
+    requires { Laid p.now v × (j < route_hexes) }
+    ensures { result ≡ clear_to (board p.now) u hex r j }
 {
     if read::route(p, v, r, j) != hex {
         return false;
@@ -76,7 +76,7 @@ fn clear_to(p: &[u8], v: View, u: usize, hex: usize, r: usize, j: usize) -> bool
 // Whether route `r` leads unit `u` to the hex.
 fn leads_to(p: &[u8], v: View, u: usize, hex: usize, r: usize) -> bool
     requires { Laid p.now v }
-    ensures { result ≡ any (clearTo (board p.now) u hex r) routeHexes }
+    ensures { result ≡ any (clear_to (board p.now) u hex r) route_hexes }
 {
     let mut j = 0;
     while j < layout::ROUTE_HEXES {
@@ -91,7 +91,7 @@ fn leads_to(p: &[u8], v: View, u: usize, hex: usize, r: usize) -> bool
 // Whether route `r` starts beside unit `u` and leads it to the hex.
 fn can_follow(p: &[u8], v: View, u: usize, hex: usize, r: usize) -> bool
     requires { Laid p.now v }
-    ensures { result ≡ canFollow (board p.now) u hex r }
+    ensures { result ≡ can_follow (board p.now) u hex r }
 {
     if !ground::joined(p, v, read::hex(p, v, u), read::route(p, v, r, 0)) {
         return false;
@@ -102,7 +102,7 @@ fn can_follow(p: &[u8], v: View, u: usize, hex: usize, r: usize) -> bool
 // Whether no route serves unit `u` to the hex.
 fn no_route(p: &[u8], v: View, u: usize, hex: usize) -> bool
     requires { Laid p.now v }
-    ensures { result ≡ noRoute (board p.now) u hex }
+    ensures { result ≡ no_route (board p.now) u hex }
 {
     let mut r = 0;
     while r < layout::ROUTE_COUNT {
@@ -117,7 +117,7 @@ fn no_route(p: &[u8], v: View, u: usize, hex: usize) -> bool
 // The questions of an advance past its numbers and its stage: 4, 5, 7, 11.
 fn judge_unit(p: &[u8], v: View, u: usize, hex: usize) -> Tested
     requires { Laid p.now v }
-    ensures { TestedOf p.now (unitChecks (board p.now) u hex) (Unit {0}) result }
+    ensures { TestedOf p.now (unit_checks (board p.now) u hex) (Unit {0}) result }
 {
     if read::role(p, v, u) != role::ADVANCES {
         return Tested::Stopped(4, 0);
@@ -137,7 +137,7 @@ fn judge_unit(p: &[u8], v: View, u: usize, hex: usize) -> Tested
 // All the questions of an advance.
 fn judge_advance(p: &[u8], v: View, u: usize, hex: usize) -> Tested
     requires { Laid p.now v }
-    ensures { TestedOf p.now (advanceChecks (board p.now) u hex) (Unit {0}) result }
+    ensures { TestedOf p.now (advance_checks (board p.now) u hex) (Unit {0}) result }
 {
     let count = v.count;
     if count <= u {
@@ -156,7 +156,7 @@ fn judge_advance(p: &[u8], v: View, u: usize, hex: usize) -> Tested
 // Unit `u` stands on the hex with no role, and the stage passes on.
 fn step_up(p: &mut [u8], v: View, u: usize, hex: usize)
     requires { Laid p.old v }
-    ensures { p.new ≡ makes p.old (thenOn (board p.old) (advanceChanges (board p.old) u hex)) }
+    ensures { p.new ≡ makes p.old (then_on (board p.old) (advance_changes (board p.old) u hex)) }
 {
     write::place(p, v, u, hex);
     write::assign(p, v, u, role::NONE);
@@ -166,7 +166,7 @@ fn step_up(p: &mut [u8], v: View, u: usize, hex: usize)
 // The advance on a checked position: unit `unit` advances to `hex`.
 pub fn advance(p: &mut [u8], v: View, unit: usize, hex: usize) -> Answer
     requires { Laid p.old v }
-    ensures { Met p.old [] (advanceRule (board p.old) unit hex) (answerAs result) p.new [] }
+    ensures { Met p.old [] (advance_rule (board p.old) unit hex) (answer_as result) p.new [] }
 {
     if let Tested::Stopped(n, k) = judge_advance(p, v, unit, hex) {
         return Answer::Refused(n, k);
@@ -178,7 +178,7 @@ pub fn advance(p: &mut [u8], v: View, unit: usize, hex: usize) -> Answer
 // The close on a checked position: nobody has a role any more, and the stage passes on.
 pub fn close(p: &mut [u8], v: View) -> Answer
     requires { Laid p.old v }
-    ensures { Met p.old [] (closeRule (board p.old)) (answerAs result) p.new [] }
+    ensures { Met p.old [] (close_rule (board p.old)) (answer_as result) p.new [] }
 {
     if read::stage(p, v) != position::stage::ADVANCES {
         return Answer::Refused(2, 0);

@@ -11,16 +11,16 @@ use Rattle.position.specs.Board.{Board}
 use Rattle.position.specs.Crowd.{holders}
 use Rattle.position.specs.Role as Role
 use Rattle.position.specs.Stage as Stage
-use Rattle.position.proofs.Tallies.{any-never, either, not-both}
+use Rattle.position.proofs.Tallies.{any_never, either, not_both}
 use Rattle.ruling.specs.Judged.{Passes}
 use Rattle.ruling.specs.Verdict.{along}
 use Rattle.ruling.proofs.Meets.{pass}
 use Rattle.field.specs.Listed.{and_then, named, sieve}
-use Rattle.field.proofs.Lists.{list-fits, named-last, named-nil, sieve-long}
-use Rattle.field.proofs.Named.{Once, named_here, named_more, sieve-names}
-use Rattle.field.proofs.Sieves.{sieve-once, sieve-passes, there-passes}
-use Rattle.aftermath.specs.Losses.{enough, loss, lossChecks, losses, owes, passedOver, spared, sparedSpecial}
-use Rattle.aftermath.proofs.Losing.{short-special, spared-not, spared-owes, special-not}
+use Rattle.field.proofs.Lists.{list_fits, named_last, named_nil, sieve_long}
+use Rattle.field.proofs.Named.{Once, named_here, named_more, sieve_names}
+use Rattle.field.proofs.Sieves.{sieve_once, sieve_passes, there_passes}
+use Rattle.aftermath.specs.Losses.{enough, loss, loss_checks, losses, owes, passed_over, spared, spared_special}
+use Rattle.aftermath.proofs.Losing.{short_special, spared_not, spared_owes, special_not}
 
 module _ (p : List ℕ) (b : Board) where
   -- units that owe, once each, pass refusals 4 and 6
@@ -35,8 +35,8 @@ module _ (p : List ℕ) (b : Board) where
       (pass (n x (named_here x xs x refl))
       (owing-passes (before ++ (x ∷ [])) xs (k + 1) (λ w e. f w (named_more x xs w e))
       (λ w e.
-      named-last before x w (n w (named_more x xs w e))
-      ∙ ne_eqb x w (λ z. not-both (named xs w) e (ap (named xs) (sym z) ∙ o.0)))
+      named_last before x w (n w (named_more x xs w e))
+      ∙ ne_eqb x w (λ z. not_both (named xs w) e (ap (named xs) (sym z) ∙ o.0)))
       o.1
       l v a q m g))
 
@@ -45,34 +45,34 @@ module _ (b : Board) where
   all = sieve (owes b) b.units.count
 
   -- none is spared, so it is enough, and no special infantry is passed over
-  spares-none : (u : ℕ) → u < b.units.count → spared b all u ≡ false
-  spares-none u l =
+  spares_none : (u : ℕ) → u < b.units.count → spared b all u ≡ false
+  spares_none u l =
       either (owes b u)
-      (λ e. spared-owes b all u e ∙ ap not (sieve-names (owes b) b.units.count u l e))
-      (λ e. spared-not b all u e)
+      (λ e. spared_owes b all u e ∙ ap not (sieve_names (owes b) b.units.count u l e))
+      (λ e. spared_not b all u e)
 
-  all-enough : enough b all ≡ true
+  all_enough : enough b all ≡ true
   unfolding enough
-  all-enough = simp (any-never (spared b all) b.units.count spares-none, or-true)
+  all_enough = simp (any_never (spared b all) b.units.count spares_none, or-true)
 
-  all-special : passedOver b all ≡ false
-  unfolding passedOver
-  all-special =
+  all_special : passed_over b all ≡ false
+  unfolding passed_over
+  all_special =
       simp
-      (any-never (sparedSpecial b all) b.units.count (λ u l. special-not b all u (spares-none u l)), and-false)
+      (any_never (spared_special b all) b.units.count (λ u l. special_not b all u (spares_none u l)), and-false)
 
-  all-long : length all ≡ holders b Role.owes
+  all_long : length all ≡ holders b Role.owes
   unfolding holders owes
-  all-long = sieve-long (owes b) b.units.count
+  all_long = sieve_long (owes b) b.units.count
 
   pub all_pass :
       (p : List ℕ) → b.desk.battle.stage ≡ Stage.losses → 1 ≤ holders b Role.owes → holders b Role.owes ≤ 18
-      → Passes p (lossChecks b (sieve (owes b) b.units.count))
-  unfolding lossChecks losses
+      → Passes p (loss_checks b (sieve (owes b) b.units.count))
+  unfolding loss_checks losses
   all_pass p e low high l v a q m g =
       let n = b.units.count in
-      pass (ap not (list-fits all (omega (arith, all-long)) (omega (arith, all-long))))
-      (there-passes p b all (λ w f. (sieve-passes (owes b) n w f).0) l _ a q m
+      pass (ap not (list_fits all (omega (arith, all_long)) (omega (arith, all_long))))
+      (there_passes p b all (λ w f. (sieve_passes (owes b) n w f).0) l _ a q m
       (pass (ap not (eq-eqb b.desk.battle.stage Stage.losses e))
-      (owing-passes p b [] all 1 (λ w f. (sieve-passes (owes b) n w f).1) (λ w f. named-nil w) (sieve-once (owes b) n) l _ a q m
-      (pass (short-special b all all-enough ∙ all-special) g))))
+      (owing-passes p b [] all 1 (λ w f. (sieve_passes (owes b) n w f).1) (λ w f. named_nil w) (sieve_once (owes b) n) l _ a q m
+      (pass (short_special b all all_enough ∙ all_special) g))))

@@ -13,13 +13,13 @@ use Rattle.position.specs.Effect.{change, changes}
 use Rattle.position.specs.Role as Role
 use Rattle.position.proofs.Tallies.{either, same_or}
 use Rattle.acceptance.specs.Accepted.{Lawful}
-use Rattle.acceptance.proofs.Carries.{fixed-change}
-use Rattle.acceptance.proofs.Fates.{assigned-else, assigned-none}
-use Rattle.acceptance.proofs.Owings.{holders-nought}
+use Rattle.acceptance.proofs.Carries.{fixed_change}
+use Rattle.acceptance.proofs.Fates.{assigned_else, assigned_none}
+use Rattle.acceptance.proofs.Owings.{holders_nought}
 use Rattle.field.specs.Listed.{named, sieve}
-use Rattle.field.proofs.Named.{sieve-names}
-use Rattle.aftermath.specs.Advance.{closeChanges, mayAdvance}
-use Rattle.aftermath.proofs.Advancing.{advance-may}
+use Rattle.field.proofs.Named.{sieve_names}
+use Rattle.aftermath.specs.Advance.{close_changes, may_advance}
+use Rattle.aftermath.proofs.Advancing.{advance_may}
 use Rattle.aftermath.proofs.KeepAdvance.{closed}
 
 -- the units of a list have no role any more, all others have theirs
@@ -31,27 +31,27 @@ freed-role [] c w l = refl
 freed-role (u ∷ us) c w l =
     let d = change c (assigned u Role.none) in
     let none : ◌≡◌ {A = ℕ} (cond (named us w) Role.none 0) 0 = either (named us w) (λ e. simp e) (λ e. simp e) in
-    freed-role us d w (omega (arith, (fixed-change c (assigned u Role.none)).count))
+    freed-role us d w (omega (arith, (fixed_change c (assigned u Role.none)).count))
     ∙ same_or w u
     (λ e.
-    ap (λ (x : ℕ). cond (named us w) Role.none x) (ap d.units.state.role e ∙ (assigned-none c u (omega arith)).role)
+    ap (λ (x : ℕ). cond (named us w) Role.none x) (ap d.units.state.role e ∙ (assigned_none c u (omega arith)).role)
     ∙ none
     ∙ sym (simp (eq-eqb u w (sym e))))
     (λ n.
-    ap (λ (x : ℕ). cond (named us w) Role.none x) (assigned-else c u Role.none w n).role ∙ sym (simp (ne_eqb u w (λ e. n (sym e)))))
+    ap (λ (x : ℕ). cond (named us w) Role.none x) (assigned_else c u Role.none w n).role ∙ sym (simp (ne_eqb u w (λ e. n (sym e)))))
 
 module _ (b : Board) where
-  freed-all : (w : ℕ) → w < b.units.count → b.units.state.role w ≡ Role.advances → (changes b (closeChanges b)).units.state.role w ≡ Role.none
-  unfolding closeChanges
-  freed-all w l e =
-      freed-role (sieve (mayAdvance b) b.units.count) b w l
-      ∙ simp (sieve-names (mayAdvance b) b.units.count w l (advance-may b w e))
+  freed_all : (w : ℕ) → w < b.units.count → b.units.state.role w ≡ Role.advances → (changes b (close_changes b)).units.state.role w ≡ Role.none
+  unfolding close_changes
+  freed_all w l e =
+      freed-role (sieve (may_advance b) b.units.count) b w l
+      ∙ simp (sieve_names (may_advance b) b.units.count w l (advance_may b w e))
 
-  pub closed_none : Lawful b → b.map.hexes ≤ nowhere → holders (changes b (closeChanges b)) Role.advances ≡ 0
+  pub closed_none : Lawful b → b.map.hexes ≤ nowhere → holders (changes b (close_changes b)) Role.advances ≡ 0
   closed_none l most =
       let o = closed l most in
-      holders-nought (changes b (closeChanges b)) Role.advances
+      holders_nought (changes b (close_changes b)) Role.advances
       (λ w m e.
       let k : w < b.units.count = omega (arith, o.since.fixed.count) in
       let had : b.units.state.role w ≡ Role.advances = sym (o.had w (λ z. omega arith)) ∙ e in
-      omega (arith, freed-all w k had))
+      omega (arith, freed_all w k had))

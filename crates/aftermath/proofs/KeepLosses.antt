@@ -15,22 +15,22 @@ use Rattle.position.specs.Change.Change.{assigned, destroyed}
 use Rattle.position.specs.Effect.{change, changes}
 use Rattle.position.specs.Role as Role
 use Rattle.position.specs.Stage as Stage
-use Rattle.position.proofs.Shapes.{hexes-most}
-use Rattle.position.proofs.Tallies.{either, not-both, same_or}
+use Rattle.position.proofs.Shapes.{hexes_most}
+use Rattle.position.proofs.Tallies.{either, not_both, same_or}
 use Rattle.acceptance.specs.Accepted.{Accepted, Lawful, UnitsOk}
 use Rattle.acceptance.specs.Asked.{AloneOk}
-use Rattle.acceptance.proofs.Asking.{alone_of, roles-of, stacks-of, units-asked}
-use Rattle.acceptance.proofs.Carries.{Fixed, changes-then, fixed-change, routes-ok-by}
-use Rattle.acceptance.proofs.Fates.{Fated, Same, alone-fated, alone-same, assigned-else, assigned-here, fated-same, roles-passed, same-trans, same-fated, stacks-fewer}
-use Rattle.acceptance.proofs.Owings.{holders-none, holders-nought}
+use Rattle.acceptance.proofs.Asking.{alone_of, roles_of, stacks_of, units_asked}
+use Rattle.acceptance.proofs.Carries.{Fixed, changes_then, fixed_change, routes_ok_by}
+use Rattle.acceptance.proofs.Fates.{Fated, Same, alone-fated, alone_same, assigned_else, assigned_here, fated_same, roles-passed, same_trans, same_fated, stacks_fewer}
+use Rattle.acceptance.proofs.Owings.{holders_none, holders_nought}
 use Rattle.acceptance.proofs.Since.{Since}
-use Rattle.acceptance.proofs.Stills.{fixed-refl, fixed-trans}
-use Rattle.ruling.proofs.Kept.{Kept, kept-along, kept-past, kept-ruled}
-use Rattle.field.specs.Listed.{allThere, listLength, named, noUnit, sieve}
-use Rattle.field.proofs.Lists.{map_last, sieve-hit, sieve-miss}
-use Rattle.aftermath.specs.Losses.{loss, lossChanges, lossChecks, losses, lossesRule, owes, short, spared}
-use Rattle.aftermath.specs.Stage.{reassigned, thenOn}
-use Rattle.aftermath.proofs.KeepStage.{Lessened, all-destroyed, lawful-then-on, lessened-none}
+use Rattle.acceptance.proofs.Stills.{fixed_refl, fixed_trans}
+use Rattle.ruling.proofs.Kept.{Kept, kept-along, kept_past, kept_ruled}
+use Rattle.field.specs.Listed.{all_there, list_length, named, no_unit, sieve}
+use Rattle.field.proofs.Lists.{map_last, sieve_hit, sieve_miss}
+use Rattle.aftermath.specs.Losses.{loss, loss_changes, loss_checks, losses, losses_rule, owes, short, spared}
+use Rattle.aftermath.specs.Stage.{reassigned, then_on}
+use Rattle.aftermath.proofs.KeepStage.{Lessened, all_destroyed, lawful-then-on, lessened_none}
 use Rattle.aftermath.proofs.Losing.{survivors}
 
 -- d is c, but the units below n that pass the test have role 2
@@ -41,34 +41,34 @@ record Promoted (c d : Board) (t : ℕ → Bool) (n : ℕ) : Type 0 where
   miss : (w : ℕ) → (w < n → t w ≡ true → ⊥) → Same c.units d.units w
 
 module _ {c d : Board} {t : ℕ → Bool} {n : ℕ} (o : Promoted c d t n) where
-  promoted-hit : t n ≡ true → Promoted c (change d (assigned n Role.advances)) t (suc n)
+  promoted_hit : t n ≡ true → Promoted c (change d (assigned n Role.advances)) t (suc n)
   unfolding change
-  promoted-hit e =
+  promoted_hit e =
       record {
-        fixed = fixed-trans o.fixed (fixed-change d (assigned n Role.advances));
+        fixed = fixed_trans o.fixed (fixed_change d (assigned n Role.advances));
         desk = o.desk;
         hit =
             λ w l m f.
             same_or w n
             (λ z.
             let k : n < d.units.count = omega (arith, o.fixed.count) in
-            rw z (same-fated (o.miss n (λ i. absurd (omega arith))) (assigned-here d n 2 k (λ i. omega arith))))
-            (λ z. fated-same (o.hit w (omega arith) m f) (assigned-else d n 2 w z));
+            rw z (same_fated (o.miss n (λ i. absurd (omega arith))) (assigned_here d n 2 k (λ i. omega arith))))
+            (λ z. fated_same (o.hit w (omega arith) m f) (assigned_else d n 2 w z));
         miss =
             λ w f.
-            same-trans (o.miss w (λ l. f (omega arith)))
-            (assigned-else d n 2 w (λ z. f (omega arith) (ap t z ∙ e)));
+            same_trans (o.miss w (λ l. f (omega arith)))
+            (assigned_else d n 2 w (λ z. f (omega arith) (ap t z ∙ e)));
       }
 
-  promoted-miss : t n ≡ false → Promoted c d t (suc n)
-  promoted-miss e =
+  promoted_miss : t n ≡ false → Promoted c d t (suc n)
+  promoted_miss e =
       record {
         fixed = o.fixed;
         desk = o.desk;
         hit =
             λ w l m f.
             same_or w n
-            (λ z. not-both (t n) (ap t (sym z) ∙ f) e)
+            (λ z. not_both (t n) (ap t (sym z) ∙ f) e)
             (λ z. o.hit w (omega arith) m f);
         miss = λ w f. o.miss w (λ l. f (omega arith));
       }
@@ -77,34 +77,34 @@ module _ (c : Board) (t : ℕ → Bool) where
   abbrev given : ℕ → Board
   given n = changes c (map (λ u. assigned u Role.advances) (sieve t n))
 
-  given-hit : (n : ℕ) → t n ≡ true → given (suc n) ≡ change (given n) (assigned n Role.advances)
+  given_hit : (n : ℕ) → t n ≡ true → given (suc n) ≡ change (given n) (assigned n Role.advances)
   unfolding changes
-  given-hit n e =
+  given_hit n e =
       let g : ℕ → Change = λ u. assigned u Role.advances in
       ap (λ (k : ℕ). changes c (map g (sieve t k))) (sym (add-one n))
-      ∙ ap (λ (l : List ℕ). changes c (map g l)) (sieve-hit t n e)
+      ∙ ap (λ (l : List ℕ). changes c (map g l)) (sieve_hit t n e)
       ∙ ap (changes c) (map_last g (sieve t n) n)
-      ∙ changes-then (map g (sieve t n)) (g n ∷ []) c
+      ∙ changes_then (map g (sieve t n)) (g n ∷ []) c
 
-  given-miss : (n : ℕ) → t n ≡ false → given (suc n) ≡ given n
-  given-miss n e =
+  given_miss : (n : ℕ) → t n ≡ false → given (suc n) ≡ given n
+  given_miss n e =
       let g : ℕ → Change = λ u. assigned u Role.advances in
       ap (λ (k : ℕ). changes c (map g (sieve t k))) (sym (add-one n))
-      ∙ ap (λ (l : List ℕ). changes c (map g l)) (sieve-miss t n e)
+      ∙ ap (λ (l : List ℕ). changes c (map g l)) (sieve_miss t n e)
 
   promoted : (n : ℕ) → Promoted c (given n) t n
   unfolding sieve changes
   promoted zero =
       record {
-        fixed = fixed-refl c;
+        fixed = fixed_refl c;
         desk = refl;
         hit = λ w l. absurd (omega arith);
         miss = λ w f. record { hex = refl; marks = refl; role = refl };
       }
   promoted (suc n) =
       either (t n)
-      (λ e. subst (λ (d : Board). Promoted c d t (suc n)) (sym (given-hit n e)) (promoted-hit (promoted n) e))
-      (λ e. subst (λ (d : Board). Promoted c d t (suc n)) (sym (given-miss n e)) (promoted-miss (promoted n) e))
+      (λ e. subst (λ (d : Board). Promoted c d t (suc n)) (sym (given_hit n e)) (promoted_hit (promoted n) e))
+      (λ e. subst (λ (d : Board). Promoted c d t (suc n)) (sym (given_miss n e)) (promoted_miss (promoted n) e))
 
 -- all that owed have role 2
 module _
@@ -130,7 +130,7 @@ module _
       (λ e f.
       let h = was.duty.held (λ z. omega arith) in
       alone-fated o.fixed 2 w f (omega arith) (λ _. h.tried) (λ _. h.mapped) was)
-      (λ _ f. alone-same o.fixed w f was)
+      (λ _ f. alone_same o.fixed w f was)
 
   stays : (w : ℕ) → w < c.units.count → d.units.state.hex w ≡ c.units.state.hex w
   stays w l = lot w l (λ _ f. f.stays (λ z. omega arith)) (λ _ f. f.hex)
@@ -143,22 +143,22 @@ module _
       let x = none w l in
       absurd (omega (arith, f.role)))
 
-  units-promoted : UnitsOk d
-  units-promoted =
-      units-asked alone (stacks-fewer o.fixed most (λ w l _. stays w l) (stacks-of u most)) (roles-passed o.fixed had (roles-of u))
+  units_promoted : UnitsOk d
+  units_promoted =
+      units_asked alone (stacks_fewer o.fixed most (λ w l _. stays w l) (stacks_of u most)) (roles-passed o.fixed had (roles_of u))
 
-  owing-none : holders d Role.owes ≡ 0
-  owing-none =
-      holders-nought d Role.owes
+  owing_none : holders d Role.owes ≡ 0
+  owing_none =
+      holders_nought d Role.owes
       (λ w l z. absurd (omega (arith, (had w (omega (arith, o.fixed.count)) (λ n. omega arith)).0)))
 
-  since-promoted : {b : Board} → Since b c → Since b d
-  since-promoted s =
+  since_promoted : {b : Board} → Since b c → Since b d
+  since_promoted s =
       record {
-        fixed = fixed-trans s.fixed o.fixed;
+        fixed = fixed_trans s.fixed o.fixed;
         clock = ap (λ (k : Desk). k.clock) o.desk ∙ s.clock;
-        units = units-promoted;
-        routes = routes-ok-by o.fixed (ap (λ (k : Desk). k.route) o.desk) s.routes;
+        units = units_promoted;
+        routes = routes_ok_by o.fixed (ap (λ (k : Desk). k.route) o.desk) s.routes;
       }
 
 module _ {b : Board} (l : Lawful b) (most : b.map.hexes ≤ nowhere) (e : b.desk.battle.stage ≡ Stage.losses) (units : List ℕ) where
@@ -166,18 +166,18 @@ module _ {b : Board} (l : Lawful b) (most : b.map.hexes ≤ nowhere) (e : b.desk
   struck = changes b (map destroyed units)
 
   less : Lessened b struck
-  less = all-destroyed most units (lessened-none l)
+  less = all_destroyed most units (lessened_none l)
 
-  after : changes b (lossChanges b units) ≡ changes struck (reassigned struck Role.owes Role.advances)
-  unfolding lossChanges
+  after : changes b (loss_changes b units) ≡ changes struck (reassigned struck Role.owes Role.advances)
+  unfolding loss_changes
   after =
-      changes-then (map destroyed units) (map (λ u. assigned u Role.advances) (sieve (spared b units) b.units.count)) b
+      changes_then (map destroyed units) (map (λ u. assigned u Role.advances) (sieve (spared b units) b.units.count)) b
       ∙ ap (changes struck) (sym (survivors b units))
 
   -- nobody may advance while losses are owed
-  none-advances : (w : ℕ) → w < struck.units.count → struck.units.state.role w ≡ Role.advances → ⊥
-  none-advances w m z =
-      holders-none b Role.advances w (l.stage.during.losses e).advancing (omega (arith, less.since.fixed.count))
+  none_advances : (w : ℕ) → w < struck.units.count → struck.units.state.role w ≡ Role.advances → ⊥
+  none_advances w m z =
+      holders_none b Role.advances w (l.stage.during.losses e).advancing (omega (arith, less.since.fixed.count))
       (sym (less.had w (λ n. omega arith)) ∙ z)
 
   all-promoted :
@@ -189,39 +189,39 @@ module _ {b : Board} (l : Lawful b) (most : b.map.hexes ≤ nowhere) (e : b.desk
   few = rw less.since.fixed.map most
 
   -- the survivors owe no more
-  pub since-losses : Since b (changes b (lossChanges b units))
-  since-losses =
-      subst (λ (c : Board). Since b c) (sym after) (since-promoted all-promoted less.since.units few none-advances less.since)
+  pub since_losses : Since b (changes b (loss_changes b units))
+  since_losses =
+      subst (λ (c : Board). Since b c) (sym after) (since_promoted all-promoted less.since.units few none_advances less.since)
 
-  pub losses-owing : holders (changes b (lossChanges b units)) Role.owes ≡ 0
-  losses-owing = ap (λ (c : Board). holders c Role.owes) after ∙ owing-none all-promoted less.since.units few none-advances
+  pub losses_owing : holders (changes b (loss_changes b units)) Role.owes ≡ 0
+  losses_owing = ap (λ (c : Board). holders c Role.owes) after ∙ owing_none all-promoted less.since.units few none_advances
 
-  lawful-losses : Lawful (changes b (thenOn b (lossChanges b units)))
-  lawful-losses =
-      lawful-then-on l most (λ z. omega arith) (lossChanges b units) since-losses (λ n. absurd (n losses-owing))
+  lawful_losses : Lawful (changes b (then_on b (loss_changes b units)))
+  lawful_losses =
+      lawful-then-on l most (λ z. omega arith) (loss_changes b units) since_losses (λ n. absurd (n losses_owing))
 
 module _ {p : List ℕ} (a : Accepted p) (units : List ℕ) where
-  pub losses-keeps : {l : List ℕ} → Kept p l (lossesRule (board p) units)
-  unfolding lossesRule lossChecks allThere noUnit losses loss
-  losses-keeps =
+  pub losses_keeps : {l : List ℕ} → Kept p l (losses_rule (board p) units)
+  unfolding losses_rule loss_checks all_there no_unit losses loss
+  losses_keeps =
       let b = board p in
-      kept-past a (not (listLength units))
+      kept_past a (not (list_length units))
       (λ _.
-      kept-along a (λ _. Unit {0}) (λ s x k v _ f. kept-past a (leb b.units.count x) (λ _. f tt)) 0 tt units 1 _
+      kept-along a (λ _. Unit {0}) (λ s x k v _ f. kept_past a (leb b.units.count x) (λ _. f tt)) 0 tt units 1 _
       (λ _ _.
-      kept-past a (not (eqb b.desk.battle.stage Stage.losses))
+      kept_past a (not (eqb b.desk.battle.stage Stage.losses))
       (λ e.
       kept-along a (λ _. Unit {0})
-      (λ s x k v _ f. kept-past a (not (owes b x)) (λ _. kept-past a (named s x) (λ _. f tt)))
+      (λ s x k v _ f. kept_past a (not (owes b x)) (λ _. kept_past a (named s x) (λ _. f tt)))
       []
       tt
       units
       1
       _
       (λ _ _.
-      kept-past a (short b units)
+      kept_past a (short b units)
       (λ _.
-      kept-ruled a (thenOn b (lossChanges b units))
-      (lawful-losses a.lawful (omega (arith, hexes-most a.shaped))
+      kept_ruled a (then_on b (loss_changes b units))
+      (lawful_losses a.lawful (omega (arith, hexes_most a.shaped))
       (eqb-true b.desk.battle.stage Stage.losses (not-false (eqb b.desk.battle.stage Stage.losses) e))
       units))))))

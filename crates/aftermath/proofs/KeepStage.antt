@@ -12,71 +12,71 @@ use Rattle.position.specs.Change.Change.{assigned, destroyed, staged, unrouted}
 use Rattle.position.specs.Effect.{change, changes}
 use Rattle.position.specs.Role as Role
 use Rattle.position.specs.Stage as Stage
-use Rattle.position.proofs.Effects.{upd-case}
+use Rattle.position.proofs.Effects.{upd_case}
 use Rattle.position.proofs.Tallies.{same_or}
 use Rattle.acceptance.specs.Accepted.{Lawful}
-use Rattle.acceptance.proofs.Carries.{changes-then}
-use Rattle.acceptance.proofs.Owings.{holders-none, holders-nought}
-use Rattle.acceptance.proofs.Routings.{routes-none}
-use Rattle.acceptance.proofs.Since.{Since, lawful-since, since-destroyed, since-freed, since-lawful, since-staged, since-unrouted}
-use Rattle.acceptance.proofs.Stages.{stage-advances, stage-quiet}
-use Rattle.aftermath.specs.Stage.{passesOn, thenOn}
+use Rattle.acceptance.proofs.Carries.{changes_then}
+use Rattle.acceptance.proofs.Owings.{holders_none, holders_nought}
+use Rattle.acceptance.proofs.Routings.{routes_none}
+use Rattle.acceptance.proofs.Since.{Since, lawful-since, since_destroyed, since_freed, since_lawful, since_staged, since_unrouted}
+use Rattle.acceptance.proofs.Stages.{stage_advances, stage_quiet}
+use Rattle.aftermath.specs.Stage.{passes_on, then_on}
 
 -- board c since board b, where a unit that has a role had it
 pub record Lessened (b c : Board) : Type 0 where
   pub since : Since b c
   pub had : (w : ℕ) → (c.units.state.role w ≡ Role.none → ⊥) → c.units.state.role w ≡ b.units.state.role w
 
-pub lessened-none : {b : Board} → Lawful b → Lessened b b
-lessened-none l = record { since = since-lawful l; had = λ w n. refl }
+pub lessened_none : {b : Board} → Lawful b → Lessened b b
+lessened_none l = record { since = since_lawful l; had = λ w n. refl }
 
 module _ {b : Board} (most : b.map.hexes ≤ nowhere) where
   -- a unit that is destroyed, and a role that is taken
-  lessened-destroyed : {c : Board} → Lessened b c → (u : ℕ) → Lessened b (change c (destroyed u))
+  lessened_destroyed : {c : Board} → Lessened b c → (u : ℕ) → Lessened b (change c (destroyed u))
   unfolding change
-  lessened-destroyed {c} o u =
+  lessened_destroyed {c} o u =
       record {
-        since = since-destroyed most o.since u;
+        since = since_destroyed most o.since u;
         had =
             λ w.
-            upd-case (λ k. (k ≡ 0 → ⊥) → k ≡ b.units.state.role w) c.units.count c.units.state.role u 0 w (λ _ _ n. absurd (n refl)) (o.had w);
+            upd_case (λ k. (k ≡ 0 → ⊥) → k ≡ b.units.state.role w) c.units.count c.units.state.role u 0 w (λ _ _ n. absurd (n refl)) (o.had w);
       }
 
-  pub lessened-freed : {c : Board} → Lessened b c → (u : ℕ) → Lessened b (change c (assigned u Role.none))
+  pub lessened_freed : {c : Board} → Lessened b c → (u : ℕ) → Lessened b (change c (assigned u Role.none))
   unfolding change
-  lessened-freed {c} o u =
+  lessened_freed {c} o u =
       record {
-        since = since-freed most o.since u;
+        since = since_freed most o.since u;
         had =
             λ w.
-            upd-case (λ k. (k ≡ 0 → ⊥) → k ≡ b.units.state.role w) c.units.count c.units.state.role u 0 w (λ _ _ n. absurd (n refl)) (o.had w);
+            upd_case (λ k. (k ≡ 0 → ⊥) → k ≡ b.units.state.role w) c.units.count c.units.state.role u 0 w (λ _ _ n. absurd (n refl)) (o.had w);
       }
 
   -- units destroyed, and roles taken, one after another
-  pub all-destroyed : (us : List ℕ) {c : Board} → Lessened b c → Lessened b (changes c (map destroyed us))
+  pub all_destroyed : (us : List ℕ) {c : Board} → Lessened b c → Lessened b (changes c (map destroyed us))
   unfolding changes
-  all-destroyed [] o = o
-  all-destroyed (u ∷ us) o = all-destroyed us (lessened-destroyed o u)
+  all_destroyed [] o = o
+  all_destroyed (u ∷ us) o = all_destroyed us (lessened_destroyed o u)
 
-  pub all-freed : (us : List ℕ) {c : Board} → Lessened b c → Lessened b (changes c (map (λ u. assigned u Role.none) us))
+  pub all_freed : (us : List ℕ) {c : Board} → Lessened b c → Lessened b (changes c (map (λ u. assigned u Role.none) us))
   unfolding changes
-  all-freed [] o = o
-  all-freed (u ∷ us) o = all-freed us (lessened-freed o u)
+  all_freed [] o = o
+  all_freed (u ∷ us) o = all_freed us (lessened_freed o u)
 
 -- where nobody owed, nobody owes
-pub lessened-owing : {b c : Board} → Lessened b c → holders b Role.owes ≡ 0 → holders c Role.owes ≡ 0
-lessened-owing {b} {c} o e =
-    holders-nought c Role.owes
+pub lessened_owing : {b c : Board} → Lessened b c → holders b Role.owes ≡ 0 → holders c Role.owes ≡ 0
+lessened_owing {b} {c} o e =
+    holders_nought c Role.owes
     (λ w l z.
-    holders-none b Role.owes w e (omega (arith, o.since.fixed.count)) (sym (o.had w (λ n. omega arith)) ∙ z))
+    holders_none b Role.owes w e (omega (arith, o.since.fixed.count)) (sym (o.had w (λ n. omega arith)) ∙ z))
 
 -- the stage that follows: quiet, or advances, where nobody owes any more, and else as it is
-pub passed-by :
+pub passed_by :
     (P : Board → Type 0) (c : Board) → (holders c Role.owes ≡ 0 → holders c Role.advances ≡ 0 → P (change (change c (staged Stage.quiet 0 0)) unrouted))
     → (holders c Role.owes ≡ 0 → (holders c Role.advances ≡ 0 → ⊥) → P (change c (staged Stage.advances 0 0))) → ((holders c Role.owes ≡ 0 → ⊥) → P c)
-    → P (changes c (passesOn c))
-unfolding passesOn changes
-passed-by P c quiet advances later =
+    → P (changes c (passes_on c))
+unfolding passes_on changes
+passed_by P c quiet advances later =
     same_or (holders c Role.owes) 0
     (λ none.
     same_or (holders c Role.advances) 0
@@ -85,25 +85,25 @@ passed-by P c quiet advances later =
     (λ some. simp (ne_eqb (holders c Role.owes) 0 some) (later some))
 
 module _ {b c : Board} (l : Lawful b) (most : b.map.hexes ≤ nowhere) (combat : b.desk.battle.stage ≡ Stage.quiet → ⊥) (s : Since b c) where
-  passed-quiet : holders c Role.owes ≡ 0 → holders c Role.advances ≡ 0 → Lawful (change (change c (staged Stage.quiet 0 0)) unrouted)
+  passed_quiet : holders c Role.owes ≡ 0 → holders c Role.advances ≡ 0 → Lawful (change (change c (staged Stage.quiet 0 0)) unrouted)
   unfolding change holders
-  passed-quiet none e =
-      lawful-since l (since-unrouted most (since-staged most s 0 0 0)) (omega arith) (λ n. absurd (n refl))
-      (stage-quiet refl refl refl (record { owing = none; advancing = e; routes = routes-none (change c (staged Stage.quiet 0 0)) }))
+  passed_quiet none e =
+      lawful-since l (since_unrouted most (since_staged most s 0 0 0)) (omega arith) (λ n. absurd (n refl))
+      (stage_quiet refl refl refl (record { owing = none; advancing = e; routes = routes_none (change c (staged Stage.quiet 0 0)) }))
 
-  passed-advances : holders c Role.owes ≡ 0 → (holders c Role.advances ≡ 0 → ⊥) → Lawful (change c (staged Stage.advances 0 0))
+  passed_advances : holders c Role.owes ≡ 0 → (holders c Role.advances ≡ 0 → ⊥) → Lawful (change c (staged Stage.advances 0 0))
   unfolding change holders
-  passed-advances none n =
-      lawful-since l (since-staged most s 3 0 0) (omega arith) (λ _. l.clock.combat combat)
-      (stage-advances refl refl refl (record { advancing = omega arith; owing = none }))
+  passed_advances none n =
+      lawful-since l (since_staged most s 3 0 0) (omega arith) (λ _. l.clock.combat combat)
+      (stage_advances refl refl refl (record { advancing = omega arith; owing = none }))
 
-  pub lawful-passed : ((holders c Role.owes ≡ 0 → ⊥) → Lawful c) → Lawful (changes c (passesOn c))
-  lawful-passed later = passed-by Lawful c passed-quiet passed-advances later
+  pub lawful_passed : ((holders c Role.owes ≡ 0 → ⊥) → Lawful c) → Lawful (changes c (passes_on c))
+  lawful_passed later = passed_by Lawful c passed_quiet passed_advances later
 
 -- a call's own changes, and then the stage that follows
 pub lawful-then-on :
     {b : Board} → Lawful b → b.map.hexes ≤ nowhere → (b.desk.battle.stage ≡ Stage.quiet → ⊥) → (xs : List Change) → Since b (changes b xs)
-    → ((holders (changes b xs) Role.owes ≡ 0 → ⊥) → Lawful (changes b xs)) → Lawful (changes b (thenOn b xs))
-unfolding thenOn
+    → ((holders (changes b xs) Role.owes ≡ 0 → ⊥) → Lawful (changes b xs)) → Lawful (changes b (then_on b xs))
+unfolding then_on
 lawful-then-on {b} l most combat xs s later =
-    rw (changes-then xs (passesOn (changes b xs)) b) (lawful-passed l most combat s later)
+    rw (changes_then xs (passes_on (changes b xs)) b) (lawful_passed l most combat s later)

@@ -2,8 +2,8 @@
 -- Assumes nothing.
 use mathlib.Core.Path.{refl}
 use Rattle.grid.specs.Rulings.{Answered}
-use Rattle.aftermath.specs.Rulings.{aftermathOpen, aftermathRows}
+use Rattle.aftermath.specs.Rulings.{aftermath_open, aftermath_rows}
 
-pub aftermath-rulings : Answered aftermathRows
-unfolding aftermathOpen
-aftermath-rulings = (refl, (refl, (refl, tt)))
+pub aftermath_rulings : Answered aftermath_rows
+unfolding aftermath_open
+aftermath_rulings = (refl, (refl, (refl, tt)))

@@ -7,7 +7,7 @@ use mathlib.Core.Path.{◌∙◌, ◌≡◌, ap, refl, sym}
 use native.Mathlib.Omega.{arith}
 use borrow.Author.Tests.{eq-eqb, ne_eqb}
 use lib.Dec.{eqb}
-use Rattle.position.proofs.Changes.{board-make, board-makes, laid-make, makes-snoc, makes-then}
+use Rattle.position.proofs.Changes.{board_make, board_makes, laid_make, makes_snoc, makes_then}
 use Rattle.position.proofs.Tallies.{either}
 use Rattle.position.specs.Board.{Board, board}
 use Rattle.position.specs.Change.{Change, make, makes}
@@ -19,23 +19,23 @@ use Rattle.position.specs.Shape.{Shaped}
 use Rattle.position.specs.declared.View.{View}
 use Rattle.position.specs.Role as Role
 use Rattle.position.specs.Stage as Stage
-use Rattle.acceptance.proofs.Fates.{assigned-else}
-use Rattle.field.proofs.Lists.{map_last, sieve-hit, sieve-miss}
+use Rattle.acceptance.proofs.Fates.{assigned_else}
+use Rattle.field.proofs.Lists.{map_last, sieve_hit, sieve_miss}
 use Rattle.field.specs.Listed.{sieve}
-use Rattle.aftermath.specs.Stage.{passesOn, reassigned, thenOn}
+use Rattle.aftermath.specs.Stage.{passes_on, reassigned, then_on}
 
 -- one unit with its role, and one with another
 module _ (p : List ℕ) (u from to : ℕ) where
   abbrev renewed : List Change
   renewed = cond (eqb ((board p).units.state.role u) from) (assigned u to ∷ []) []
 
-  pub renew-other : ((board p).units.state.role u ≡ from → ⊥) → p ≡ makes p renewed
+  pub renew_other : ((board p).units.state.role u ≡ from → ⊥) → p ≡ makes p renewed
   unfolding makes
-  renew-other n = simp (ne_eqb ((board p).units.state.role u) from n)
+  renew_other n = simp (ne_eqb ((board p).units.state.role u) from n)
 
-  pub renew-own : {q : List ℕ} → (board p).units.state.role u ≡ from → q ≡ make p (assigned u to) → q ≡ makes p renewed
+  pub renew_own : {q : List ℕ} → (board p).units.state.role u ≡ from → q ≡ make p (assigned u to) → q ≡ makes p renewed
   unfolding makes
-  renew-own e f = simp (eq-eqb ((board p).units.state.role u) from e) f
+  renew_own e f = simp (eq-eqb ((board p).units.state.role u) from e) f
 
 -- the units below u that had the role have the other, the units from u on are as they were
 pub record Renewing (p : List ℕ) (v : View) (from to u : ℕ) (q : List ℕ) : Type 0 where
@@ -45,9 +45,9 @@ pub record Renewing (p : List ℕ) (v : View) (from to u : ℕ) (q : List ℕ) :
   pub ahead : (w : ℕ) → u ≤ w → (board q).units.state.role w ≡ (board p).units.state.role w
 
 module _ {p : List ℕ} {v : View} {from to : ℕ} where
-  pub renewing-none : Laid p v → Renewing p v from to 0 p
+  pub renewing_none : Laid p v → Renewing p v from to 0 p
   unfolding sieve makes
-  renewing-none l = record { most = omega arith; laid = l; made = refl; ahead = λ w m. refl }
+  renewing_none l = record { most = omega arith; laid = l; made = refl; ahead = λ w m. refl }
 
   module _ {u : ℕ} {q r : List ℕ} (o : Renewing p v from to u q) (k : u < v.count) where
     hit : eqb ((board p).units.state.role u) from ≡ true → r ≡ make q (assigned u to) → Renewing p v from to (u + 1) r
@@ -57,16 +57,16 @@ module _ {p : List ℕ} {v : View} {from to : ℕ} where
         let n : r ≡ make (makes p (map g (sieve t u))) (assigned u to) = f ∙ ap (λ (l : List ℕ). make l (assigned u to)) o.made in
         record {
           most = omega arith;
-          laid = rw f (laid-make o.laid (assigned u to));
+          laid = rw f (laid_make o.laid (assigned u to));
           made =
               n
-              ∙ sym (makes-snoc (map g (sieve t u)) (assigned u to) p)
-              ∙ ap (makes p) (sym (map_last g (sieve t u) u) ∙ ap (map g) (sym (sieve-hit t u e)));
+              ∙ sym (makes_snoc (map g (sieve t u)) (assigned u to) p)
+              ∙ ap (makes p) (sym (map_last g (sieve t u) u) ∙ ap (map g) (sym (sieve_hit t u e)));
           ahead =
               λ w m.
-              let i = (assigned-else (board q) u to w (λ z. omega arith)).role in
+              let i = (assigned_else (board q) u to w (λ z. omega arith)).role in
               ap (λ (l : List ℕ). (board l).units.state.role w) f
-              ∙ ap (λ (b : Board). b.units.state.role w) (board-make o.laid.shaped (assigned u to))
+              ∙ ap (λ (b : Board). b.units.state.role w) (board_make o.laid.shaped (assigned u to))
               ∙ i
               ∙ o.ahead w (omega arith);
         }
@@ -79,7 +79,7 @@ module _ {p : List ℕ} {v : View} {from to : ℕ} where
         (record {
           most = omega arith;
           laid = o.laid;
-          made = o.made ∙ ap (λ (l : List ℕ). makes p (map g l)) (sym (sieve-miss t u e));
+          made = o.made ∙ ap (λ (l : List ℕ). makes p (map g l)) (sym (sieve_miss t u e));
           ahead = λ w m. o.ahead w (omega arith);
         })
 
@@ -103,31 +103,31 @@ module _ {p : List ℕ} {v : View} {from to : ℕ} where
 
 -- the stage that follows: none, advances, or quiet
 module _ (p : List ℕ) where
-  pub on-later : (holders (board p) Role.owes ≡ 0 → ⊥) → p ≡ makes p (passesOn (board p))
-  unfolding passesOn makes
-  on-later n = simp (ne_eqb (holders (board p) Role.owes) 0 n)
+  pub on_later : (holders (board p) Role.owes ≡ 0 → ⊥) → p ≡ makes p (passes_on (board p))
+  unfolding passes_on makes
+  on_later n = simp (ne_eqb (holders (board p) Role.owes) 0 n)
 
   pub on-advances :
       {q : List ℕ} → holders (board p) Role.owes ≡ 0 → (holders (board p) Role.advances ≡ 0 → ⊥) → q ≡ make p (staged Stage.advances 0 0)
-      → q ≡ makes p (passesOn (board p))
-  unfolding passesOn makes
+      → q ≡ makes p (passes_on (board p))
+  unfolding passes_on makes
   on-advances e n f = simp (eq-eqb (holders (board p) Role.owes) 0 e, ne_eqb (holders (board p) Role.advances) 0 n) f
 
   pub on_quiet :
       {q r : List ℕ} → holders (board p) Role.owes ≡ 0 → holders (board p) Role.advances ≡ 0 → q ≡ make p (staged Stage.quiet 0 0) → r ≡ make q unrouted
-      → r ≡ makes p (passesOn (board p))
-  unfolding passesOn makes
+      → r ≡ makes p (passes_on (board p))
+  unfolding passes_on makes
   on_quiet e g f h =
       simp (eq-eqb (holders (board p) Role.owes) 0 e, eq-eqb (holders (board p) Role.advances) 0 g)
       (h ∙ ap (λ (l : List ℕ). make l unrouted) f)
 
 -- a call's own changes, and then the stage that follows
 pub then-on :
-    {p q r : List ℕ} → Shaped p → (xs : List Change) → q ≡ makes p xs → r ≡ makes q (passesOn (board q))
-    → r ≡ makes p (thenOn (board p) xs)
-unfolding thenOn
+    {p q r : List ℕ} → Shaped p → (xs : List Change) → q ≡ makes p xs → r ≡ makes q (passes_on (board q))
+    → r ≡ makes p (then_on (board p) xs)
+unfolding then_on
 then-on {p} s xs e f =
     f
-    ∙ ap (λ (l : List ℕ). makes l (passesOn (board l))) e
-    ∙ ap (λ (b : Board). makes (makes p xs) (passesOn b)) (board-makes s xs)
-    ∙ sym (makes-then xs (passesOn (changes (board p) xs)) p)
+    ∙ ap (λ (l : List ℕ). makes l (passes_on (board l))) e
+    ∙ ap (λ (b : Board). makes (makes p xs) (passes_on b)) (board_makes s xs)
+    ∙ sym (makes_then xs (passes_on (changes (board p) xs)) p)

@@ -3,32 +3,32 @@
 use Rattle.std.specs.Prelude.{ℕ, cond, List, [], ◌∷◌, eqb}
 use Rattle.grid.specs.Rulings.{Row, row}
 use Rattle.position.specs.Kind.{force}
-use Rattle.position.specs.Board.{Board, nowhere, forceOf}
+use Rattle.position.specs.Board.{Board, nowhere, force_of}
 use Rattle.position.specs.Tally.{any}
 use Rattle.ruling.specs.Values.{accepting}
 use Rattle.ruling.specs.Verdict.{Ruling, along, judged, outcome}
 use Rattle.ruling.specs.Verdict.Ruling.{refused, accepted}
-use Rattle.field.specs.Listed.{listLength, noUnit, allThere, named, and_then}
+use Rattle.field.specs.Listed.{list_length, no_unit, all_there, named, and_then}
 use Rattle.aftermath.specs.Losses.{
   owes,
   loss,
   losses,
-  shownTotal,
+  shown_total,
   spared,
   enough,
-  owesPhasing,
-  otherType,
-  sparedSpecial,
-  passedOver,
+  owes_phasing,
+  other_type,
+  spared_special,
+  passed_over,
   short,
-  lossChecks,
-  lossesRule,
+  loss_checks,
+  losses_rule,
 }
 
 -- 'unfolding aftermathOpen' opens the questions of losses, for a row that is to be computed
-unfoldable pub aftermathOpen : ℕ
-unfolding force forceOf any along judged outcome listLength noUnit allThere named and_then owes loss losses shownTotal spared enough owesPhasing otherType sparedSpecial passedOver short lossChecks lossesRule
-aftermathOpen = 0
+unfoldable pub aftermath_open : ℕ
+unfolding force force_of any along judged outcome list_length no_unit all_there named and_then owes loss losses shown_total spared enough owes_phasing other_type spared_special passed_over short loss_checks losses_rule
+aftermath_open = 0
 
 -- the first of two, and the second
 abbrev pub first_or : ℕ → ℕ → ℕ → ℕ
@@ -60,7 +60,7 @@ owing kind strength =
       desk =
           record {
             clock = record { turn = 1; force = 2; phase = 1 };
-            lastTurn = 1;
+            last_turn = 1;
             battle = record { stage = 2; owed = 0; need = 3 };
             route = λ r j. nowhere;
             player = λ f. f;
@@ -68,16 +68,16 @@ owing kind strength =
     }
 
 -- what is answered to a list of losses
-abbrev pub answerTo : Board → List ℕ → Ruling
-answerTo b units = (outcome [] [] (lossesRule b units)).answer
+abbrev pub answer_to : Board → List ℕ → Ruling
+answer_to b units = (outcome [] [] (losses_rule b units)).answer
 
 abbrev pub infantry : ℕ → ℕ
 infantry u = 2
 
 -- "Dx need 3, attackers 6 and 4: either alone stands; special infantry 20 and infantry 3, need 3: infantry alone is 15"
-abbrev pub aftermathRows : List Row
-aftermathRows =
-    row (answerTo (owing infantry (first_or 6 4)) (0 ∷ [])) (accepted accepting) ∷
-    row (answerTo (owing infantry (first_or 6 4)) (1 ∷ [])) (accepted accepting) ∷
-    row (answerTo (owing (first_or 4 2) (first_or 20 3)) (1 ∷ [])) (refused 15 0) ∷
+abbrev pub aftermath_rows : List Row
+aftermath_rows =
+    row (answer_to (owing infantry (first_or 6 4)) (0 ∷ [])) (accepted accepting) ∷
+    row (answer_to (owing infantry (first_or 6 4)) (1 ∷ [])) (accepted accepting) ∷
+    row (answer_to (owing (first_or 4 2) (first_or 20 3)) (1 ∷ [])) (refused 15 0) ∷
     []

@@ -16,9 +16,9 @@ reassigned b from to = map (λ u. assigned u to) (sieve (λ u. eqb (b.units.stat
 
 -- "When no role 1 is left in stage 1 or 2, stage 3 follows, n and need 0. Stage 3 closed, or at any moment without role 2, becomes 0
 -- with routes cleared."
-unfoldable pub passesOn : Board → List Change
-passesOn b = cond (eqb (holders b Role.owes) 0) (cond (eqb (holders b Role.advances) 0) (staged Stage.quiet 0 0 ∷ unrouted ∷ []) (staged Stage.advances 0 0 ∷ [])) []
+unfoldable pub passes_on : Board → List Change
+passes_on b = cond (eqb (holders b Role.owes) 0) (cond (eqb (holders b Role.advances) 0) (staged Stage.quiet 0 0 ∷ unrouted ∷ []) (staged Stage.advances 0 0 ∷ [])) []
 
 -- what a call changes, and the stage that follows from it
-unfoldable pub thenOn : Board → List Change → List Change
-thenOn b xs = xs ++ passesOn (changes b xs)
+unfoldable pub then_on : Board → List Change → List Change
+then_on b xs = xs ++ passes_on (changes b xs)

@@ -5,15 +5,15 @@ ghost use Rattle.position.specs.Board.{board};
 ghost use Rattle.position.specs.Laid.{Laid};
 ghost use Rattle.ruling.specs.Judged.{TestedOf};
 ghost use Rattle.battle.specs.Attack.{
-  mayAttackNow,
-  foughtOn,
-  noTarget,
-  cannotAttack,
-  notBeside,
+  may_attack_now,
+  fought_on,
+  no_target,
+  cannot_attack,
+  not_beside,
   attacker,
   attackers,
   in_range,
-  attackChecks,
+  attack_checks,
 };
 ghost use Rattle.battle.specs.Asked.{Faces, AllFace, InRange, Engaged};
 
@@ -53,7 +53,7 @@ fn in_range(p: &[u8], v: View, target: usize, units: &[u16], die: usize, long: u
 // Whether an attack may be made in this stage and phase.
 fn may_attack_now(p: &[u8], v: View) -> bool
     requires { Laid p.now v }
-    ensures { result ≡ mayAttackNow (board p.now) }
+    ensures { result ≡ may_attack_now (board p.now) }
 {
     if read::stage(p, v) != stage::QUIET {
         return false;
@@ -64,7 +64,7 @@ fn may_attack_now(p: &[u8], v: View) -> bool
 // Whether unit `u` stands on hex `h` and has fought.
 fn fought_on(p: &[u8], v: View, h: usize, u: usize) -> bool
     requires { Laid p.now v }
-    ensures { result ≡ foughtOn (board p.now) h u }
+    ensures { result ≡ fought_on (board p.now) h u }
 {
     if read::hex(p, v, u) == h {
         return bits::has(bits::FOUGHT, read::marks(p, v, u));
@@ -75,7 +75,7 @@ fn fought_on(p: &[u8], v: View, h: usize, u: usize) -> bool
 // Whether a unit on hex `h` has fought.
 fn any_fought(p: &[u8], v: View, h: usize) -> bool
     requires { Laid p.now v }
-    ensures { result ≡ any (foughtOn (board p.now) h) (board p.now).units.count }
+    ensures { result ≡ any (fought_on (board p.now) h) (board p.now).units.count }
 {
     let count = v.count;
     let mut u = 0;
@@ -91,7 +91,7 @@ fn any_fought(p: &[u8], v: View, h: usize) -> bool
 // Whether the target holds no Enemy of the phasing force, or a unit there has fought.
 fn no_target(p: &[u8], v: View, target: usize) -> bool
     requires { Laid p.now v }
-    ensures { result ≡ noTarget (board p.now) target }
+    ensures { result ≡ no_target (board p.now) target }
 {
     if !zone::holds_enemy(p, v, read::phasing(p, v), target) {
         return true;
@@ -102,7 +102,7 @@ fn no_target(p: &[u8], v: View, target: usize) -> bool
 // Whether unit `u`'s type or mark forbids an attack.
 fn cannot_attack(p: &[u8], v: View, u: usize) -> bool
     requires { Laid p.now v }
-    ensures { result ≡ cannotAttack (board p.now) u }
+    ensures { result ≡ cannot_attack (board p.now) u }
 {
     if !Kind(read::kind(p, v, u)).may_attack() {
         return true;
@@ -113,7 +113,7 @@ fn cannot_attack(p: &[u8], v: View, u: usize) -> bool
 // Whether unit `u` does not stand beside the target over an unblocked side.
 fn not_beside(p: &[u8], v: View, target: usize, u: usize) -> bool
     requires { Laid p.now v }
-    ensures { result ≡ notBeside (board p.now) target u }
+    ensures { result ≡ not_beside (board p.now) target u }
 {
     !ground::joined(p, v, read::hex(p, v, u), target)
 }
@@ -162,7 +162,7 @@ pub fn judge_attack(
     long: usize,
 ) -> Tested
     requires { Laid p.now v }
-    ensures { TestedOf p.now (attackChecks (board p.now) target units.now die long) (Engaged (board p.now) target units.now long) result }
+    ensures { TestedOf p.now (attack_checks (board p.now) target units.now die long) (Engaged (board p.now) target units.now long) result }
 {
     if let Tested::Stopped(n, k) = in_range(p, v, target, units, die, long) {
         return Tested::Stopped(n, k);

@@ -5,8 +5,8 @@ ghost use Rattle.acceptance.specs.Accepted.{Accepted};
 ghost use Rattle.position.specs.Laid.{Laid};
 ghost use Rattle.ruling.specs.Verdict.{Met};
 ghost use Rattle.battle.specs.Asked.{Engaged};
-ghost use Rattle.battle.specs.Battle.{battle, attackRule};
-ghost use Rattle.battle.specs.Answers.{foughtAs};
+ghost use Rattle.battle.specs.Battle.{battle, attack_rule};
+ghost use Rattle.battle.specs.Answers.{fought_as};
 
 mod asking;
 
@@ -25,7 +25,7 @@ fn fight(
     scratch: &mut [u8],
 ) -> Fought
     requires { Laid p.old v × Accepted p.old × Engaged (board p.old) target units.now (length scratch.old) }
-    ensures { Met p.old scratch.old (battle (board p.old) target units.now die) (foughtAs result) p.new scratch.new }
+    ensures { Met p.old scratch.old (battle (board p.old) target units.now die) (fought_as result) p.new scratch.new }
 {
     let k = units.len();
     let mut who = [0; 21];
@@ -59,7 +59,7 @@ pub fn attack(
     scratch: &mut [u8],
 ) -> Fought
     requires { Laid p.old v × Accepted p.old }
-    ensures { Met p.old scratch.old (attackRule (board p.old) target units.now die (length scratch.old)) (foughtAs result) p.new scratch.new }
+    ensures { Met p.old scratch.old (attack_rule (board p.old) target units.now die (length scratch.old)) (fought_as result) p.new scratch.new }
 {
     if let Tested::Stopped(n, k) = asking::judge_attack(p, v, target, units, die, scratch.len()) {
         return Fought::Refused(n, k);

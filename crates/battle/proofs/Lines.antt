@@ -11,29 +11,29 @@ use borrow.Author.Tests.{eq-eqb}
 use lib.Dec.{leb}
 use lib.ListN.{get_or, length, length-append, length-set, set, take}
 use lib.Seq.{get_or-set_other, get_or-set_same, take_all, take-suc-set}
-use Rattle.position.proofs.Tallies.{any_false, not-both, same_or}
+use Rattle.position.proofs.Tallies.{any_false, not_both, same_or}
 use Rattle.position.specs.Board.{Board}
 use Rattle.position.specs.Ground.{next}
 use Rattle.position.specs.Kind.{us}
 use Rattle.position.specs.Layout.{strength}
 use Rattle.position.specs.Tally.{any}
 use Rattle.walk.specs.Chain.{mark}
-use Rattle.field.proofs.Lists.{map_last, sieve-grows, sieve-hit, sieve-miss, take_more}
+use Rattle.field.proofs.Lists.{map_last, sieve_grows, sieve_hit, sieve_miss, take_more}
 use Rattle.field.specs.Listed.{sieve}
 use Rattle.field.specs.Scene.{Scene, scene}
 use Rattle.field.specs.Working.{working}
-use Rattle.field.specs.Zone.{standsOn}
+use Rattle.field.specs.Zone.{stands_on}
 use Rattle.supply.specs.Supply.{supplied}
 use Rattle.supply.specs.Traced.{Traced}
 use Rattle.results.specs.Participants.{defenders, participants}
-use Rattle.battle.specs.Line.{strengthOf}
-use Rattle.battle.specs.Mustered.{AllStanding, Armed, Arms, ArmsHome, ArmsAll, Enlists, Joins, Musters, Names, Prints, nationAt}
-use Rattle.line.specs.Line.{fighterAt, places}
+use Rattle.battle.specs.Line.{strength_of}
+use Rattle.battle.specs.Mustered.{AllStanding, Armed, Arms, ArmsHome, ArmsAll, Enlists, Joins, Musters, Names, Prints, nation_at}
+use Rattle.line.specs.Line.{fighter_at, places}
 use Rattle.line.specs.declared.Fighter.{Fighter}
 
 -- one place more is written
-pub write-next : (us : List ℕ) (i x : ℕ) → i < length us → take (i + 1) (set us i x) ≡ take i us ++ (x ∷ [])
-write-next us i x l = rw (add-one i) (take-suc-set us i x l)
+pub write_next : (us : List ℕ) (i x : ℕ) → i < length us → take (i + 1) (set us i x) ≡ take i us ++ (x ∷ [])
+write_next us i x l = rw (add-one i) (take-suc-set us i x l)
 
 -- the first i of the array are those of the list
 pub record Enlisting (units who : List ℕ) (i : ℕ) : Type 0 where
@@ -49,13 +49,13 @@ enlist-more {units} {who} {i} m o l =
       most = omega arith;
       size = simp length-set o.size;
       held =
-          write-next who i (get_or units i 0) (omega (arith, o.size))
+          write_next who i (get_or units i 0) (omega (arith, o.size))
           ∙ ap (λ (x : List ℕ). x ++ (get_or units i 0 ∷ [])) o.held
           ∙ sym (take_more units i l);
     }
 
-pub enlist-all : {units who : List ℕ} {i : ℕ} → Enlisting units who i → length units ≤ i → Enlists units who
-enlist-all {units} {who} {i} o l =
+pub enlist_all : {units who : List ℕ} {i : ℕ} → Enlisting units who i → length units ≤ i → Enlists units who
+enlist_all {units} {who} {i} o l =
     let e : length units ≡ i = omega (arith, o.most) in
     record { size = o.size; held = ap (λ (k : ℕ). take k who) e ∙ o.held ∙ take_all i units l }
 
@@ -67,31 +67,31 @@ pub record Joining (t : ℕ → Bool) (before : List ℕ) (m count : ℕ) (after
   pub held : take n after ≡ take m before ++ sieve t u
 
 module _ {t : ℕ → Bool} {before : List ℕ} {m count : ℕ} where
-  pub joining-none : length before ≡ places → Joining t before m count before m 0
+  pub joining_none : length before ≡ places → Joining t before m count before m 0
   unfolding sieve
-  joining-none e = record { most = omega arith; size = e; long = omega arith; held = simp append-nil }
+  joining_none e = record { most = omega arith; size = e; long = omega arith; held = simp append-nil }
 
   module _ {after : List ℕ} {n u : ℕ} (o : Joining t before m count after n u) (l : u < count) where
-    pub joining-room : m + length (sieve t count) ≤ places → t u ≡ true → n < places
-    joining-room r e =
-        let k = ap length (sieve-hit t u e) ∙ length-append (sieve t u) (u ∷ []) in
-        omega (arith, o.long, sieve-grows t (u + 1) count (omega arith))
+    pub joining_room : m + length (sieve t count) ≤ places → t u ≡ true → n < places
+    joining_room r e =
+        let k = ap length (sieve_hit t u e) ∙ length-append (sieve t u) (u ∷ []) in
+        omega (arith, o.long, sieve_grows t (u + 1) count (omega arith))
 
     pub joining-hit :
         {after' : List ℕ} {n' : ℕ} → m + length (sieve t count) ≤ places → t u ≡ true → after' ≡ set after n u → n' ≡ n + 1
         → Joining t before m count after' n' (u + 1)
     joining-hit r e f g =
-        let k = ap length (sieve-hit t u e) ∙ length-append (sieve t u) (u ∷ []) in
+        let k = ap length (sieve_hit t u e) ∙ length-append (sieve t u) (u ∷ []) in
         rw (f, g)
         (record {
           most = omega arith;
           size = simp length-set o.size;
           long = omega (arith, o.long);
           held =
-              write-next after n u (omega (arith, o.size, joining-room r e))
+              write_next after n u (omega (arith, o.size, joining_room r e))
               ∙ ap (λ (x : List ℕ). x ++ (u ∷ [])) o.held
               ∙ append_assoc (take m before) (sieve t u) (u ∷ [])
-              ∙ ap (λ (x : List ℕ). take m before ++ x) (sym (sieve-hit t u e));
+              ∙ ap (λ (x : List ℕ). take m before ++ x) (sym (sieve_hit t u e));
         })
 
     pub joining-miss :
@@ -101,20 +101,20 @@ module _ {t : ℕ → Bool} {before : List ℕ} {m count : ℕ} where
         (record {
           most = omega arith;
           size = o.size;
-          long = o.long ∙ ap (λ (x : List ℕ). m + length x) (sym (sieve-miss t u e));
-          held = o.held ∙ ap (λ (x : List ℕ). take m before ++ x) (sym (sieve-miss t u e));
+          long = o.long ∙ ap (λ (x : List ℕ). m + length x) (sym (sieve_miss t u e));
+          held = o.held ∙ ap (λ (x : List ℕ). take m before ++ x) (sym (sieve_miss t u e));
         })
 
 pub joins-all :
     {b : Board} {target : ℕ} {before : List ℕ} {m count : ℕ} {after : List ℕ} {n u : ℕ}
-    → Joining (standsOn (scene b) target) before m count after n u → count ≤ u → count ≡ b.units.count → Joins b target before m after n
+    → Joining (stands_on (scene b) target) before m count after n u → count ≤ u → count ≡ b.units.count → Joins b target before m after n
 unfolding defenders
 joins-all {b} {target} {before} {m} {count} {after} {n} {u} o l e =
     let k : u ≡ b.units.count = omega (arith, o.most) in
     record {
       size = o.size;
-      long = o.long ∙ ap (λ (x : ℕ). m + length (sieve (standsOn (scene b) target) x)) k;
-      held = o.held ∙ ap (λ (x : ℕ). take m before ++ sieve (standsOn (scene b) target) x) k;
+      long = o.long ∙ ap (λ (x : ℕ). m + length (sieve (stands_on (scene b) target) x)) k;
+      held = o.held ∙ ap (λ (x : ℕ). take m before ++ sieve (stands_on (scene b) target) x) k;
     }
 
 pub musters :
@@ -143,28 +143,28 @@ printing-more {p} {who} {printed} {n} {i} {x} w m o l e =
       most = omega arith;
       size = simp length-set o.size;
       held =
-          write-next printed i x (omega (arith, o.size))
+          write_next printed i x (omega (arith, o.size))
           ∙ ap₂ (λ (y : List ℕ) (z : ℕ). y ++ (z ∷ [])) o.held e
           ∙ sym (ap (map (strength p)) (take_more who i (omega arith)) ∙ map_last (strength p) (take i who) (get_or who i 0));
     }
 
-pub prints-all : {p who printed : List ℕ} {n i : ℕ} → Printing p who n printed i → n ≤ i → Prints p who n printed
-prints-all {p} {who} {printed} {n} {i} o l =
+pub prints_all : {p who printed : List ℕ} {n i : ℕ} → Printing p who n printed i → n ≤ i → Prints p who n printed
+prints_all {p} {who} {printed} {n} {i} o l =
     let e : n ≡ i = omega (arith, o.most) in
     record { size = o.size; held = rw e o.held }
 
 -- what is traced of a hex
-pub traced-says : {s : Scene} {n : ℕ} {m : List ℕ} → Traced s n m → (h : ℕ) → h < s.map.hexes → leb 2 (get_or m h 0) ≡ supplied s n h
+pub traced_says : {s : Scene} {n : ℕ} {m : List ℕ} → Traced s n m → (h : ℕ) → h < s.map.hexes → leb 2 (get_or m h 0) ≡ supplied s n h
 unfolding mark
-traced-says t h l = sym (t.tells h l)
+traced_says t h l = sym (t.tells h l)
 
-pub traced-as : {s : Scene} {m n : ℕ} {l : List ℕ} → m ≡ n → Traced s m l → Traced s n l
-traced-as {s} {l = l} e = subst (λ (k : ℕ). Traced s k l) e
+pub traced_as : {s : Scene} {m n : ℕ} {l : List ℕ} → m ≡ n → Traced s m l → Traced s n l
+traced_as {s} {l = l} e = subst (λ (k : ℕ). Traced s k l) e
 
 pub armed-is :
     (b : Board) (u printed : ℕ) {t : Bool} {r : ℕ} → t ≡ supplied (scene b) (b.units.counter.nationality u) (b.units.state.hex u)
-    → r ≡ working b u t printed → r ≡ strengthOf b u printed
-unfolding strengthOf
+    → r ≡ working b u t printed → r ≡ strength_of b u printed
+unfolding strength_of
 armed-is b u printed e f = f ∙ ap (λ (x : Bool). working b u x printed) e
 
 -- the places below i are armed where they are of the nationality; all others are as they were
@@ -174,8 +174,8 @@ pub record Arming (b : Board) (nation : ℕ) (who : List ℕ) (n : ℕ) (printed
   pub rest : (j : ℕ) → i ≤ j → get_or after j 0 ≡ get_or before j 0
 
 module _ {b : Board} {nation : ℕ} {who : List ℕ} {n : ℕ} {printed before : List ℕ} where
-  pub arming-none : length before ≡ places → Arming b nation who n printed before before 0
-  arming-none e =
+  pub arming_none : length before ≡ places → Arming b nation who n printed before before 0
+  arming_none e =
       record {
         most = omega arith;
         arms = record { size = e; own = λ j l. absurd (omega arith); other = λ j l. absurd (omega arith) };
@@ -184,7 +184,7 @@ module _ {b : Board} {nation : ℕ} {who : List ℕ} {n : ℕ} {printed before :
 
   module _ {after : List ℕ} {i : ℕ} (m : n ≤ places) (o : Arming b nation who n printed before after i) (l : i < n) where
     pub arming-hit :
-        {after' : List ℕ} {x : ℕ} → b.units.counter.nationality (get_or who i 0) ≡ nation → x ≡ strengthOf b (get_or who i 0) (get_or printed i 0)
+        {after' : List ℕ} {x : ℕ} → b.units.counter.nationality (get_or who i 0) ≡ nation → x ≡ strength_of b (get_or who i 0) (get_or printed i 0)
         → after' ≡ set after i x → Arming b nation who n printed before after' (i + 1)
     arming-hit {after'} {x} e f g =
         let z : i < length after = omega (arith, o.arms.size) in
@@ -232,8 +232,8 @@ module _ {b : Board} {nation : ℕ} {who : List ℕ} {n : ℕ} {printed before :
           rest = λ j k. o.rest j (omega arith);
         })
 
-  pub arming-all : {after : List ℕ} {i : ℕ} → Arming b nation who n printed before after i → n ≤ i → Arms b nation who n printed before after
-  arming-all {after} {i} o l =
+  pub arming_all : {after : List ℕ} {i : ℕ} → Arming b nation who n printed before after i → n ≤ i → Arms b nation who n printed before after
+  arming_all {after} {i} o l =
       record {
         size = o.arms.size;
         own = λ j k. o.arms.own j (omega arith);
@@ -241,14 +241,14 @@ module _ {b : Board} {nation : ℕ} {who : List ℕ} {n : ℕ} {printed before :
       }
 
   -- a nationality that takes no part
-  pub arms_none : length before ≡ places → any (nationAt b nation who) n ≡ false → Arms b nation who n printed before before
-  unfolding nationAt
+  pub arms_none : length before ≡ places → any (nation_at b nation who) n ≡ false → Arms b nation who n printed before before
+  unfolding nation_at
   arms_none s e =
       record {
         size = s;
         own =
             λ j k q.
-            not-both (nationAt b nation who j) (eq-eqb (b.units.counter.nationality (get_or who j 0)) nation q) (any_false (nationAt b nation who) n j e k);
+            not_both (nation_at b nation who j) (eq-eqb (b.units.counter.nationality (get_or who j 0)) nation q) (any_false (nation_at b nation who) n j e k);
         other = λ j k q. refl;
       }
 
@@ -259,8 +259,8 @@ pub record ArmedTo (b : Board) (who : List ℕ) (n : ℕ) (printed after : List 
   pub each : (i : ℕ) → i < n → b.units.counter.nationality (get_or who i 0) < m → Armed b who printed after i
 
 module _ {b : Board} {who : List ℕ} {n : ℕ} {printed after : List ℕ} where
-  pub armed-none : length after ≡ places → ArmedTo b who n printed after 0
-  armed-none e = record { most = omega arith; size = e; each = λ i l k. absurd (omega arith) }
+  pub armed_none : length after ≡ places → ArmedTo b who n printed after 0
+  armed_none e = record { most = omega arith; size = e; each = λ i l k. absurd (omega arith) }
 
   pub armed_more : {m : ℕ} {next : List ℕ} → ArmedTo b who n printed after m → m < 5 → Arms b m who n printed after next → ArmedTo b who n printed next (m + 1)
   armed_more {m} o l a =
@@ -274,8 +274,8 @@ module _ {b : Board} {who : List ℕ} {n : ℕ} {printed after : List ℕ} where
             (λ d. a.other i k d ∙ o.each i k (omega arith));
       }
 
-  pub armed-all : {m : ℕ} → AllStanding b who n → ArmedTo b who n printed after m → 5 ≤ m → ArmsAll b who n printed after
-  armed-all s o l = record { size = o.size; each = λ i k. o.each i k (omega (arith, (s i k).nation)) }
+  pub armed_all : {m : ℕ} → AllStanding b who n → ArmedTo b who n printed after m → 5 ≤ m → ArmsAll b who n printed after
+  armed_all s o l = record { size = o.size; each = λ i k. o.each i k (omega (arith, (s i k).nation)) }
 
 pub armed-home :
     {b : Board} {who : List ℕ} {n : ℕ} {printed before after : List ℕ} {m : ℕ}
@@ -288,20 +288,20 @@ armed-home {b} {who} {n} {printed} {before} e o h =
 
 -- the units of the fighters, place by place
 module _ {fs : List Fighter} where
-  pub names-none : {all : List ℕ} → length all ≡ places → Names fs 0 all
-  names-none {all} e = record { size = e; each = below_none (λ j. get_or all j 0 ≡ (fighterAt fs j).unit) }
+  pub names_none : {all : List ℕ} → length all ≡ places → Names fs 0 all
+  names_none {all} e = record { size = e; each = below_none (λ j. get_or all j 0 ≡ (fighter_at fs j).unit) }
 
   pub names_more :
-      {i x : ℕ} {all all' : List ℕ} → i < places → Names fs i all → x ≡ (fighterAt fs i).unit → all' ≡ set all i x → Names fs (i + 1) all'
+      {i x : ℕ} {all all' : List ℕ} → i < places → Names fs i all → x ≡ (fighter_at fs i).unit → all' ≡ set all i x → Names fs (i + 1) all'
   names_more {i} {x} {all} l o e f =
       rw f
       (record {
         size = length-set all i x ∙ o.size;
         each =
-            below_more (λ j. get_or (set all i x) j 0 ≡ (fighterAt fs j).unit) i
+            below_more (λ j. get_or (set all i x) j 0 ≡ (fighter_at fs j).unit) i
             (λ j k. get_or-set_other all i j x 0 (λ d. omega arith) ∙ o.each j k)
             (get_or-set_same all i x 0 (omega (arith, o.size)) ∙ e);
       })
 
-  pub names-all : {i n : ℕ} {all : List ℕ} → Names fs i all → n ≤ i → Names fs n all
-  names-all o l = record { size = o.size; each = λ j k. o.each j (omega arith) }
+  pub names_all : {i n : ℕ} {all : List ℕ} → Names fs i all → n ≤ i → Names fs n all
+  names_all o l = record { size = o.size; each = λ j k. o.each j (omega arith) }

@@ -8,17 +8,17 @@ use lib.Dec.{eqb}
 use Rattle.grid.specs.declared.Beside.TheVariants.{At, Off}
 use Rattle.grid.proofs.Laws.{opposite, other}
 use Rattle.position.specs.Board.{Map}
-use Rattle.position.specs.Ground.{beside, side, blockedSide, next, is_at, joined}
+use Rattle.position.specs.Ground.{beside, side, blocked_side, next, is_at, joined}
 use Rattle.position.proofs.Tallies.{either}
 use Rattle.position.proofs.Sides.{reaches, is-at}
 use Rattle.position.specs.Ground.{bearing}
-use Rattle.position.proofs.Bearings.{bearing-reaches}
+use Rattle.position.proofs.Bearings.{bearing_reaches}
 
 module _ (m : Map) where
-  reaches-beside : (h x d : ℕ) → reaches m h x d ≡ true → beside m h d ≡ At x
+  reaches_beside : (h x d : ℕ) → reaches m h x d ≡ true → beside m h d ≡ At x
   unfolding reaches next
-  reaches-beside h x d e =
-      either (eqb (side m h d) blockedSide)
+  reaches_beside h x d e =
+      either (eqb (side m h d) blocked_side)
       (λ q. off (simp q at e))
       (λ q. is-at (beside m h d) x (simp q at e))
     where
@@ -26,19 +26,19 @@ module _ (m : Map) where
       off e = let z = is-at Off x e in let n : ◌≡◌ {A = ℕ} 0 1 = cc in absurd (omega arith)
 
   module _ (x h : ℕ) (e : joined m h x ≡ true) where
-    joined-beside : beside m h (bearing m h x) ≡ At x
-    joined-beside = reaches-beside h x (bearing m h x) (bearing-reaches m h x e)
+    joined_beside : beside m h (bearing m h x) ≡ At x
+    joined_beside = reaches_beside h x (bearing m h x) (bearing_reaches m h x e)
 
     -- it is another hex
-    pub joined-other : h ≡ x → ⊥
-    joined-other = other m.width m.height h (bearing m h x) x joined-beside
+    pub joined_other : h ≡ x → ⊥
+    joined_other = other m.width m.height h (bearing m h x) x joined_beside
 
     joined_back : beside m x ((bearing m h x + 3) % 6) ≡ At h
-    joined_back = opposite m.width m.height h (bearing m h x) x joined-beside
+    joined_back = opposite m.width m.height h (bearing m h x) x joined_beside
 
   -- one direction, one hex
-  pub joined-one : (x h k : ℕ) → joined m h x ≡ true → joined m k x ≡ true → bearing m h x ≡ bearing m k x → h ≡ k
-  joined-one x h k e f q =
+  pub joined_one : (x h k : ℕ) → joined m h x ≡ true → joined m k x ≡ true → bearing m h x ≡ bearing m k x → h ≡ k
+  joined_one x h k e f q =
       let a = joined_back x h e in
       let b : beside m x ((bearing m h x + 3) % 6) ≡ At k = rw q (joined_back x k f) in
       cc

@@ -1,11 +1,11 @@
 -- What the answers of this crate say in document 01's numbers: "The answer is column, from 1, and result code."
 -- Assumes nothing.
-use Rattle.ruling.specs.Values.{foughtWith}
+use Rattle.ruling.specs.Values.{fought_with}
 use Rattle.ruling.specs.Verdict.{Ruling}
 use Rattle.ruling.specs.Verdict.Ruling.{refused, accepted}
 use Rattle.battle.specs.declared.Fought.{Fought}
 use Rattle.battle.specs.declared.Fought.TheVariants as F
 
-abbrev pub foughtAs : Fought → Ruling
-foughtAs (F.Done column code) = accepted (foughtWith column code)
-foughtAs (F.Refused n k) = refused n k
+abbrev pub fought_as : Fought → Ruling
+fought_as (F.Done column code) = accepted (fought_with column code)
+fought_as (F.Refused n k) = refused n k

@@ -3,14 +3,14 @@
 -- Assumes nothing.
 use Rattle.std.specs.Prelude.{ℕ, ◌≤◌, ◌<◌, ◌≡◌, false, List, length, get_or}
 use Rattle.position.specs.Board.{Board}
-use Rattle.field.specs.Phasing.{notPhasing}
+use Rattle.field.specs.Phasing.{not_phasing}
 use Rattle.field.specs.Listed.{Counted}
-use Rattle.battle.specs.Attack.{notBeside}
+use Rattle.battle.specs.Attack.{not_beside}
 
 -- unit u is of the phasing force, on the map and beside the target
 pub record Faces (b : Board) (target u : ℕ) : Type 0 where
-  pub phasing : notPhasing b u ≡ false
-  pub beside : notBeside b target u ≡ false
+  pub phasing : not_phasing b u ≡ false
+  pub beside : not_beside b target u ≡ false
 
 abbrev pub AllFace : Board → ℕ → List ℕ → Type 0
 AllFace b target units = (i : ℕ) → i < length units → Faces b target (get_or units i 0)

@@ -6,10 +6,10 @@ use Rattle.std.specs.Prelude.{◌+◌, ◌<◌, ◌≤◌, ℕ, Bool, List, ◌+
 use Rattle.position.specs.Board.{Board}
 use Rattle.position.specs.Kind.{us, canada}
 use Rattle.position.specs.Layout.{strength}
-use Rattle.line.specs.Line.{fighterAt, fighterOf, places}
+use Rattle.line.specs.Line.{fighter_at, fighter_of, places}
 use Rattle.line.specs.declared.Fighter.{Fighter}
 use Rattle.results.specs.Participants.{defenders, participants}
-use Rattle.battle.specs.Line.{strengthOf}
+use Rattle.battle.specs.Line.{strength_of}
 
 -- the first of the array are these units
 pub record Enlists (units who : List ℕ) : Type 0 where
@@ -43,12 +43,12 @@ abbrev pub AllStanding : Board → List ℕ → ℕ → Type 0
 AllStanding b who n = (i : ℕ) → i < n → Standing b (get_or who i 0)
 
 -- the unit at place i is of the nationality
-unfoldable pub nationAt : Board → ℕ → List ℕ → ℕ → Bool
-nationAt b nation who i = eqb (b.units.counter.nationality (get_or who i 0)) nation
+unfoldable pub nation_at : Board → ℕ → List ℕ → ℕ → Bool
+nation_at b nation who i = eqb (b.units.counter.nationality (get_or who i 0)) nation
 
 -- place i of the array `fighting` holds its unit's fighting strength
 abbrev pub Armed : Board → List ℕ → List ℕ → List ℕ → ℕ → Type 0
-Armed b who printed fighting i = get_or fighting i 0 ≡ strengthOf b (get_or who i 0) (get_or printed i 0)
+Armed b who printed fighting i = get_or fighting i 0 ≡ strength_of b (get_or who i 0) (get_or printed i 0)
 
 -- the places below n whose units are of the nationality are armed, the others are as they were
 pub record Arms (b : Board) (nation : ℕ) (who : List ℕ) (n : ℕ) (printed before after : List ℕ) : Type 0 where
@@ -69,9 +69,9 @@ pub record ArmsAll (b : Board) (who : List ℕ) (n : ℕ) (printed after : List 
 
 -- the fighter at place i of the line: unit, printed strength and fighting strength, as the arrays have them
 unfoldable pub drawn : List ℕ → List ℕ → List ℕ → ℕ → Fighter
-drawn who printed fighting i = fighterOf (get_or who i 0) (get_or printed i 0) (get_or fighting i 0)
+drawn who printed fighting i = fighter_of (get_or who i 0) (get_or printed i 0) (get_or fighting i 0)
 
 -- "carries unit .. to the odds and the losses": the first n places hold the units of the first n fighters
 pub record Names (fs : List Fighter) (n : ℕ) (all : List ℕ) : Type 0 where
   pub size : length all ≡ places
-  pub each : (i : ℕ) → i < n → get_or all i 0 ≡ (fighterAt fs i).unit
+  pub each : (i : ℕ) → i < n → get_or all i 0 ≡ (fighter_at fs i).unit

@@ -9,9 +9,9 @@ use Rattle.grid.specs.declared.Beside.{Beside}
 use Rattle.grid.specs.declared.Beside.TheVariants.{At, Off}
 use Rattle.position.specs.Tally.{any}
 use Rattle.position.specs.Ground.{is_at}
-use Rattle.position.proofs.Tallies.{not-both, either, any_some, any-true}
-use Rattle.position.proofs.Sides.{is-at, at-is}
-use Rattle.chains.specs.Chain.{Ways, Stands, rests, yields, leadsTo, leads, hasRest, Chain, rest, push}
+use Rattle.position.proofs.Tallies.{not_both, either, any_some, any_true}
+use Rattle.position.proofs.Sides.{is-at, at_is}
+use Rattle.chains.specs.Chain.{Ways, Stands, rests, yields, leads_to, leads, has_rest, Chain, rest, push}
 use Rattle.chains.specs.Follows.{Taken, up_to, wrong, takes}
 
 -- a step leads from hex h to hex z
@@ -22,15 +22,15 @@ pub record Steps (next : Ways) (h z : ℕ) : Type 0 where
 
 -- hexes are next to one another exactly if some step leads from one to the other
 module _ (next : Ways) (h z : ℕ) where
-  pub leads-steps : leads next h z ≡ true → Steps next h z
+  pub leads_steps : leads next h z ≡ true → Steps next h z
   unfolding leads
-  leads-steps e =
+  leads_steps e =
       let s = any_some (λ d. is_at (next h d) z) 6 e in
       record { dir = s.at; low = s.below; way = is-at (next h s.at) z s.passes }
 
-  pub steps-leads : (d : ℕ) → d < 6 → next h d ≡ At z → leads next h z ≡ true
+  pub steps_leads : (d : ℕ) → d < 6 → next h d ≡ At z → leads next h z ≡ true
   unfolding leads
-  steps-leads d l e = any-true (λ k. is_at (next h k) z) 6 d l (at-is e)
+  steps_leads d l e = any_true (λ k. is_at (next h k) z) 6 d l (at_is e)
 
 -- some step from hex h leads to a hex that passes the test
 pub record Reaches (next : Ways) (t : ℕ → Bool) (h : ℕ) : Type 0 where
@@ -39,24 +39,24 @@ pub record Reaches (next : Ways) (t : ℕ → Bool) (h : ℕ) : Type 0 where
   pub passes : t hex ≡ true
 
 module _ (t : ℕ → Bool) where
-  leads-to : (r : Beside) → leadsTo t r ≡ true → (z : ℕ) × (r ≡ At z) × (t z ≡ true)
-  unfolding leadsTo
-  leads-to (At z) e = (z, refl, e)
-  leads-to Off e = not-both false e refl
+  leads_to_lem : (r : Beside) → leads_to t r ≡ true → (z : ℕ) × (r ≡ At z) × (t z ≡ true)
+  unfolding leads_to
+  leads_to_lem (At z) e = (z, refl, e)
+  leads_to_lem Off e = not_both false e refl
 
-  to-leads : {r : Beside} {z : ℕ} → r ≡ At z → t z ≡ true → leadsTo t r ≡ true
-  unfolding leadsTo
-  to-leads e p = rw e p
+  to_leads : {r : Beside} {z : ℕ} → r ≡ At z → t z ≡ true → leads_to t r ≡ true
+  unfolding leads_to
+  to_leads e p = rw e p
 
   module _ (next : Ways) (h : ℕ) where
-    pub some-reaches : any (λ d. leadsTo t (next h d)) 6 ≡ true → Reaches next t h
-    some-reaches e =
-        let s = any_some (λ d. leadsTo t (next h d)) 6 e in
-        let r = leads-to (next h s.at) s.passes in
+    pub some_reaches : any (λ d. leads_to t (next h d)) 6 ≡ true → Reaches next t h
+    some_reaches e =
+        let s = any_some (λ d. leads_to t (next h d)) 6 e in
+        let r = leads_to_lem (next h s.at) s.passes in
         record { hex = r.0; step = record { dir = s.at; low = s.below; way = r.1 }; passes = r.2 }
 
-    pub reaches_some : {z : ℕ} (d : ℕ) → d < 6 → next h d ≡ At z → t z ≡ true → any (λ k. leadsTo t (next h k)) 6 ≡ true
-    reaches_some d l e p = any-true (λ k. leadsTo t (next h k)) 6 d l (to-leads e p)
+    pub reaches_some : {z : ℕ} (d : ℕ) → d < 6 → next h d ≡ At z → t z ≡ true → any (λ k. leads_to t (next h k)) 6 ≡ true
+    reaches_some d l e p = any_true (λ k. leads_to t (next h k)) 6 d l (to_leads e p)
 
 -- the pushes that a chain takes, and the rest of them
 pub record Split (next : Ways) (s : Stands) (used : List ℕ) (left h : ℕ) (ps : List ℕ) (y : ℕ) (others : List ℕ) : Type 0 where
@@ -64,38 +64,38 @@ pub record Split (next : Ways) (s : Stands) (used : List ℕ) (left h : ℕ) (ps
   pub parts : ps ≡ taken ++ others
   pub chain : Chain next s used left h taken y
 
-no-taken : {A : Type 0} {t : Taken} {y : ℕ} {others : List ℕ} → t ≡ wrong → t ≡ up_to y others → A
-no-taken p q = let z : ◌≡◌ {A = ℕ} 0 1 = cc in absurd (omega arith)
+no_taken : {A : Type 0} {t : Taken} {y : ℕ} {others : List ℕ} → t ≡ wrong → t ≡ up_to y others → A
+no_taken p q = let z : ◌≡◌ {A = ℕ} 0 1 = cc in absurd (omega arith)
 
 module _ (next : Ways) (s : Stands) where
   -- a stack that has a vacant hex beside it has one, and one that has none finds none
   module _ (used : List ℕ) (h z d : ℕ) (l : d < 6) (e : next h d ≡ At z) where
-    pub has_rest : rests s used z ≡ true → hasRest next s used h ≡ true
-    unfolding hasRest
-    has_rest r = reaches_some (rests s used) next h d l e r
+    pub has_rest_lem : rests s used z ≡ true → has_rest next s used h ≡ true
+    unfolding has_rest
+    has_rest_lem r = reaches_some (rests s used) next h d l e r
 
-    pub no-rest : hasRest next s used h ≡ false → rests s used z ≡ false
-    no-rest n = either (rests s used z) (λ r. not-both (hasRest next s used h) (has_rest r) n) (λ r. r)
+    pub no_rest : has_rest next s used h ≡ false → rests s used z ≡ false
+    no_rest n = either (rests s used z) (λ r. not_both (has_rest next s used h) (has_rest_lem r) n) (λ r. r)
 
   module _ (used : List ℕ) (left h z : ℕ) (zs : List ℕ) (y : ℕ) (others : List ℕ) where
     -- one push, by the answers of its four tests
     one : ((takes next s (h ∷ used) left z zs ≡ up_to y others) → Split next s (h ∷ used) left z zs y others)
-        → (l r n i : Bool) → leads next h z ≡ l → rests s (h ∷ used) z ≡ r → hasRest next s (h ∷ used) h ≡ n → yields s (h ∷ used) z ≡ i
+        → (l r n i : Bool) → leads next h z ≡ l → rests s (h ∷ used) z ≡ r → has_rest next s (h ∷ used) h ≡ n → yields s (h ∷ used) z ≡ i
         → cond l (cond r (up_to z zs) (cond n wrong (cond i (takes next s (h ∷ used) left z zs) wrong))) wrong ≡ up_to y others
         → Split next s used (suc left) h (z ∷ zs) y others
-    one more false r n i el er en ei e = no-taken refl e
+    one more false r n i el er en ei e = no_taken refl e
     one more true true n i el er en ei e =
-        let k = leads-steps next h z el in
+        let k = leads_steps next h z el in
         let zy : z ≡ y = cc in
         record {
           taken = z ∷ [];
           parts = ap (λ (l : List ℕ). z ∷ l) (cc);
           chain = rw (← zy) (rest k.dir k.low k.way er);
         }
-    one more true false true i el er en ei e = no-taken refl e
-    one more true false false false el er en ei e = no-taken refl e
+    one more true false true i el er en ei e = no_taken refl e
+    one more true false false false el er en ei e = no_taken refl e
     one more true false false true el er en ei e =
-        let k = leads-steps next h z el in
+        let k = leads_steps next h z el in
         let m = more e in
         record {
           taken = z ∷ m.taken;
@@ -104,14 +104,14 @@ module _ (next : Ways) (s : Stands) where
         }
 
   -- what the test takes is a chain,
-  pub takes-chain : (used : List ℕ) (left h : ℕ) (ps : List ℕ) {y : ℕ} {others : List ℕ}
+  pub takes_chain : (used : List ℕ) (left h : ℕ) (ps : List ℕ) {y : ℕ} {others : List ℕ}
       → takes next s used left h ps ≡ up_to y others → Split next s used left h ps y others
   unfolding takes
-  takes-chain used left h [] e = no-taken refl e
-  takes-chain used zero h (z ∷ zs) e = no-taken refl e
-  takes-chain used (suc left) h (z ∷ zs) {y} {others} e =
-      one used left h z zs y others (takes-chain (h ∷ used) left z zs) (leads next h z) (rests s (h ∷ used) z)
-      (hasRest next s (h ∷ used) h)
+  takes_chain used left h [] e = no_taken refl e
+  takes_chain used zero h (z ∷ zs) e = no_taken refl e
+  takes_chain used (suc left) h (z ∷ zs) {y} {others} e =
+      one used left h z zs y others (takes_chain (h ∷ used) left z zs) (leads next h z) (rests s (h ∷ used) z)
+      (has_rest next s (h ∷ used) h)
       (yields s (h ∷ used) z)
       refl
       refl
@@ -120,9 +120,9 @@ module _ (next : Ways) (s : Stands) where
       e
 
   -- and every chain is taken, whatever follows it
-  pub chain-takes : {used : List ℕ} {left h y : ℕ} {zs : List ℕ} → Chain next s used left h zs y → (others : List ℕ)
+  pub chain_takes : {used : List ℕ} {left h y : ℕ} {zs : List ℕ} → Chain next s used left h zs y → (others : List ℕ)
       → takes next s used left h (zs ++ others) ≡ up_to y others
   unfolding takes
-  chain-takes (rest {used} {left} {h} {z} d l e r) others = simp (steps-leads next h z d l e, r)
-  chain-takes (push {used} {left} {h} {z} d l e n i c) others =
-      simp (steps-leads next h z d l e, no-rest (h ∷ used) h z d l e n, n, i) (chain-takes c others)
+  chain_takes (rest {used} {left} {h} {z} d l e r) others = simp (steps_leads next h z d l e, r)
+  chain_takes (push {used} {left} {h} {z} d l e n i c) others =
+      simp (steps_leads next h z d l e, no_rest (h ∷ used) h z d l e n, n, i) (chain_takes c others)

@@ -15,8 +15,8 @@ pub record Land : Type 0 where
   pub next : Ways
   pub far : ℕ → ℕ
 
-unfoldable pub landOf : Board → ℕ → Land
-landOf b start =
+unfoldable pub land_of : Board → ℕ → Land
+land_of b start =
     record { hexes = b.map.width * b.map.height; next = next b.map; far = distance_of b.map.width start }
 
 -- after i steps the group stands in hex x, having gone in direction d from hex a over an unblocked side, at distance i
@@ -52,7 +52,7 @@ pub record Bounded (g : Land) : Type 0 where
 -- route and pushes are legal for a group of force f in hex `start` that owes n hexes
 pub record LegalSeries (b : Board) (f start n : ℕ) (route pushes : List ℕ) : Type 0 where
   pub long : length route ≡ n
-  pub series : Series (landOf b start) (stand b f start) 0 start route pushes
+  pub series : Series (land_of b start) (stand b f start) 0 start route pushes
 
 -- "such a series of pushes exists"
 pub record SeriesExists (b : Board) (f start n : ℕ) : Type 0 where

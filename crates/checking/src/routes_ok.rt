@@ -1,6 +1,6 @@
 // The lines of document 01 on routes: each function answers 0 if they are kept, else where one is broken.
 ghost use Rattle.std.specs.Prelude.{◌≡◌, true, ℕ, ◌+◌, ◌*◌, ◌<◌};
-ghost use Rattle.position.specs.Layout.{routeCount, routeHexes};
+ghost use Rattle.position.specs.Layout.{route_count, route_hexes};
 ghost use Rattle.position.specs.Board.{board};
 ghost use Rattle.acceptance.specs.Accepted.{PlaceOk, LinkOk, RouteOk, RoutesOk};
 ghost use Rattle.position.specs.Laid.{Laid};
@@ -12,8 +12,8 @@ use position::{View, layout, read};
 
 // A filled number follows a filled one, over an unblocked side.
 fn link_ok(p: &[u8], v: View, r: usize, j: usize) -> usize
-    requires { Laid p.now v × (r < routeCount) × (j < routeHexes) }
-    ensures { Tells (Breaks p.now (routeHexes * r + j)) result (LinkOk (board p.now) r j) }
+    requires { Laid p.now v × (r < route_count) × (j < route_hexes) }
+    ensures { Tells (Breaks p.now (route_hexes * r + j)) result (LinkOk (board p.now) r j) }
 {
     let here = read::route(p, v, r, j);
     let after = read::route(p, v, r, j + 1);
@@ -30,8 +30,8 @@ fn link_ok(p: &[u8], v: View, r: usize, j: usize) -> usize
 }
 
 fn place_ok(p: &[u8], v: View, r: usize, j: usize) -> usize
-    requires { Laid p.now v × (r < routeCount) × (j < routeHexes) }
-    ensures { Tells (Breaks p.now (routeHexes * r + j)) result (PlaceOk (board p.now) r j) }
+    requires { Laid p.now v × (r < route_count) × (j < route_hexes) }
+    ensures { Tells (Breaks p.now (route_hexes * r + j)) result (PlaceOk (board p.now) r j) }
 {
     let link = link_ok(p, v, r, j);
     if link != 0 {
@@ -50,7 +50,7 @@ fn place_ok(p: &[u8], v: View, r: usize, j: usize) -> usize
 // Whether route `r` has no hex. Most have none, and so there is nothing to follow.
 fn bare(p: &[u8], v: View, r: usize) -> bool
     requires { Laid p.now v }
-    ensures { result ≡ true → BareTo (board p.now) r routeHexes }
+    ensures { result ≡ true → BareTo (board p.now) r route_hexes }
 {
     for j in 0..4 {
         if read::route(p, v, r, j) != layout::NOWHERE {
@@ -61,8 +61,8 @@ fn bare(p: &[u8], v: View, r: usize) -> bool
 }
 
 fn places_ok(p: &[u8], v: View, r: usize) -> usize
-    requires { Laid p.now v × (r < routeCount) }
-    ensures { Tells (Flaw p.now) result ((j : ℕ) → j < routeHexes → PlaceOk (board p.now) r j) }
+    requires { Laid p.now v × (r < route_count) }
+    ensures { Tells (Flaw p.now) result ((j : ℕ) → j < route_hexes → PlaceOk (board p.now) r j) }
 {
     if bare(p, v, r) {
         return 0;
@@ -77,7 +77,7 @@ fn places_ok(p: &[u8], v: View, r: usize) -> usize
 }
 
 fn route_ok(p: &[u8], v: View, r: usize) -> usize
-    requires { Laid p.now v × (r < routeCount) }
+    requires { Laid p.now v × (r < route_count) }
     ensures { Tells (Flaw p.now) result (RouteOk (board p.now) r) }
 {
     let place = places_ok(p, v, r);

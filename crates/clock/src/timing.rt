@@ -1,6 +1,6 @@
 // The clock of turn, force and phase: the one place that knows the order.
 ghost use Rattle.std.specs.Prelude.{◌≡◌, ◌<◌};
-ghost use Rattle.clock.specs.Clock.{nextClock, is_last, judgesSupply};
+ghost use Rattle.clock.specs.Clock.{next_clock, is_last, judges_supply};
 
 use crate::{Clock, phase};
 
@@ -10,7 +10,7 @@ impl Clock {
     // The clock moved on: phases 0, 1, 2, then the next force, and after force 3 the next turn.
     pub fn next(self) -> Clock
         requires { (self.turn < 256) × (self.force < 256) × (self.phase < 256) }
-        ensures { result ≡ nextClock self }
+        ensures { result ≡ next_clock self }
     {
         let turn = self.turn;
         let force = self.force;
@@ -51,7 +51,7 @@ impl Clock {
 
     // Whether supply is judged on entering this phase.
     pub fn judges_supply(self) -> bool
-        ensures { result ≡ judgesSupply self }
+        ensures { result ≡ judges_supply self }
     {
         let phase = self.phase;
         if phase == phase::LAND {
@@ -64,7 +64,7 @@ impl Clock {
 // The clock that is lent moves on: it is taken out, moved on by value, and put back.
 pub fn move_on(clock: &mut Clock)
     requires { (clock.old.turn < 256) × (clock.old.force < 256) × (clock.old.phase < 256) }
-    ensures { clock.new ≡ nextClock clock.old }
+    ensures { clock.new ≡ next_clock clock.old }
 {
     let next = clock.next();
     clock.turn = next.turn;

@@ -5,12 +5,12 @@ ghost use Rattle.position.specs.Change.{makes};
 ghost use Rattle.acceptance.specs.Accepted.{Accepted};
 ghost use Rattle.position.specs.Laid.{Laid, Read};
 ghost use Rattle.ruling.specs.Verdict.{Met};
-ghost use Rattle.ruling.specs.Answers.{answerAs};
+ghost use Rattle.ruling.specs.Answers.{answer_as};
 ghost use Rattle.position.specs.Kind.{home};
 ghost use Rattle.field.specs.Scene.{scene};
 ghost use Rattle.supply.specs.Traced.{Traced};
-ghost use Rattle.clock.specs.Clock.{nextClock};
-ghost use Rattle.march.specs.EndPhase.{rested, restAll, endRule};
+ghost use Rattle.clock.specs.Clock.{next_clock};
+ghost use Rattle.march.specs.EndPhase.{rested, rest_all, end_rule};
 ghost use Rattle.march.specs.Ending.{ClockOf, JudgesUnit, JudgesAll, JudgesForce, JudgesPhase, Ended};
 
 use clock::{Clock, timing};
@@ -32,7 +32,7 @@ fn clock_of(p: &[u8], v: View) -> Clock
 // The clock moved on: it is lent to the one function that does so in place.
 fn moved_on(c: Clock) -> Clock
     requires { (c.turn < 256) × (c.force < 256) × (c.phase < 256) }
-    ensures { result ≡ nextClock c }
+    ensures { result ≡ next_clock c }
 {
     let mut clock = c;
     timing::move_on(&mut clock);
@@ -50,7 +50,7 @@ fn rested(m: usize) -> usize
 // Every unit's moved and fought marks are cleared.
 fn rest_all(p: &mut [u8], v: View)
     requires { Laid p.old v }
-    ensures { p.new ≡ makes p.old (restAll (board p.old) v.count) }
+    ensures { p.new ≡ makes p.old (rest_all (board p.old) v.count) }
 {
     let count = v.count;
     for u in 0..count {
@@ -142,7 +142,7 @@ fn pass_on(p: &mut [u8], v: View, scratch: &mut [u8])
 // The end of a phase on a checked position. The scratch has exactly width x height bytes, and is handed back all 0.
 pub fn end_phase(p: &mut [u8], v: View, scratch: &mut [u8]) -> Answer
     requires { Laid p.old v × Accepted p.old }
-    ensures { Met p.old scratch.old (endRule (board p.old) (length scratch.old)) (answerAs result) p.new scratch.new }
+    ensures { Met p.old scratch.old (end_rule (board p.old) (length scratch.old)) (answer_as result) p.new scratch.new }
 {
     let hexes = v.hexes;
     if scratch.len() != hexes {

@@ -4,14 +4,14 @@ ghost use Rattle.position.specs.Tally.{any};
 ghost use Rattle.position.specs.Board.{board};
 ghost use Rattle.position.specs.Laid.{Laid};
 ghost use Rattle.routes.specs.Outlook.{OutlookOf};
-ghost use Rattle.routes.specs.Part.{isRun, partRoute};
-ghost use Rattle.routes.specs.Search.{firstRoute, found};
+ghost use Rattle.routes.specs.Part.{is_run, part_route};
+ghost use Rattle.routes.specs.Search.{first_route, found};
 ghost use Rattle.chains.specs.Follows.{none};
 ghost use Rattle.pushes.specs.Pushes.{served};
-ghost use Rattle.shoves.specs.Group.{group, groupForce};
-ghost use Rattle.retreat.specs.Retreat.{hasRoute, walksFrom};
+ghost use Rattle.shoves.specs.Group.{group, group_force};
+ghost use Rattle.retreat.specs.Retreat.{has_route, walks_from};
 ghost use Rattle.retreat.specs.declared.Fate.TheVariants.{WrongRoute, Walking};
-ghost use Rattle.retreat.specs.Fate.{fateOf, lostFate, servedFate};
+ghost use Rattle.retreat.specs.Fate.{fate_of, lost_fate, served_fate};
 
 use position::kind::Kind;
 use position::{View, read};
@@ -23,7 +23,7 @@ use shoves::group;
 // Whether unit `u` owes in hex `h` and is no supply unit.
 fn walks_from(p: &[u8], v: View, h: usize, u: usize) -> bool
     requires { Laid p.now v }
-    ensures { result ≡ walksFrom (board p.now) h u }
+    ensures { result ≡ walks_from (board p.now) h u }
 {
     if !group::owes_at(p, v, h, u) {
         return false;
@@ -34,7 +34,7 @@ fn walks_from(p: &[u8], v: View, h: usize, u: usize) -> bool
 // Whether others than supply units owe in hex `h`.
 fn any_walks(p: &[u8], v: View, h: usize) -> bool
     requires { Laid p.now v }
-    ensures { result ≡ any (walksFrom (board p.now) h) (board p.now).units.count }
+    ensures { result ≡ any (walks_from (board p.now) h) (board p.now).units.count }
 {
     let count = v.count;
     let mut u = 0;
@@ -66,7 +66,7 @@ fn leader(p: &[u8], v: View, h: usize) -> usize
 // The force that owes in hex `h`.
 fn group_force(p: &[u8], v: View, h: usize) -> usize
     requires { Laid p.now v }
-    ensures { result ≡ groupForce (board p.now) h }
+    ensures { result ≡ group_force (board p.now) h }
 {
     forces::force_of(p, v, leader(p, v, h))
 }
@@ -74,7 +74,7 @@ fn group_force(p: &[u8], v: View, h: usize) -> usize
 // What the outlook of the group in hex `h` is, if it goes `n` hexes and was sent this route.
 fn judge(p: &[u8], v: View, h: usize, n: usize, route: &[u16]) -> Outlook
     requires { Laid p.now v × (h < v.hexes) × (1 ≤ n) × (n ≤ 3) }
-    ensures { OutlookOf (board p.now) (groupForce (board p.now) h) h n route.now result }
+    ensures { OutlookOf (board p.now) (group_force (board p.now) h) h n route.now result }
 {
     outlook::judge(p, v, group_force(p, v, h), h, n, route)
 }
@@ -82,7 +82,7 @@ fn judge(p: &[u8], v: View, h: usize, n: usize, route: &[u16]) -> Outlook
 // Whether the group has no run of `n` hexes.
 fn no_run(p: &[u8], v: View, h: usize, n: usize, route: &[u16]) -> bool
     requires { Laid p.now v × (h < v.hexes) × (1 ≤ n) × (n ≤ 3) }
-    ensures { result ≡ not (found (firstRoute (board p.now) (groupForce (board p.now) h) h n)) }
+    ensures { result ≡ not (found (first_route (board p.now) (group_force (board p.now) h) h n)) }
 {
     match judge(p, v, h, n, route) {
         Outlook::Legal => false,
@@ -95,8 +95,8 @@ fn no_run(p: &[u8], v: View, h: usize, n: usize, route: &[u16]) -> bool
 // Whether the route is a part route, where no vacant route exists; `run` tells whether it is a run. A longer run is looked for only if it
 // would be shorter than the route that is owed.
 fn is_part(p: &[u8], v: View, h: usize, run: bool, route: &[u16]) -> bool
-    requires { Laid p.now v × (h < v.hexes) × ((board p.now).desk.battle.owed ≤ 3) × (hasRoute (board p.now) h ≡ false) × (run ≡ isRun (board p.now) (groupForce (board p.now) h) h route.now) }
-    ensures { result ≡ partRoute (board p.now) (groupForce (board p.now) h) h route.now }
+    requires { Laid p.now v × (h < v.hexes) × ((board p.now).desk.battle.owed ≤ 3) × (has_route (board p.now) h ≡ false) × (run ≡ is_run (board p.now) (group_force (board p.now) h) h route.now) }
+    ensures { result ≡ part_route (board p.now) (group_force (board p.now) h) h route.now }
 {
     if !run {
         return false;
@@ -120,7 +120,7 @@ fn by_route(pushes: &[u16]) -> Fate
 
 // What comes of it where it is destroyed: its part route must have been sent, and no pushes with it.
 fn by_part(part: bool, pushes: &[u16]) -> Fate
-    ensures { result ≡ lostFate part pushes.now }
+    ensures { result ≡ lost_fate part pushes.now }
 {
     if !part {
         return Fate::WrongRoute;
@@ -133,8 +133,8 @@ fn by_part(part: bool, pushes: &[u16]) -> Fate
 
 // What comes of it where no vacant route exists; `run` tells whether the route is a run.
 fn by_pushes(p: &[u8], v: View, h: usize, run: bool, route: &[u16], pushes: &[u16]) -> Fate
-    requires { Laid p.now v × (h < v.hexes) × ((board p.now).desk.battle.owed ≤ 3) × (hasRoute (board p.now) h ≡ false) × (run ≡ isRun (board p.now) (groupForce (board p.now) h) h route.now) }
-    ensures { result ≡ servedFate (lostFate (partRoute (board p.now) (groupForce (board p.now) h) h route.now) pushes.now) (served (board p.now) (groupForce (board p.now) h) h (board p.now).desk.battle.owed route.now pushes.now) }
+    requires { Laid p.now v × (h < v.hexes) × ((board p.now).desk.battle.owed ≤ 3) × (has_route (board p.now) h ≡ false) × (run ≡ is_run (board p.now) (group_force (board p.now) h) h route.now) }
+    ensures { result ≡ served_fate (lost_fate (part_route (board p.now) (group_force (board p.now) h) h route.now) pushes.now) (served (board p.now) (group_force (board p.now) h) h (board p.now).desk.battle.owed route.now pushes.now) }
 {
     match pushes::judge(
         p,
@@ -155,7 +155,7 @@ fn by_pushes(p: &[u8], v: View, h: usize, run: bool, route: &[u16], pushes: &[u1
 // Where nobody near might be pushed, pushes are not looked for: a series without one would be a vacant route.
 pub fn decide(p: &[u8], v: View, h: usize, route: &[u16], pushes: &[u16]) -> Fate
     requires { Laid p.now v × (h < v.hexes) × (1 ≤ (board p.now).desk.battle.owed) × ((board p.now).desk.battle.owed ≤ 3) }
-    ensures { result ≡ fateOf (board p.now) h route.now pushes.now }
+    ensures { result ≡ fate_of (board p.now) h route.now pushes.now }
 {
     if !any_walks(p, v, h) {
         return by_part(route.len() == 0, pushes);

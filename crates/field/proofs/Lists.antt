@@ -15,48 +15,48 @@ use Rattle.position.proofs.Tallies.{both_yes, either, neither, same_or}
 use Rattle.position.specs.Board.{Board, board}
 use Rattle.position.specs.Shape.{In}
 use Rattle.position.specs.Tally.{tally}
-use Rattle.ruling.proofs.Going.{Gone, GoneFrom, gone-end, gone-more, gone-none, gone-stop}
+use Rattle.ruling.proofs.Going.{Gone, GoneFrom, gone-end, gone-more, gone_none, gone-stop}
 use Rattle.ruling.proofs.Meets.{pass, stop}
 use Rattle.ruling.specs.Judged.{Passes, Stops}
-use Rattle.field.specs.Listed.{Charted, listLength, named, noUnit, offMap, onMapFrom, sieve}
+use Rattle.field.specs.Listed.{Charted, list_length, named, no_unit, off_map, on_map_from, sieve}
 
 module _ (units : List ℕ) where
-  pub list-short : length units < 1 → listLength units ≡ false
-  unfolding listLength
-  list-short l = simp (lt-leb 1 (length units) l)
+  pub list_short : length units < 1 → list_length units ≡ false
+  unfolding list_length
+  list_short l = simp (lt-leb 1 (length units) l)
 
-  pub list-long : 18 < length units → listLength units ≡ false
-  unfolding listLength
-  list-long l = simp (lt-leb (length units) 18 l, and-false)
+  pub list_long : 18 < length units → list_length units ≡ false
+  unfolding list_length
+  list_long l = simp (lt-leb (length units) 18 l, and-false)
 
-  pub list-fits : 1 ≤ length units → length units ≤ 18 → listLength units ≡ true
-  unfolding listLength
-  list-fits l m = simp (le-leb 1 (length units) l, le-leb (length units) 18 m)
+  pub list_fits : 1 ≤ length units → length units ≤ 18 → list_length units ≡ true
+  unfolding list_length
+  list_fits l m = simp (le-leb 1 (length units) l, le-leb (length units) 18 m)
 
-  pub list-in : not (listLength units) ≡ false → In 1 (length units) 18
-  unfolding listLength
-  list-in e =
+  pub list_in : not (list_length units) ≡ false → In 1 (length units) 18
+  unfolding list_length
+  list_in e =
       let n = length units in
       let h = both_yes (leb 1 n) (leb n 18) (not-false (leb 1 n && leb n 18) e) in
       record { low = leb-true 1 n h.0; high = leb-true n 18 h.1 }
 
 -- who is named in a list
-pub named-nil : (u : ℕ) → named [] u ≡ false
+pub named_nil : (u : ℕ) → named [] u ≡ false
 unfolding named
-named-nil u = refl
+named_nil u = refl
 
-pub named-last : (xs : List ℕ) (x u : ℕ) → named xs u ≡ false → named (xs ++ (x ∷ [])) u ≡ eqb x u
+pub named_last : (xs : List ℕ) (x u : ℕ) → named xs u ≡ false → named (xs ++ (x ∷ [])) u ≡ eqb x u
 unfolding named
-named-last [] x u e = simp or-false
-named-last (y ∷ ys) x u e =
+named_last [] x u e = simp or-false
+named_last (y ∷ ys) x u e =
     let n = neither (eqb y u) (named ys u) e in
-    simp n.0 (named-last ys x u n.1)
+    simp n.0 (named_last ys x u n.1)
 
-pub named-at : (xs : List ℕ) (j u : ℕ) → j < length xs → get_or xs j 0 ≡ u → named xs u ≡ true
+pub named_at : (xs : List ℕ) (j u : ℕ) → j < length xs → get_or xs j 0 ≡ u → named xs u ≡ true
 unfolding named
-named-at [] j u l e = absurd (omega arith)
-named-at (x ∷ xs) zero u l e = simp (eq-eqb x u e)
-named-at (x ∷ xs) (suc j) u l e = simp (named-at xs j u (omega arith) e, or-true)
+named_at [] j u l e = absurd (omega arith)
+named_at (x ∷ xs) zero u l e = simp (eq-eqb x u e)
+named_at (x ∷ xs) (suc j) u l e = simp (named_at xs j u (omega arith) e, or-true)
 
 -- an element more, and mapped
 pub take_more : (us : List ℕ) (j : ℕ) → j < length us → take (j + 1) us ≡ take j us ++ (get_or us j 0 ∷ [])
@@ -66,14 +66,14 @@ pub map_last : {A : Type 0} (f : ℕ → A) (xs : List ℕ) (x : ℕ) → map f 
 map_last f [] x = refl
 map_last f (y ∷ ys) x = ap (λ (l : List _). f y ∷ l) (map_last f ys x)
 
-pub map_at : (f : ℕ → ℕ) (xs : List ℕ) (j : ℕ) → j < length xs → get_or (map f xs) j 0 ≡ f (get_or xs j 0)
-map_at f [] j l = absurd (omega arith)
-map_at f (x ∷ xs) zero l = refl
-map_at f (x ∷ xs) (suc j) l = map_at f xs j (omega arith)
+pub map_at_lem : (f : ℕ → ℕ) (xs : List ℕ) (j : ℕ) → j < length xs → get_or (map f xs) j 0 ≡ f (get_or xs j 0)
+map_at_lem f [] j l = absurd (omega arith)
+map_at_lem f (x ∷ xs) zero l = refl
+map_at_lem f (x ∷ xs) (suc j) l = map_at_lem f xs j (omega arith)
 
-pub map-long : {A : Type 0} (f : ℕ → A) (xs : List ℕ) → length (map f xs) ≡ length xs
-map-long f [] = refl
-map-long f (x ∷ xs) = ap suc (map-long f xs)
+pub map_long : {A : Type 0} (f : ℕ → A) (xs : List ℕ) → length (map f xs) ≡ length xs
+map_long f [] = refl
+map_long f (x ∷ xs) = ap suc (map_long f xs)
 
 -- none of the first j, as f takes them, is x
 pub record Unnamed (f : ℕ → ℕ) (us : List ℕ) (j n x : ℕ) : Type 0 where
@@ -81,146 +81,146 @@ pub record Unnamed (f : ℕ → ℕ) (us : List ℕ) (j n x : ℕ) : Type 0 wher
   pub none : named (map f (take j us)) x ≡ false
 
 module _ {f : ℕ → ℕ} {us : List ℕ} {n x : ℕ} where
-  pub unnamed-none : Unnamed f us 0 n x
-  unnamed-none = record { most = omega arith; none = named-nil x }
+  pub unnamed_none : Unnamed f us 0 n x
+  unnamed_none = record { most = omega arith; none = named_nil x }
 
-  pub unnamed-more : {j : ℕ} → n ≤ length us → Unnamed f us j n x → j < n → (f (get_or us j 0) ≡ x → ⊥) → Unnamed f us (j + 1) n x
-  unnamed-more {j} m o l d =
+  pub unnamed_more : {j : ℕ} → n ≤ length us → Unnamed f us j n x → j < n → (f (get_or us j 0) ≡ x → ⊥) → Unnamed f us (j + 1) n x
+  unnamed_more {j} m o l d =
       record {
         most = omega arith;
         none =
             ap (λ (l : List ℕ). named (map f l) x) (take_more us j (omega arith))
             ∙ ap (λ (l : List ℕ). named l x) (map_last f (take j us) (get_or us j 0))
-            ∙ named-last (map f (take j us)) (f (get_or us j 0)) x o.none
+            ∙ named_last (map f (take j us)) (f (get_or us j 0)) x o.none
             ∙ ne_eqb (f (get_or us j 0)) x d;
       }
 
-  pub unnamed-all : {j : ℕ} → Unnamed f us j n x → n ≤ j → named (map f (take n us)) x ≡ false
-  unnamed-all {j} o l = let e : n ≡ j = omega (arith, o.most) in ap (λ (k : ℕ). named (map f (take k us)) x) e ∙ o.none
+  pub unnamed_all : {j : ℕ} → Unnamed f us j n x → n ≤ j → named (map f (take n us)) x ≡ false
+  unnamed_all {j} o l = let e : n ≡ j = omega (arith, o.most) in ap (λ (k : ℕ). named (map f (take k us)) x) e ∙ o.none
 
 pub unnamed-hit :
     (f : ℕ → ℕ) (us : List ℕ) (n j x : ℕ) → n ≤ length us → j < n → f (get_or us j 0) ≡ x → named (map f (take n us)) x ≡ true
 unnamed-hit f us n j x m l e =
     let k = length-take-le n us m in
-    named-at (map f (take n us)) j x (omega (arith, map-long f (take n us)))
-    (map_at f (take n us) j (omega arith) ∙ ap f (get_or-take n us j 0 l) ∙ e)
+    named_at (map f (take n us)) j x (omega (arith, map_long f (take n us)))
+    (map_at_lem f (take n us) j (omega arith) ∙ ap f (get_or-take n us j 0 l) ∙ e)
 
-pub map-self : (xs : List ℕ) → map (λ x. x) xs ≡ xs
-map-self [] = refl
-map-self (x ∷ xs) = ap (λ (l : List ℕ). x ∷ l) (map-self xs)
+pub map_self : (xs : List ℕ) → map (λ x. x) xs ≡ xs
+map_self [] = refl
+map_self (x ∷ xs) = ap (λ (l : List ℕ). x ∷ l) (map_self xs)
 
 -- a unit of the list, and a number that is none
 module _ (p : List ℕ) (b : Board) (s x k : ℕ) where
-  pub is-unit : x < b.units.count → Passes p (noUnit b s x k)
-  unfolding noUnit
-  is-unit m l v a q r g = pass (lt-leb b.units.count x m) g
+  pub is_unit : x < b.units.count → Passes p (no_unit b s x k)
+  unfolding no_unit
+  is_unit m l v a q r g = pass (lt-leb b.units.count x m) g
 
-  pub is_none : b.units.count ≤ x → Stops p (noUnit b s x k) 3 k
-  unfolding noUnit
+  pub is_none : b.units.count ≤ x → Stops p (no_unit b s x k) 3 k
+  unfolding no_unit
   is_none m l v = stop (le-leb b.units.count x m)
 
 -- refusal 3 along the list, passed up to place i
 pub record There (p units : List ℕ) (i : ℕ) : Type 0 where
-  pub gone : Gone p (noUnit (board p)) (λ s x. s) 0 units i 0
+  pub gone : Gone p (no_unit (board p)) (λ s x. s) 0 units i 0
   pub counted : (j : ℕ) → j < i → get_or units j 0 < (board p).units.count
 
 pub there-more :
     {p units : List ℕ} {i : ℕ} → There p units i → i < length units → get_or units i 0 < (board p).units.count → There p units (i + 1)
 there-more {p} {units} {i} o l t =
     record {
-      gone = gone-more o.gone l (is-unit p (board p) 0 (get_or units i 0) (i + 1) t);
+      gone = gone-more o.gone l (is_unit p (board p) 0 (get_or units i 0) (i + 1) t);
       counted = below_more (λ j. get_or units j 0 < (board p).units.count) i o.counted t;
     }
 
 -- a hex of the map, and one that is not
 module _ (p : List ℕ) (b : Board) (s x k : ℕ) where
-  pub on-map : x < b.map.hexes → Passes p (offMap b s x k)
-  unfolding offMap
-  on-map m l v a q r g = pass (lt-leb b.map.hexes x m) g
+  pub on_map_lem : x < b.map.hexes → Passes p (off_map b s x k)
+  unfolding off_map
+  on_map_lem m l v a q r g = pass (lt-leb b.map.hexes x m) g
 
-  pub off-map : b.map.hexes ≤ x → Stops p (offMap b s x k) 3 k
-  unfolding offMap
-  off-map m l v = stop (le-leb b.map.hexes x m)
+  pub off_map_lem : b.map.hexes ≤ x → Stops p (off_map b s x k) 3 k
+  unfolding off_map
+  off_map_lem m l v = stop (le-leb b.map.hexes x m)
 
 -- refusal 3 along the path, whose places are counted from k on, passed before element i
 pub record OnMap (k : ℕ) (p path : List ℕ) (i : ℕ) : Type 0 where
-  pub gone : GoneFrom k p (offMap (board p)) (λ s x. s) 0 path i 0
+  pub gone : GoneFrom k p (off_map (board p)) (λ s x. s) 0 path i 0
   pub charted : (j : ℕ) → j < i → get_or path j 0 < (board p).map.hexes
 
-pub map-none : {k : ℕ} {p path : List ℕ} → OnMap k p path 0
-map-none = record { gone = gone-none; charted = λ j l. absurd (omega arith) }
+pub map_none : {k : ℕ} {p path : List ℕ} → OnMap k p path 0
+map_none = record { gone = gone_none; charted = λ j l. absurd (omega arith) }
 
 pub map_more :
     {k : ℕ} {p path : List ℕ} {i : ℕ} → OnMap k p path i → i < length path → get_or path i 0 < (board p).map.hexes
     → OnMap k p path (i + 1)
 map_more {k} {p} {path} {i} o l t =
     record {
-      gone = gone-more o.gone l (on-map p (board p) 0 (get_or path i 0) (i + k) t);
+      gone = gone-more o.gone l (on_map_lem p (board p) 0 (get_or path i 0) (i + k) t);
       charted = below_more (λ j. get_or path j 0 < (board p).map.hexes) i o.charted t;
     }
 
 -- at a number that is no hex, and past the last
 module _ {k : ℕ} {p path : List ℕ} {i : ℕ} (o : OnMap k p path i) where
-  pub map-stop : i < length path → (board p).map.hexes ≤ get_or path i 0 → Stops p (onMapFrom (board p) path k) 3 (i + k)
-  unfolding onMapFrom
-  map-stop l t v = λ w. gone-stop o.gone l (off-map p (board p) 0 (get_or path i 0) (i + k) t) v (λ s. w)
+  pub map_stop : i < length path → (board p).map.hexes ≤ get_or path i 0 → Stops p (on_map_from (board p) path k) 3 (i + k)
+  unfolding on_map_from
+  map_stop l t v = λ w. gone-stop o.gone l (off_map_lem p (board p) 0 (get_or path i 0) (i + k) t) v (λ s. w)
 
-  pub map-end : length path ≤ i → Passes p (onMapFrom (board p) path k)
-  unfolding onMapFrom
-  map-end m l v a q r w = gone-end o.gone m l (λ s. v) a q r w
+  pub map_end : length path ≤ i → Passes p (on_map_from (board p) path k)
+  unfolding on_map_from
+  map_end m l v a q r w = gone-end o.gone m l (λ s. v) a q r w
 
 -- a list of hexes of the map passes
-map-reaches : (k : ℕ) (p path : List ℕ) → Charted (board p) path → (i : ℕ) → i ≤ length path → OnMap k p path i
-map-reaches k p path c zero l = map-none
-map-reaches k p path c (suc i) l =
-    subst (OnMap k p path) (add-one i) (map_more (map-reaches k p path c i (omega arith)) (omega arith) (c i (omega arith)))
+map_reaches : (k : ℕ) (p path : List ℕ) → Charted (board p) path → (i : ℕ) → i ≤ length path → OnMap k p path i
+map_reaches k p path c zero l = map_none
+map_reaches k p path c (suc i) l =
+    subst (OnMap k p path) (add-one i) (map_more (map_reaches k p path c i (omega arith)) (omega arith) (c i (omega arith)))
 
-pub map-all : (k : ℕ) (p path : List ℕ) → Charted (board p) path → Passes p (onMapFrom (board p) path k)
-map-all k p path c = map-end (map-reaches k p path c (length path) (omega arith)) (omega arith)
+pub map_all : (k : ℕ) (p path : List ℕ) → Charted (board p) path → Passes p (on_map_from (board p) path k)
+map_all k p path c = map_end (map_reaches k p path c (length path) (omega arith)) (omega arith)
 
 -- the numbers that pass, of one number more
 module _ (t : ℕ → Bool) where
-  pub sieve-hit : (n : ℕ) → t n ≡ true → sieve t (n + 1) ≡ sieve t n ++ (n ∷ [])
+  pub sieve_hit : (n : ℕ) → t n ≡ true → sieve t (n + 1) ≡ sieve t n ++ (n ∷ [])
   unfolding sieve
-  sieve-hit n e = rw (add-one n) (simp e)
+  sieve_hit n e = rw (add-one n) (simp e)
 
-  pub sieve-miss : (n : ℕ) → t n ≡ false → sieve t (n + 1) ≡ sieve t n
+  pub sieve_miss : (n : ℕ) → t n ≡ false → sieve t (n + 1) ≡ sieve t n
   unfolding sieve
-  sieve-miss n e = rw (add-one n) (simp (e, append-nil))
+  sieve_miss n e = rw (add-one n) (simp (e, append-nil))
 
   -- they are as many as the tally counts
-  pub sieve-long : (n : ℕ) → length (sieve t n) ≡ tally t n
+  pub sieve_long : (n : ℕ) → length (sieve t n) ≡ tally t n
   unfolding sieve tally
-  sieve-long zero = refl
-  sieve-long (suc n) =
+  sieve_long zero = refl
+  sieve_long (suc n) =
       either (t n)
-      (λ e. simp (e, length-append) (omega (arith, sieve-long n)))
-      (λ e. simp (e, append-nil) (sieve-long n))
+      (λ e. simp (e, length-append) (omega (arith, sieve_long n)))
+      (λ e. simp (e, append-nil) (sieve_long n))
 
-  pub sieve-grows : (k n : ℕ) → k ≤ n → length (sieve t k) ≤ length (sieve t n)
+  pub sieve_grows : (k n : ℕ) → k ≤ n → length (sieve t k) ≤ length (sieve t n)
   unfolding sieve
-  sieve-grows k zero l = let e : k ≡ 0 = omega arith in rw e (omega arith)
-  sieve-grows k (suc n) l =
+  sieve_grows k zero l = let e : k ≡ 0 = omega arith in rw e (omega arith)
+  sieve_grows k (suc n) l =
       same_or k (suc n)
       (λ e. rw e (omega arith))
-      (λ d. omega (arith, sieve-grows k n (omega arith), length-append (sieve t n) (cond (t n) (n ∷ []) [])))
+      (λ d. omega (arith, sieve_grows k n (omega arith), length-append (sieve t n) (cond (t n) (n ∷ []) [])))
 
 -- tests that agree let the same numbers pass
-pub sieve-same : (t s : ℕ → Bool) (n : ℕ) → ((k : ℕ) → k < n → t k ≡ s k) → sieve t n ≡ sieve s n
+pub sieve_same : (t s : ℕ → Bool) (n : ℕ) → ((k : ℕ) → k < n → t k ≡ s k) → sieve t n ≡ sieve s n
 unfolding sieve
-sieve-same t s zero f = refl
-sieve-same t s (suc n) f =
-    ap₂ (λ (xs : List ℕ) (b : Bool). xs ++ cond b (n ∷ []) []) (sieve-same t s n (λ k l. f k (omega arith))) (f n (omega arith))
+sieve_same t s zero f = refl
+sieve_same t s (suc n) f =
+    ap₂ (λ (xs : List ℕ) (b : Bool). xs ++ cond b (n ∷ []) []) (sieve_same t s n (λ k l. f k (omega arith))) (f n (omega arith))
 
 -- the numbers that pass are below the limit, and pass
 pub record Passing (t : ℕ → Bool) (n x : ℕ) : Type 0 where
   pub below : x < n
   pub passes : t x ≡ true
 
-pub sieve-at : (t : ℕ → Bool) (n i : ℕ) → i < length (sieve t n) → Passing t n (get_or (sieve t n) i 0)
+pub sieve_at : (t : ℕ → Bool) (n i : ℕ) → i < length (sieve t n) → Passing t n (get_or (sieve t n) i 0)
 unfolding sieve
-sieve-at t zero i l = absurd (omega arith)
-sieve-at t (suc n) i l =
+sieve_at t zero i l = absurd (omega arith)
+sieve_at t (suc n) i l =
     either (t n)
     (λ e.
     let xs = sieve t n in
@@ -230,9 +230,9 @@ sieve-at t (suc n) i l =
     (same_or i (length xs)
     (λ d. rw (d, get_or-append_seam xs n [] 0) (record { below = omega arith; passes = e }))
     (λ d.
-    let o = sieve-at t n i (omega arith) in
+    let o = sieve_at t n i (omega arith) in
     rw (get_or-append xs (n ∷ []) 0 i (omega arith)) (record { below = omega (arith, o.below); passes = o.passes }))))
     (λ e.
     let z : sieve t n ++ cond (t n) (n ∷ []) [] ≡ sieve t n = simp (e, append-nil) in
-    let o = sieve-at t n i (omega (arith, ap length z)) in
+    let o = sieve_at t n i (omega (arith, ap length z)) in
     rw z (record { below = omega (arith, o.below); passes = o.passes }))

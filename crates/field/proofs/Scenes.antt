@@ -5,7 +5,7 @@ use mathlib.Core.Path.{◌≡◌, refl}
 use Rattle.position.specs.Board.{Board, enemy, neutral}
 use Rattle.position.specs.Change.{Change}
 use Rattle.position.specs.Change.Change.{marked, assigned, timed, staged, routed, unrouted}
-use Rattle.position.specs.Effect.{change, turnedUp}
+use Rattle.position.specs.Effect.{change, turned_up}
 use Rattle.field.specs.Scene.{scene}
 
 -- the changes that move no unit
@@ -17,16 +17,16 @@ pub data Still : Change → Type 0 where
   route : {r w x y z : ℕ} → Still (routed r w x y z)
   routes : Still unrouted
 
-pub scene-marks : (b : Board) {x : Change} → Still x → scene (change b x) ≡ scene b
+pub scene_marks : (b : Board) {x : Change} → Still x → scene (change b x) ≡ scene b
 unfolding change enemy neutral
-scene-marks b marks = refl
-scene-marks b role = refl
-scene-marks b clock = refl
-scene-marks b stage = refl
-scene-marks b route = refl
-scene-marks b routes = refl
+scene_marks b marks = refl
+scene_marks b role = refl
+scene_marks b clock = refl
+scene_marks b stage = refl
+scene_marks b route = refl
+scene_marks b routes = refl
 
 -- nor does it matter who is turned over
-pub scene-turned-up : (b : Board) (u x : ℕ) → scene (turnedUp b u x) ≡ scene b
-unfolding turnedUp enemy neutral
-scene-turned-up b u x = refl
+pub scene_turned_up : (b : Board) (u x : ℕ) → scene (turned_up b u x) ≡ scene b
+unfolding turned_up enemy neutral
+scene_turned_up b u x = refl

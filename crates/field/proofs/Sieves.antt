@@ -11,35 +11,35 @@ use Rattle.position.proofs.Tallies.{either}
 use Rattle.ruling.specs.Judged.{Passes}
 use Rattle.ruling.specs.Verdict.{along}
 use Rattle.ruling.proofs.Meets.{pass}
-use Rattle.field.specs.Listed.{allThere, named, noUnit, sieve}
-use Rattle.field.proofs.Named.{Once, named-each, named_here, named_more, once_last, sieve-each}
+use Rattle.field.specs.Listed.{all_there, named, no_unit, sieve}
+use Rattle.field.proofs.Named.{Once, named_each, named_here, named_more, once_last, sieve_each}
 
 module _ (t : ℕ → Bool) where
   -- who is named passes
-  pub sieve-passes : (n w : ℕ) → named (sieve t n) w ≡ true → (w < n) × (t w ≡ true)
-  sieve-passes n w e = named-each (λ w. (w < n) × (t w ≡ true)) (sieve t n) (sieve-each t n) w e
+  pub sieve_passes : (n w : ℕ) → named (sieve t n) w ≡ true → (w < n) × (t w ≡ true)
+  sieve_passes n w e = named_each (λ w. (w < n) × (t w ≡ true)) (sieve t n) (sieve_each t n) w e
 
-  pub sieve-once : (n : ℕ) → Once (sieve t n)
+  pub sieve_once : (n : ℕ) → Once (sieve t n)
   unfolding sieve
-  sieve-once zero = tt
-  sieve-once (suc n) =
+  sieve_once zero = tt
+  sieve_once (suc n) =
       either (t n)
       (λ e.
       simp e
-      (once_last (sieve t n) n (sieve-once n)
-      (either (named (sieve t n) n) (λ f. absurd (omega (arith, (sieve-passes n n f).0))) (λ f. f))))
-      (λ e. simp (e, append-nil) (sieve-once n))
+      (once_last (sieve t n) n (sieve_once n)
+      (either (named (sieve t n) n) (λ f. absurd (omega (arith, (sieve_passes n n f).0))) (λ f. f))))
+      (λ e. simp (e, append-nil) (sieve_once n))
 
 module _ (p : List ℕ) (b : Board) where
   there-from :
       (xs : List ℕ) (k : ℕ) → ((w : ℕ) → named xs w ≡ true → w < b.units.count)
-      → Passes p (λ v. along (noUnit b) (λ s x. s) 0 xs k (λ s. v))
-  unfolding along noUnit
+      → Passes p (λ v. along (no_unit b) (λ s x. s) 0 xs k (λ s. v))
+  unfolding along no_unit
   there-from [] k f l v a q m g = g
   there-from (x ∷ xs) k f l v a q m g =
       pass (lt-leb b.units.count x (f x (named_here x xs x refl)))
       (there-from xs (k + 1) (λ w e. f w (named_more x xs w e)) l v a q m g)
 
-  pub there-passes : (xs : List ℕ) → ((w : ℕ) → named xs w ≡ true → w < b.units.count) → Passes p (allThere b xs)
-  unfolding allThere
-  there-passes xs f = there-from xs 1 f
+  pub there_passes : (xs : List ℕ) → ((w : ℕ) → named xs w ≡ true → w < b.units.count) → Passes p (all_there b xs)
+  unfolding all_there
+  there_passes xs f = there-from xs 1 f

@@ -27,5 +27,5 @@ scene b =
     }
 
 -- the force of unit u
-unfoldable pub forceIn : Scene → ℕ → ℕ
-forceIn s u = force (s.nationality u)
+unfoldable pub force_in : Scene → ℕ → ℕ
+force_in s u = force (s.nationality u)

@@ -10,4 +10,4 @@ half n = (n + 1) / 2
 -- what n comes to for unit u: "Allowance is halved, fractions up, without the supplied mark.", "Each strength out of supply at that
 -- instant is halved, fractions up, unit by unit."
 unfoldable pub working : Board → ℕ → Bool → ℕ → ℕ
-working b u inSupply n = cond inSupply n (half n)
+working b u in_supply n = cond in_supply n (half n)

@@ -5,79 +5,79 @@ use Rattle.grid.specs.declared.Beside.{Beside}
 use Rattle.grid.specs.declared.Beside.TheVariants.{At, Off}
 use Rattle.position.specs.Layout.{forces}
 use Rattle.position.specs.Tally.{any}
-use Rattle.position.specs.Kind.{castsZone, supplyKind}
+use Rattle.position.specs.Kind.{casts_zone, supply_kind}
 use Rattle.position.specs.Ground.{beside, side}
 use Rattle.position.specs.declared.Relation.{Relation}
 use Rattle.position.specs.declared.Relation.TheVariants.{Enemy, Neutral}
-use Rattle.field.specs.Scene.{Scene, forceIn}
+use Rattle.field.specs.Scene.{Scene, force_in}
 
 -- unit u stands on hex h
-unfoldable pub standsOn : Scene → ℕ → ℕ → Bool
-standsOn s h u = eqb (s.hex u) h
+unfoldable pub stands_on : Scene → ℕ → ℕ → Bool
+stands_on s h u = eqb (s.hex u) h
 
 -- no unit at all stands on hex h
 unfoldable pub vacant : Scene → ℕ → Bool
-vacant s h = not (any (standsOn s h) s.count)
+vacant s h = not (any (stands_on s h) s.count)
 
 -- unit u is of force f, and stands on hex h
-unfoldable pub ownOn : Scene → ℕ → ℕ → ℕ → Bool
-ownOn s f h u = standsOn s h u && eqb (forceIn s u) f
+unfoldable pub own_on : Scene → ℕ → ℕ → ℕ → Bool
+own_on s f h u = stands_on s h u && eqb (force_in s u) f
 
 -- hex h holds a unit of force f, of any type
 unfoldable pub holds : Scene → ℕ → ℕ → Bool
-holds s f h = any (ownOn s f h) s.count
+holds s f h = any (own_on s f h) s.count
 
 -- unit u is a supply unit of force f, and stands on hex h
-unfoldable pub supplyUnitOn : Scene → ℕ → ℕ → ℕ → Bool
-supplyUnitOn s f h u = ownOn s f h u && eqb (s.kind u) supplyKind
+unfoldable pub supply_unit_on : Scene → ℕ → ℕ → ℕ → Bool
+supply_unit_on s f h u = own_on s f h u && eqb (s.kind u) supply_kind
 
 -- unit u is Enemy to force f, and stands on hex h
-unfoldable pub enemyOn : Scene → ℕ → ℕ → ℕ → Bool
-enemyOn s f h u = standsOn s h u && s.enemy f (forceIn s u)
+unfoldable pub enemy_on : Scene → ℕ → ℕ → ℕ → Bool
+enemy_on s f h u = stands_on s h u && s.enemy f (force_in s u)
 
 -- hex h holds an Enemy of force f
-unfoldable pub holdsEnemy : Scene → ℕ → ℕ → Bool
-holdsEnemy s f h = any (enemyOn s f h) s.count
+unfoldable pub holds_enemy : Scene → ℕ → ℕ → Bool
+holds_enemy s f h = any (enemy_on s f h) s.count
 
 -- the same for a neutral force
-unfoldable pub neutralOn : Scene → ℕ → ℕ → ℕ → Bool
-neutralOn s f h u = standsOn s h u && s.neutral f (forceIn s u)
+unfoldable pub neutral_on : Scene → ℕ → ℕ → ℕ → Bool
+neutral_on s f h u = stands_on s h u && s.neutral f (force_in s u)
 
-unfoldable pub holdsNeutral : Scene → ℕ → ℕ → Bool
-holdsNeutral s f h = any (neutralOn s f h) s.count
+unfoldable pub holds_neutral : Scene → ℕ → ℕ → Bool
+holds_neutral s f h = any (neutral_on s f h) s.count
 
 -- and for either of the two
-abbrev pub relatedOn : Scene → Relation → ℕ → ℕ → ℕ → Bool
-relatedOn s Enemy = enemyOn s
-relatedOn s Neutral = neutralOn s
+abbrev pub related_on : Scene → Relation → ℕ → ℕ → ℕ → Bool
+related_on s Enemy = enemy_on s
+related_on s Neutral = neutral_on s
 
-abbrev pub holdsRelated : Scene → Relation → ℕ → ℕ → Bool
-holdsRelated s Enemy = holdsEnemy s
-holdsRelated s Neutral = holdsNeutral s
+abbrev pub holds_related : Scene → Relation → ℕ → ℕ → Bool
+holds_related s Enemy = holds_enemy s
+holds_related s Neutral = holds_neutral s
 
 -- unit u is of force f, casts a zone, and stands on hex h
-unfoldable pub casterOn : Scene → ℕ → ℕ → ℕ → Bool
-casterOn s f h u = ownOn s f h u && castsZone (s.kind u)
+unfoldable pub caster_on : Scene → ℕ → ℕ → ℕ → Bool
+caster_on s f h u = own_on s f h u && casts_zone (s.kind u)
 
-unfoldable pub holdsCaster : Scene → ℕ → ℕ → Bool
-holdsCaster s f h = any (casterOn s f h) s.count
+unfoldable pub holds_caster : Scene → ℕ → ℕ → Bool
+holds_caster s f h = any (caster_on s f h) s.count
 
-unfoldable pub casterAt : Scene → ℕ → Beside → Bool
-casterAt s f (At n) = holdsCaster s f n
-casterAt s f Off = false
+unfoldable pub caster_at : Scene → ℕ → Beside → Bool
+caster_at s f (At n) = holds_caster s f n
+caster_at s f Off = false
 
 -- "but not across blocked or major river sides": a plain side or a river lets a zone through
-unfoldable pub castsOver : Scene → ℕ → ℕ → ℕ → Bool
-castsOver s f h d = ltb (side s.map h d) 2 && casterAt s f (beside s.map h d)
+unfoldable pub casts_over : Scene → ℕ → ℕ → ℕ → Bool
+casts_over s f h d = ltb (side s.map h d) 2 && caster_at s f (beside s.map h d)
 
 -- "A zone covers the adjacent hexes, but not .. nor into all-sea (11.16)": force f casts a zone over hex h
 unfoldable pub casts : Scene → ℕ → ℕ → Bool
-casts s f h = not (eqb (s.map.surface h) 2) && any (castsOver s f h) 6
+casts s f h = not (eqb (s.map.surface h) 2) && any (casts_over s f h) 6
 
 -- force g is Enemy to force f, and casts a zone over hex h
-unfoldable pub enemyCasts : Scene → ℕ → ℕ → ℕ → Bool
-enemyCasts s f h g = s.enemy f g && casts s g h
+unfoldable pub enemy_casts : Scene → ℕ → ℕ → ℕ → Bool
+enemy_casts s f h g = s.enemy f g && casts s g h
 
 -- hex h lies in an Enemy zone of force f
-unfoldable pub enemyZone : Scene → ℕ → ℕ → Bool
-enemyZone s f h = any (enemyCasts s f h) forces
+unfoldable pub enemy_zone : Scene → ℕ → ℕ → Bool
+enemy_zone s f h = any (enemy_casts s f h) forces

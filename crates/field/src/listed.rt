@@ -3,7 +3,7 @@ ghost use Rattle.std.specs.Prelude.{◌≡◌, ◌<◌, ◌≤◌, length, take}
 ghost use Rattle.position.specs.Board.{board};
 ghost use Rattle.position.specs.Laid.{Laid};
 ghost use Rattle.ruling.specs.Judged.{TestedOf};
-ghost use Rattle.field.specs.Listed.{allThere, Counted, onMapAll, onMapFrom, Charted, named};
+ghost use Rattle.field.specs.Listed.{all_there, Counted, on_map_all, on_map_from, Charted, named};
 
 use position::View;
 use ruling::Tested;
@@ -11,7 +11,7 @@ use ruling::Tested;
 // Refusal 3 along the list: every number is a unit's.
 pub fn all_there(p: &[u8], v: View, units: &[u16]) -> Tested
     requires { Laid p.now v × (length units.now ≤ 18) }
-    ensures { TestedOf p.now (allThere (board p.now) units.now) (Counted (board p.now) units.now) result }
+    ensures { TestedOf p.now (all_there (board p.now) units.now) (Counted (board p.now) units.now) result }
 {
     let count = v.count;
     for i in 0..units.len() {
@@ -25,7 +25,7 @@ pub fn all_there(p: &[u8], v: View, units: &[u16]) -> Tested
 // Refusal 3 along a list of hexes whose places are counted from `k` on: every number is a hex of the map.
 pub fn on_map_from(p: &[u8], v: View, path: &[u16], k: usize) -> Tested
     requires { Laid p.now v × (length path.now < 31) × (k < 65536) }
-    ensures { TestedOf p.now (onMapFrom (board p.now) path.now k) (Charted (board p.now) path.now) result }
+    ensures { TestedOf p.now (on_map_from (board p.now) path.now k) (Charted (board p.now) path.now) result }
 {
     let hexes = v.hexes;
     for i in 0..path.len() {
@@ -39,7 +39,7 @@ pub fn on_map_from(p: &[u8], v: View, path: &[u16], k: usize) -> Tested
 // The same for a path, whose first place is 1.
 pub fn on_map_all(p: &[u8], v: View, path: &[u16]) -> Tested
     requires { Laid p.now v × (length path.now < 31) }
-    ensures { TestedOf p.now (onMapAll (board p.now) path.now) (Charted (board p.now) path.now) result }
+    ensures { TestedOf p.now (on_map_all (board p.now) path.now) (Charted (board p.now) path.now) result }
 {
     on_map_from(p, v, path, 1)
 }

@@ -3,7 +3,7 @@ ghost use Rattle.std.specs.Prelude.{◌≡◌, ◌<◌};
 ghost use Rattle.position.specs.Board.{board};
 ghost use Rattle.position.specs.Laid.{Laid, Read};
 ghost use Rattle.field.specs.Working.{working};
-ghost use Rattle.field.specs.Phasing.{notPhasing};
+ghost use Rattle.field.specs.Phasing.{not_phasing};
 
 use position::{View, layout, read};
 
@@ -21,7 +21,7 @@ pub fn working(p: &[u8], v: View, u: usize, in_supply: bool, n: usize) -> usize
 // Whether unit `u` is destroyed or not of the phasing force.
 pub fn not_phasing(p: &[u8], v: View, u: usize) -> bool
     requires { Laid p.now v }
-    ensures { result ≡ notPhasing (board p.now) u }
+    ensures { result ≡ not_phasing (board p.now) u }
 {
     if read::hex(p, v, u) == layout::NOWHERE {
         return true;

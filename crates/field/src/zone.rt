@@ -3,14 +3,14 @@ ghost use Rattle.std.specs.Prelude.{◌≡◌};
 ghost use Rattle.position.specs.Board.{board};
 ghost use Rattle.position.specs.Laid.{Laid};
 ghost use Rattle.field.specs.Scene.{scene};
-ghost use Rattle.field.specs.Zone.{holdsEnemy, holdsNeutral, relatedOn, holdsRelated};
+ghost use Rattle.field.specs.Zone.{holds_enemy, holds_neutral, related_on, holds_related};
 
 use position::{Relation, View, read};
 
 // Whether unit `u` is in relation `w` to force `f` and stands on hex `h`.
 fn related_on(p: &[u8], v: View, w: Relation, f: usize, h: usize, u: usize) -> bool
     requires { Laid p.now v }
-    ensures { result ≡ relatedOn (scene (board p.now)) w f h u }
+    ensures { result ≡ related_on (scene (board p.now)) w f h u }
 {
     if read::hex(p, v, u) == h {
         return forces::related(p, v, w, f, forces::force_of(p, v, u));
@@ -21,7 +21,7 @@ fn related_on(p: &[u8], v: View, w: Relation, f: usize, h: usize, u: usize) -> b
 // Whether hex `h` holds such a unit.
 fn holds_related(p: &[u8], v: View, w: Relation, f: usize, h: usize) -> bool
     requires { Laid p.now v }
-    ensures { result ≡ holdsRelated (scene (board p.now)) w f h }
+    ensures { result ≡ holds_related (scene (board p.now)) w f h }
 {
     let count = v.count;
     let mut u = 0;
@@ -37,7 +37,7 @@ fn holds_related(p: &[u8], v: View, w: Relation, f: usize, h: usize) -> bool
 // Whether hex `h` holds an Enemy of force `f`.
 pub fn holds_enemy(p: &[u8], v: View, f: usize, h: usize) -> bool
     requires { Laid p.now v }
-    ensures { result ≡ holdsEnemy (scene (board p.now)) f h }
+    ensures { result ≡ holds_enemy (scene (board p.now)) f h }
 {
     holds_related(p, v, Relation::Enemy, f, h)
 }
@@ -45,7 +45,7 @@ pub fn holds_enemy(p: &[u8], v: View, f: usize, h: usize) -> bool
 // Whether it holds a force that is neutral to force `f`. None is where the desk names no players, and nobody has to be looked at.
 pub fn holds_neutral(p: &[u8], v: View, f: usize, h: usize) -> bool
     requires { Laid p.now v }
-    ensures { result ≡ holdsNeutral (scene (board p.now)) f h }
+    ensures { result ≡ holds_neutral (scene (board p.now)) f h }
 {
     if v.players == 0 {
         return false;

@@ -2,9 +2,9 @@
 ghost use Rattle.std.specs.Prelude.{◌≡◌, ◌<◌, ◌≤◌, length};
 ghost use Rattle.survey.specs.Region.{RegionOk, place_in};
 ghost use Rattle.chains.specs.Chain.{leads};
-ghost use Rattle.plot.specs.Plot.{nextIn};
-ghost use Rattle.plot.specs.Trail.{trailOf, TrailOk};
-ghost use Rattle.plot.specs.Follow.{followsIn, TookIn, PushedOut, Stepped};
+ghost use Rattle.plot.specs.Plot.{next_in};
+ghost use Rattle.plot.specs.Trail.{trail_of, TrailOk};
+ghost use Rattle.plot.specs.Follow.{follows_in, TookIn, PushedOut, Stepped};
 
 use chains::Stand;
 use grid::Beside;
@@ -15,7 +15,7 @@ use survey::region::Region;
 // Whether place `z` is next to place `h`.
 fn leads(plot: &[u8; 182], h: usize, z: usize) -> bool
     requires { (length plot.now ≡ 182) × (h < 182) }
-    ensures { result ≡ leads (nextIn plot.now) h z }
+    ensures { result ≡ leads (next_in plot.now) h z }
 {
     for d in 0..6 {
         let Beside::At(x) = plot::next_in(plot, h, d) else {
@@ -42,7 +42,7 @@ fn take(
     k: usize,
 ) -> Took
     requires { (length plot.now ≡ 182) × RegionOk at × TrailOk t left × (1 ≤ left) × (h < 182) × (k ≤ length pushes.now) }
-    ensures { TookIn (place_in w height at) plot.now (trailOf t) left h k pushes.now result }
+    ensures { TookIn (place_in w height at) plot.now (trail_of t) left h k pushes.now result }
 {
     if pushes.len() <= k {
         return Took::Wrong;
@@ -133,7 +133,7 @@ pub fn follows(
     pushes: &[u16],
 ) -> bool
     requires { (length plot.old ≡ 182) × RegionOk at × (home < 182) }
-    ensures { result ≡ followsIn (place_in w height at) home plot.old 0 home route.now 0 pushes.now }
+    ensures { result ≡ follows_in (place_in w height at) home plot.old 0 home route.now 0 pushes.now }
 {
     let mut a = home;
     let mut k = 0;

@@ -1,7 +1,7 @@
 // Who belongs to whom.
 ghost use Rattle.std.specs.Prelude.{◌≡◌};
 ghost use Rattle.position.specs.Layout.{player};
-ghost use Rattle.position.specs.Board.{board, forceOf, enemy, neutral, relates};
+ghost use Rattle.position.specs.Board.{board, force_of, enemy, neutral, relates};
 ghost use Rattle.position.specs.Laid.{Laid};
 
 use position::{Relation, View, kind, layout, read};
@@ -20,7 +20,7 @@ pub fn player(p: &[u8], v: View, f: usize) -> usize
 // The force of unit `u`.
 pub fn force_of(p: &[u8], v: View, u: usize) -> usize
     requires { Laid p.now v }
-    ensures { result ≡ forceOf (board p.now) u }
+    ensures { result ≡ force_of (board p.now) u }
 {
     kind::force(read::nationality(p, v, u))
 }

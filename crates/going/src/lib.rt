@@ -1,13 +1,13 @@
 // How a group leaves its hex: the route is written, each unit goes or is destroyed, and the stage passes on.
 ghost use Rattle.std.specs.Prelude.{◌≡◌, cond, [], ◌∷◌, map, ◌<◌, ◌≤◌, get_or};
 ghost use Rattle.position.specs.Board.{board, nowhere};
-ghost use Rattle.position.specs.Crowd.{owesAt};
+ghost use Rattle.position.specs.Crowd.{owes_at};
 ghost use Rattle.position.specs.Change.{make, makes};
 ghost use Rattle.position.specs.Change.Change.{destroyed};
 ghost use Rattle.position.specs.Laid.{Laid, Read};
-ghost use Rattle.aftermath.specs.Stage.{thenOn};
+ghost use Rattle.aftermath.specs.Stage.{then_on};
 ghost use Rattle.shoves.specs.Group.{group};
-ghost use Rattle.retreat.specs.Retreat.{leaves, goesOff, end_of, note_of, retreatChanges, pushChanges, doomChanges};
+ghost use Rattle.retreat.specs.Retreat.{leaves, goes_off, end_of, note_of, retreat_changes, push_changes, doom_changes};
 
 use position::kind::Kind;
 use position::{View, layout, read, role};
@@ -39,7 +39,7 @@ fn leave(p: &mut [u8], v: View, end: usize, u: usize)
 // Unit `u` leaves if it owes in hex `h`.
 fn leave_one(p: &mut [u8], v: View, h: usize, end: usize, u: usize)
     requires { Laid p.old v }
-    ensures { p.new ≡ makes p.old (cond (owesAt (board p.old) h u) (leaves (board p.old) end u) []) }
+    ensures { p.new ≡ makes p.old (cond (owes_at (board p.old) h u) (leaves (board p.old) end u) []) }
 {
     if !group::owes_at(p, v, h, u) {
         return;
@@ -50,7 +50,7 @@ fn leave_one(p: &mut [u8], v: View, h: usize, end: usize, u: usize)
 // Every unit that owes in hex `h` leaves.
 fn leave_all(p: &mut [u8], v: View, h: usize, end: usize)
     requires { Laid p.old v }
-    ensures { p.new ≡ makes p.old (goesOff (board p.old) end (group (board p.old) h)) }
+    ensures { p.new ≡ makes p.old (goes_off (board p.old) end (group (board p.old) h)) }
 {
     let count = v.count;
     for u in 0..count {
@@ -61,7 +61,7 @@ fn leave_all(p: &mut [u8], v: View, h: usize, end: usize)
 // Unit `u` is destroyed if it owes in hex `h`.
 fn fall_one(p: &mut [u8], v: View, h: usize, u: usize)
     requires { Laid p.old v }
-    ensures { p.new ≡ makes p.old (cond (owesAt (board p.old) h u) (destroyed u ∷ []) []) }
+    ensures { p.new ≡ makes p.old (cond (owes_at (board p.old) h u) (destroyed u ∷ []) []) }
 {
     if !group::owes_at(p, v, h, u) {
         return;
@@ -108,7 +108,7 @@ fn end_of(p: &[u8], v: View, route: &[u16]) -> usize
 // The group in hex `h` goes off along the vacant route; the answer is where it ends.
 pub fn go_off(p: &mut [u8], v: View, h: usize, route: &[u16]) -> usize
     requires { Laid p.old v × (h < 65536) × (1 ≤ (board p.old).desk.battle.owed) }
-    ensures { (result ≡ end_of (board p.old) route.now) × (p.new ≡ makes p.old (thenOn (board p.old) (retreatChanges (board p.old) h route.now))) }
+    ensures { (result ≡ end_of (board p.old) route.now) × (p.new ≡ makes p.old (then_on (board p.old) (retreat_changes (board p.old) h route.now))) }
 {
     let end = end_of(p, v, route);
     note(p, v, h, route);
@@ -120,7 +120,7 @@ pub fn go_off(p: &mut [u8], v: View, h: usize, route: &[u16]) -> usize
 // The group in hex `h` goes off along the route and pushes friends out of it; the answer is where it ends.
 pub fn push_off(p: &mut [u8], v: View, h: usize, route: &[u16], pushes: &[u16]) -> usize
     requires { Laid p.old v × (h < 65536) × (1 ≤ (board p.old).desk.battle.owed) }
-    ensures { (result ≡ end_of (board p.old) route.now) × (p.new ≡ makes p.old (thenOn (board p.old) (pushChanges (board p.old) h route.now pushes.now))) }
+    ensures { (result ≡ end_of (board p.old) route.now) × (p.new ≡ makes p.old (then_on (board p.old) (push_changes (board p.old) h route.now pushes.now))) }
 {
     let end = end_of(p, v, route);
     note(p, v, h, route);
@@ -132,7 +132,7 @@ pub fn push_off(p: &mut [u8], v: View, h: usize, route: &[u16], pushes: &[u16]) 
 // The group in hex `h` is destroyed at the end of its part route.
 pub fn fall(p: &mut [u8], v: View, h: usize, route: &[u16])
     requires { Laid p.old v × (h < 65536) }
-    ensures { p.new ≡ makes p.old (thenOn (board p.old) (doomChanges (board p.old) h route.now)) }
+    ensures { p.new ≡ makes p.old (then_on (board p.old) (doom_changes (board p.old) h route.now)) }
 {
     note(p, v, h, route);
     fall_all(p, v, h);

@@ -23,8 +23,8 @@ pub number : (w a : ℕ) → a / w * w + a % w ≡ a
 number w a = div-add-mod' a w
 
 -- the column and the row of the number that row r and column c make
-pub column-of : {w c : ℕ} (r : ℕ) → c < w → (r * w + c) % w ≡ c
-column-of {w} {c} r p = mul-add-mod_self_right r w c ∙ mod-eq_of_lt p
+pub column_of_lem : {w c : ℕ} (r : ℕ) → c < w → (r * w + c) % w ≡ c
+column_of_lem {w} {c} r p = mul-add-mod_self_right r w c ∙ mod-eq_of_lt p
 
 pub row_of : {w c : ℕ} (r : ℕ) → c < w → (r * w + c) / w ≡ r
 row_of {w} {c} r p = mul-add-div_right {m = w} (omega arith) r c ∙ ap (λ (n : ℕ). r + n) (div-eq_of_lt p) ∙ add-zero r

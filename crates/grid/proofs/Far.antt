@@ -22,9 +22,9 @@ pub far_within : (x y x' y' : ℕ) → Within x y x' y' (far x y x' y')
 unfolding far
 far_within x y x' y' = omega arith
 
-pub within-far : (x y x' y' n : ℕ) → Within x y x' y' n → far x y x' y' ≤ n
+pub within_far : (x y x' y' n : ℕ) → Within x y x' y' n → far x y x' y' ≤ n
 unfolding far
-within-far x y x' y' n p = omega arith
+within_far x y x' y' n p = omega arith
 
 -- a step away is at most one step more
 moved : {d u v a b a1 b1 x y n : ℕ} → Way d u v → a1 + 1 ≡ a + u → b1 + 2 ≡ b + v → Within a1 b1 x y n → Within a b x y (suc n)
@@ -38,27 +38,27 @@ pub no_gap : (c r x y : ℕ) → far c (depth c r) x (depth x y) ≡ 0 → (c �
 no_gap c r x y e = let p = far_within c (depth c r) x (depth x y) in omega arith
 
 pub none : (x y : ℕ) → far x y x y ≡ 0
-none x y = omega (arith, within-far x y x y 0 (omega arith))
+none x y = omega (arith, within_far x y x y 0 (omega arith))
 
 -- the six steps towards a place
 module _ {a b a1 b1 x y n : ℕ} (p : Within a b x y (suc n)) where
   north : (a1 ≡ a) × (b1 + 2 ≡ b) × (a ≡ x) × (y ≤ b1) → Within a1 b1 x y n
   north q = omega arith
 
-  north-east : (a1 ≡ a + 1) × (b1 + 1 ≡ b) × (a < x) × (y ≤ b) → Within a1 b1 x y n
-  north-east q = omega arith
+  north_east : (a1 ≡ a + 1) × (b1 + 1 ≡ b) × (a < x) × (y ≤ b) → Within a1 b1 x y n
+  north_east q = omega arith
 
-  south-east : (a1 ≡ a + 1) × (b1 ≡ b + 1) × (a < x) × (b ≤ y) → Within a1 b1 x y n
-  south-east q = omega arith
+  south_east : (a1 ≡ a + 1) × (b1 ≡ b + 1) × (a < x) × (b ≤ y) → Within a1 b1 x y n
+  south_east q = omega arith
 
   south : (a1 ≡ a) × (b1 ≡ b + 2) × (a ≡ x) × (b1 ≤ y) → Within a1 b1 x y n
   south q = omega arith
 
-  south-west : (a1 + 1 ≡ a) × (b1 ≡ b + 1) × (x < a) × (b ≤ y) → Within a1 b1 x y n
-  south-west q = omega arith
+  south_west : (a1 + 1 ≡ a) × (b1 ≡ b + 1) × (x < a) × (b ≤ y) → Within a1 b1 x y n
+  south_west q = omega arith
 
-  north-west : (a1 + 1 ≡ a) × (b1 + 1 ≡ b) × (x < a) × (y ≤ b) → Within a1 b1 x y n
-  north-west q = omega arith
+  north_west : (a1 + 1 ≡ a) × (b1 + 1 ≡ b) × (x < a) × (y ≤ b) → Within a1 b1 x y n
+  north_west q = omega arith
 
 -- the way back is as far
 pub back : (x y x' y' : ℕ) → far x y x' y' ≡ far x' y' x y
@@ -81,20 +81,20 @@ module _ (w h c r x y n : ℕ) (hc : c < w) (hr : r < h) (hx : x < w) (hy : y < 
 
   by : (d c1 r1 : ℕ) → (c1 < w) × (r1 < h) × Goes d c r c1 r1 → Within c1 (depth c1 r1) x (depth x y) n → Closer w h c r x y n
   by d c1 r1 q p =
-      let near = within-far c1 (depth c1 r1) x (depth x y) n p in
-      let away = within-far c (depth c r) x (depth x y) _ (one_more q.2 (far_within c1 (depth c1 r1) x (depth x y))) in
+      let near = within_far c1 (depth c1 r1) x (depth x y) n p in
+      let away = within_far c (depth c r) x (depth x y) _ (one_more q.2 (far_within c1 (depth c1 r1) x (depth x y))) in
       record { dir = d; c1 = c1; r1 = r1; inw = q.0; inh = q.1; goes = q.2; left = omega arith }
 
   -- aside to the next column, down where that leads no lower than row y, else up
   go : Order c x → Order r y → Dec (r + c % 2 ≤ y) → Closer w h c r x y n
   unfolding aside down
-  go (less i) j (yes k) = by 2 (c + 1) (r + c % 2) (omega arith) (south-east within (omega arith))
-  go (less i) j (no k) = by 1 (c + 1) (r + c % 2 - 1) (omega arith) (north-east within (omega arith))
-  go (more i) j (yes k) = by 4 (c - 1) (r + c % 2) (omega arith) (south-west within (omega arith))
-  go (more i) j (no k) = by 5 (c - 1) (r + c % 2 - 1) (omega arith) (north-west within (omega arith))
+  go (less i) j (yes k) = by 2 (c + 1) (r + c % 2) (omega arith) (south_east within (omega arith))
+  go (less i) j (no k) = by 1 (c + 1) (r + c % 2 - 1) (omega arith) (north_east within (omega arith))
+  go (more i) j (yes k) = by 4 (c - 1) (r + c % 2) (omega arith) (south_west within (omega arith))
+  go (more i) j (no k) = by 5 (c - 1) (r + c % 2 - 1) (omega arith) (north_west within (omega arith))
   go (same i) (less j) k = by 3 c (r + 1) (omega arith) (south within (omega arith))
   go (same i) (more j) k = by 0 c (r - 1) (omega arith) (north within (omega arith))
-  go (same i) (same j) k = absurd (omega (arith, within-far c (depth c r) x (depth x y) 0 (omega arith)))
+  go (same i) (same j) k = absurd (omega (arith, within_far c (depth c r) x (depth x y) 0 (omega arith)))
 
   pub closer : Closer w h c r x y n
   closer = go (order c x) (order r y) (dec_le (r + c % 2) y)

@@ -2,11 +2,11 @@
 -- Assumes nothing.
 use mathlib.Core.Path.{refl}
 use mathlib.Core.List.{List, [], ◌∷◌, ◌++◌}
-use Rattle.grid.specs.Rulings.{Row, Answered, gridOpen, gridRows}
+use Rattle.grid.specs.Rulings.{Row, Answered, grid_open, grid_rows}
 
-pub grid-rulings : Answered gridRows
-unfolding gridOpen
-grid-rulings = (refl, (refl, (refl, tt)))
+pub grid_rulings : Answered grid_rows
+unfolding grid_open
+grid_rulings = (refl, (refl, (refl, tt)))
 
 -- tables make one table
 pub together : (rows more : List Row) → Answered rows → Answered more → Answered (rows ++ more)

@@ -5,8 +5,8 @@ use Rattle.grid.specs.declared.Beside.{Beside}
 use Rattle.grid.specs.declared.Beside.TheVariants.{At, Off}
 
 -- whether n is one of 1 to most
-abbrev pub oneTo : ℕ → ℕ → Bool
-oneTo n most = leb 1 n && leb n most
+abbrev pub one_to : ℕ → ℕ → Bool
+one_to n most = leb 1 n && leb n most
 
 -- a hex of a map, as facts: "Width and height are 1 to 64", and hexes are numbered from 0
 pub record On (w h hex : ℕ) : Type 0 where
@@ -17,16 +17,16 @@ pub record On (w h hex : ℕ) : Type 0 where
   pub below : hex < w * h
 
 -- and as a test
-unfoldable pub onMap : ℕ → ℕ → ℕ → Bool
-onMap w h hex = oneTo w 64 && (oneTo h 64 && ltb hex (w * h))
+unfoldable pub on_map : ℕ → ℕ → ℕ → Bool
+on_map w h hex = one_to w 64 && (one_to h 64 && ltb hex (w * h))
 
 -- a column and a row, both counted from 1: there are no negative numbers, and so 0 is off the map as one past the last is
 abbrev pub Place : Type 0
 Place = ℕ × ℕ
 
 -- the hex at a place: "Off the map there is none"
-unfoldable pub hexAt : ℕ → ℕ → Place → Beside
-hexAt w h p = cond (oneTo p.0 w && oneTo p.1 h) (At ((p.1 - 1) * w + (p.0 - 1))) Off
+unfoldable pub hex_at : ℕ → ℕ → Place → Beside
+hex_at w h p = cond (one_to p.0 w && one_to p.1 h) (At ((p.1 - 1) * w + (p.0 - 1))) Off
 
 -- the one of six that a direction names, clockwise from the north; what is no direction names no place
 abbrev pub towards : ℕ → Place → Place → Place → Place → Place → Place → Place
@@ -39,8 +39,8 @@ towards (suc (suc (suc (suc (suc zero))))) n ne se s sw nw = nw
 towards (suc (suc (suc (suc (suc (suc d)))))) n ne se s sw nw = (0, 0)
 
 -- "even column: N (c,r-1), NE (c+1,r-1), SE (c+1,r), S (c,r+1), SW (c-1,r), NW (c-1,r-1)"
-unfoldable pub besideEven : ℕ → ℕ → ℕ → Place
-besideEven c r dir =
+unfoldable pub beside_even : ℕ → ℕ → ℕ → Place
+beside_even c r dir =
     towards dir
     (c, r - 1)  -- N
     (c + 1, r - 1)  -- NE
@@ -50,8 +50,8 @@ besideEven c r dir =
     (c - 1, r - 1)  -- NW
 
 -- "odd column: N (c,r-1), NE (c+1,r), SE (c+1,r+1), S (c,r+1), SW (c-1,r+1), NW (c-1,r)"
-unfoldable pub besideOdd : ℕ → ℕ → ℕ → Place
-besideOdd c r dir =
+unfoldable pub beside_odd : ℕ → ℕ → ℕ → Place
+beside_odd c r dir =
     towards dir
     (c, r - 1)  -- N
     (c + 1, r)  -- NE
@@ -61,9 +61,9 @@ besideOdd c r dir =
     (c - 1, r)  -- NW
 
 -- the place beside a place: low is 0 in an even column and 1 in an odd one, as columns are counted from 0
-unfoldable pub besideOf : ℕ → ℕ → ℕ → ℕ → Place
-besideOf low c r dir = cond (eqb low 0) (besideEven c r dir) (besideOdd c r dir)
+unfoldable pub beside_of : ℕ → ℕ → ℕ → ℕ → Place
+beside_of low c r dir = cond (eqb low 0) (beside_even c r dir) (beside_odd c r dir)
 
 -- the neighbour of a hex in a direction, from the hex's column, hex % w, and row, hex / w
-unfoldable pub neighbourOf : ℕ → ℕ → ℕ → ℕ → Beside
-neighbourOf w h hex dir = cond (onMap w h hex) (hexAt w h (besideOf (hex % w % 2) (hex % w + 1) (hex / w + 1) dir)) Off
+unfoldable pub neighbour_of : ℕ → ℕ → ℕ → ℕ → Beside
+neighbour_of w h hex dir = cond (on_map w h hex) (hex_at w h (beside_of (hex % w % 2) (hex % w + 1) (hex / w + 1) dir)) Off

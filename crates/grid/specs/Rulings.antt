@@ -3,7 +3,7 @@
 use Rattle.std.specs.Prelude.{ℕ, ◌≡◌, List, [], ◌∷◌, map}
 use Rattle.grid.specs.declared.Beside.{Beside}
 use Rattle.grid.specs.declared.Beside.TheVariants.{At, Off}
-use Rattle.grid.specs.Map.{onMap, hexAt, besideEven, besideOdd, besideOf, neighbourOf}
+use Rattle.grid.specs.Map.{on_map, hex_at, beside_even, beside_odd, beside_of, neighbour_of}
 use Rattle.grid.specs.Walk.{far, distance_of}
 
 -- what is asked of the definitions, and what the document answers
@@ -21,17 +21,17 @@ Answered [] = Unit {0}
 Answered (r ∷ rs) = (r.asked ≡ r.answered) × Answered rs
 
 -- 'unfolding gridOpen' opens all of the grid, for a row that is to be computed
-unfoldable pub gridOpen : ℕ
-unfolding onMap hexAt besideEven besideOdd besideOf neighbourOf far distance_of
-gridOpen = 0
+unfoldable pub grid_open : ℕ
+unfolding on_map hex_at beside_even beside_odd beside_of neighbour_of far distance_of
+grid_open = 0
 
 -- the six neighbours, clockwise from the north
 abbrev pub around : ℕ → ℕ → ℕ → List Beside
-around w h hex = map (neighbourOf w h hex) (0 ∷ 1 ∷ 2 ∷ 3 ∷ 4 ∷ 5 ∷ [])
+around w h hex = map (neighbour_of w h hex) (0 ∷ 1 ∷ 2 ∷ 3 ∷ 4 ∷ 5 ∷ [])
 
 -- "on 5 x 5, neighbours of hex 12 are 7, 8, 13, 17, 11, 6 and of hex 6 are 1, 7, 12, 11, 10, 5; 1 x 1 has none"
-abbrev pub gridRows : List Row
-gridRows =
+abbrev pub grid_rows : List Row
+grid_rows =
     row (around 5 5 12) (At 7 ∷ At 8 ∷ At 13 ∷ At 17 ∷ At 11 ∷ At 6 ∷ []) ∷
     row (around 5 5 6) (At 1 ∷ At 7 ∷ At 12 ∷ At 11 ∷ At 10 ∷ At 5 ∷ []) ∷
     row (around 1 1 0) (Off ∷ Off ∷ Off ∷ Off ∷ Off ∷ Off ∷ []) ∷

@@ -1,6 +1,6 @@
 // Hexes of a map, their neighbours and distances.
 ghost use Rattle.std.specs.Prelude.{◌≡◌, ◌<◌, ◌≤◌};
-ghost use Rattle.grid.specs.Map.{On, oneTo, onMap, hexAt, besideOf, neighbourOf};
+ghost use Rattle.grid.specs.Map.{On, one_to, on_map, hex_at, beside_of, neighbour_of};
 ghost use Rattle.grid.specs.Walk.{gap_of, distance_of};
 
 // What lies beside a hex: another hex, or the map's edge.
@@ -19,7 +19,7 @@ struct Place {
 
 // Whether a map's side may be this long.
 fn side(n: usize) -> bool
-    ensures { result ≡ oneTo n 64 }
+    ensures { result ≡ one_to n 64 }
 {
     if n < 1 {
         return false;
@@ -29,7 +29,7 @@ fn side(n: usize) -> bool
 
 // Whether these are a map's width, its height and a hex of it.
 pub fn on_map(w: usize, h: usize, hex: usize) -> bool
-    ensures { result ≡ onMap w h hex }
+    ensures { result ≡ on_map w h hex }
 {
     if !side(w) {
         return false;
@@ -43,7 +43,7 @@ pub fn on_map(w: usize, h: usize, hex: usize) -> bool
 // The hex in column x and row y, both counted from 1.
 fn hex_at(w: usize, h: usize, x: usize, y: usize) -> Beside
     requires { (w ≤ 64) × (h ≤ 64) }
-    ensures { result ≡ hexAt w h (x, y) }
+    ensures { result ≡ hex_at w h (x, y) }
 {
     if x < 1 {
         return Beside::Off;
@@ -64,7 +64,7 @@ fn hex_at(w: usize, h: usize, x: usize, y: usize) -> Beside
 fn place_beside(low: usize, x: usize, y: usize, dir: usize) -> Place
     requires low_bound { low < 2 }
     requires le_x { (1 ≤ x) × (x ≤ 64) × (1 ≤ y) × (y ≤ 64) }
-    ensures { besideOf low x y dir ≡ (result.x, result.y) }
+    ensures { beside_of low x y dir ≡ (result.x, result.y) }
 {
     let west = x - 1;
     let east = x + 1;
@@ -83,7 +83,7 @@ fn place_beside(low: usize, x: usize, y: usize, dir: usize) -> Place
 
 // The neighbour of a hex: directions 0 to 5 are N, NE, SE, S, SW, NW. Off also where the arguments are no map, hex and direction.
 pub fn neighbour(w: usize, h: usize, hex: usize, dir: usize) -> Beside
-    ensures { result ≡ neighbourOf w h hex dir }
+    ensures { result ≡ neighbour_of w h hex dir }
 {
     if !on_map(w, h, hex) {
         return Beside::Off;

@@ -7,7 +7,7 @@ use mathlib.Core.List.{List, [], ◌∷◌, map}
 use borrow.Author.Count.{below_more, below_none}
 use lib.ListN.{get_or, length, length-map, length-set, set, take}
 use lib.Seq.{ext_get_or, get_or-set_other, get_or-set_same, get_or-take, length-take-le}
-use Rattle.line.specs.Line.{Filled, fighterAt, fighterOf, places}
+use Rattle.line.specs.Line.{Filled, fighter_at, fighter_of, places}
 use Rattle.line.specs.declared.Fighter.{Fighter}
 
 -- what stands at place j of a list that f makes of another
@@ -18,7 +18,7 @@ at_place f (x ∷ xs) (suc j) d l = at_place f xs j d (omega arith)
 
 module _ {g : ℕ → Fighter} where
   pub filled_none : {l : List Fighter} → length l ≡ places → Filled g 0 l
-  filled_none {l} e = record { size = e; each = below_none (λ j. fighterAt l j ≡ g j) }
+  filled_none {l} e = record { size = e; each = below_none (λ j. fighter_at l j ≡ g j) }
 
   -- one place more
   pub filled_more : {i : ℕ} {l m : List Fighter} {x : Fighter} → i < places → Filled g i l → x ≡ g i → m ≡ set l i x → Filled g (i + 1) m
@@ -27,14 +27,14 @@ module _ {g : ℕ → Fighter} where
       (record {
         size = length-set l i x ∙ o.size;
         each =
-            below_more (λ j. fighterAt (set l i x) j ≡ g j) i
-            (λ j h. get_or-set_other l i j x (fighterOf 0 0 0) (λ d. omega arith) ∙ o.each j h)
-            (get_or-set_same l i x (fighterOf 0 0 0) (omega (arith, o.size)) ∙ e);
+            below_more (λ j. fighter_at (set l i x) j ≡ g j) i
+            (λ j h. get_or-set_other l i j x (fighter_of 0 0 0) (λ d. omega arith) ∙ o.each j h)
+            (get_or-set_same l i x (fighter_of 0 0 0) (omega (arith, o.size)) ∙ e);
       })
 
   -- no more places than were filled
-  pub filled-all : {i n : ℕ} {l : List Fighter} → Filled g i l → n ≤ i → Filled g n l
-  filled-all o h = record { size = o.size; each = λ j k. o.each j (omega arith) }
+  pub filled_all : {i n : ℕ} {l : List Fighter} → Filled g i l → n ≤ i → Filled g n l
+  filled_all o h = record { size = o.size; each = λ j k. o.each j (omega arith) }
 
   -- the line of a list, if each place has the fighter of its unit
   pub filled-list :
@@ -42,7 +42,7 @@ module _ {g : ℕ → Fighter} where
       → ((i : ℕ) → i < n → g i ≡ h (get_or us i 0)) → take n l ≡ map h us
   filled-list {n} {l} h us k o e f =
       let long : length (take n l) ≡ n = length-take-le n l (omega (arith, o.size)) in
-      ext_get_or (fighterOf 0 0 0) (take n l) (map h us) (long ∙ sym (length-map us h ∙ e))
+      ext_get_or (fighter_of 0 0 0) (take n l) (map h us) (long ∙ sym (length-map us h ∙ e))
       (λ i m.
       let j : i < n = omega arith in
-      get_or-take n l i (fighterOf 0 0 0) j ∙ o.each i j ∙ f i j ∙ sym (at_place h us i (fighterOf 0 0 0) (omega arith)))
+      get_or-take n l i (fighter_of 0 0 0) j ∙ o.each i j ∙ f i j ∙ sym (at_place h us i (fighter_of 0 0 0) (omega arith)))

@@ -34,14 +34,14 @@ abbrev pub Arr : RattleType
 Arr = Array T.the_row 21
 
 -- the array's machine value
-abbrev pub arr-vals : List Fighter → List Val
-arr-vals = array_vals (LL.vals T.the_type T'.the_laws)
+abbrev pub arr_vals : List Fighter → List Val
+arr_vals = array_vals (LL.vals T.the_type T'.the_laws)
 
-abbrev pub arr-val : List Fighter → Val
-arr-val xs = only (arr-vals xs)
+abbrev pub arr_val : List Fighter → Val
+arr_val xs = only (arr_vals xs)
 
-abbrev pub arr-ty : Ty
-arr-ty = ty_array T'.mir 21
+abbrev pub arr_ty : Ty
+arr_ty = ty_array T'.mir 21
 
 pub room_for : (m : ℕ) → m ≤ 21 → Room T.the_row m
 room_for m l = (fits, bytes)
@@ -67,17 +67,17 @@ module _ {M : Type 1} {𝓤 : Ura M} (𝓛 : Logic 𝓤) where
       qed 𝓛 (‵ (row T.the_row full_share (x ∷ take k xs) b o) ∷ ‵ (row T.the_row full_share (rest_of k xs) b (place 4 (o + 4) k)) ∷ []) ∵ fsplit ! $ move ! (1 ∷ 2 ∷ []) $
       use2 𝓛 (‵ (row T.the_row full_share xs b (o + 4))) (glue k xs b (o + 4)) $ move ! (1 ∷ 0 ∷ []) $ fjoin ! $ done !
 
-  pub lies_in : (xs : List Fighter) (b : ℕ) → Is Arr xs (arr-vals xs) → ent 𝓤 (sem 𝓛 (fat full_share arr-ty b 0 (arr-val xs))) (sem 𝓛 (row T.the_row full_share xs b 0))
+  pub lies_in : (xs : List Fighter) (b : ℕ) → Is Arr xs (arr_vals xs) → ent 𝓤 (sem 𝓛 (fat full_share arr_ty b 0 (arr_val xs))) (sem 𝓛 (row T.the_row full_share xs b 0))
   unfolding part_of
   lies_in xs b is =
-      qed 𝓛 (‵ (fat full_share arr-ty b 0 (arr-val xs)) ∷ []) ∵ use1 𝓛 (‵ (cell_at full_share Arr.mir (arr-vals xs) b 0)) (𝓛.laws.at_raw full_share arr-ty b 0 (arr-val xs)) $
+      qed 𝓛 (‵ (fat full_share arr_ty b 0 (arr_val xs)) ∷ []) ∵ use1 𝓛 (‵ (cell_at full_share Arr.mir (arr_vals xs) b 0)) (𝓛.laws.at_raw full_share arr_ty b 0 (arr_val xs)) $
       owned ! Arr (Is Arr) (Array-Makes 𝓛 T.the_row (LL.makes T.the_type T'.the_plain 𝓛) 21) xs _ is $ move ! (1 ∷ 0 ∷ []) $ fjoin ! $
-      fpack ! (List Val) (λ us. fsep (cell_at full_share Arr.mir us b 0) (Arr.own xs us)) (arr-vals xs) $
+      fpack ! (List Val) (λ us. fsep (cell_at full_share Arr.mir us b 0) (Arr.own xs us)) (arr_vals xs) $
       use1 𝓛 (‵ ((arr_parts (shares T.the_row) 21).part full_share xs b 0)) (Array-apart 𝓛 T.the_row full_share tt 21 xs b 0) $ fsplit ! $ drop ! $ done !
 
-  pub lies_out : (xs : List Fighter) (b : ℕ) → length xs ≡ 21 → ent 𝓤 (sem 𝓛 (row T.the_row full_share xs b 0)) (sep 𝓤 (sem 𝓛 (Arr.own xs (arr-vals xs))) (sem 𝓛 (fat full_share arr-ty b 0 (arr-val xs))))
+  pub lies_out : (xs : List Fighter) (b : ℕ) → length xs ≡ 21 → ent 𝓤 (sem 𝓛 (row T.the_row full_share xs b 0)) (sep 𝓤 (sem 𝓛 (Arr.own xs (arr_vals xs))) (sem 𝓛 (fat full_share arr_ty b 0 (arr_val xs))))
   unfolding part_of
   lies_out xs b e =
       qed 𝓛 (‵ (row T.the_row full_share xs b 0) ∷ []) ∵ feq_i ! ℕ (length xs) 21 e $ fjoin ! $ use1 𝓛 (‵ (part_at Arr full_share xs b 0)) (Array-whole 𝓛 T.the_row full_share 21 xs b 0) $
-      fpick ! (λ vs. fsplit ! $ spelt ! Arr (Is Arr) (shows 𝓛 Arr) arr-vals (Array-Tells T.the_row (LL.vals T.the_type T'.the_laws) (LL.tells T.the_type T'.the_laws) 21) full_share xs vs b 0 $
-      use1 𝓛 (‵ (fat full_share arr-ty b 0 (arr-val xs))) (𝓛.laws.raw_at full_share arr-ty b 0 (arr-val xs)) $ move ! (1 ∷ 0 ∷ []) $ done !)
+      fpick ! (λ vs. fsplit ! $ spelt ! Arr (Is Arr) (shows 𝓛 Arr) arr_vals (Array-Tells T.the_row (LL.vals T.the_type T'.the_laws) (LL.tells T.the_type T'.the_laws) 21) full_share xs vs b 0 $
+      use1 𝓛 (‵ (fat full_share arr_ty b 0 (arr_val xs))) (𝓛.laws.raw_at full_share arr_ty b 0 (arr_val xs)) $ move ! (1 ∷ 0 ∷ []) $ done !)

@@ -32,11 +32,11 @@ use denote.Index.{place, place_is, elem_out, elem_back, looks_slice, shuts_slice
 use denote.Ref.{Bor}
 use denote.Slice.{slice_ty, slice_val, ShrSlice, Room, shr_slice_copy}
 use denote.Struct.Laws as LL
-use Rattle.line.specs.Line.{Comes, fighterAt, fighterOf, totalBy}
+use Rattle.line.specs.Line.{Comes, fighter_at, fighter_of, total_by}
 use Rattle.line.specs.declared.Fighter.{Fighter}
 use Rattle.line.specs.contracts.Fighter as T
 use Rattle.line.proofs.Fighter.TheLaws as T'
-use Rattle.line.proofs.Sums.{sum-next, sum-none, sum-all}
+use Rattle.line.proofs.Sums.{sum_next, sum_none, sum_all}
 
 -- ---- truth values and numbers
 holds : (t : Bool) → Holds t → t ≡ true
@@ -101,7 +101,7 @@ module _ {M : Type 1} {𝓤 : Ura M} (𝓛 : Logic 𝓤) (𝓣 : Tables 𝓤 �
   abbrev Own : Fml
   Own = (ShrSlice (named 0) κ T.the_row).own_val x (s ∷ [])
 
-  module _ (Post : Val → SProp 𝓤) (exits : (r : ℕ) → Comes (totalBy f ys) r → ent 𝓤 (sep 𝓤 (A.lft κ q) (sem 𝓛 Own)) (Post (vint w64 r))) where
+  module _ (Post : Val → SProp 𝓤) (exits : (r : ℕ) → Comes (total_by f ys) r → ent 𝓤 (sep 𝓤 (A.lft κ q) (sem 𝓛 Own)) (Post (vint w64 r))) where
     module _ (gn : Room T.the_row n) (l₀ l₁ l₂ l₃ l₄ l₅ l₆ l₇ l₈ : ℕ) where
       abbrev C : Calls 𝓤 H
       C = 𝓣.C
@@ -119,7 +119,7 @@ module _ {M : Type 1} {𝓤 : Ura M} (𝓛 : Logic 𝓤) (𝓣 : Tables 𝓤 �
           ∷ ‵ (fdies word l₀) ∷ ‵ (fdies slice l₁) ∷ ‵ (fdies word l₂) ∷ ‵ (fdies word l₃) ∷ ‵ (fdies word l₄) ∷ ‵ (fdies ty_bool l₅) ∷ ‵ (fdies word l₆) ∷ ‵ (fdies ty_ptr l₇) ∷ ‵ (fdies T'.mir l₈) ∷ []
 
       abbrev Facts : ℕ → ℕ → ℕ → Type 0
-      Facts u i t = (i + u ≡ n) × (t ≡ totalBy f (take i ys)) × (t ≤ i * 255)
+      Facts u i t = (i + u ≡ n) × (t ≡ total_by f (take i ys)) × (t ≤ i * 255)
 
       -- the invariant, where u fighters are left
       abbrev Inv : ℕ → SProp 𝓤
@@ -136,7 +136,7 @@ module _ {M : Type 1} {𝓤 : Ura M} (𝓛 : Logic 𝓤) (𝓣 : Tables 𝓤 �
       Back t y v = later (given (v ≡ vint w64 (t + f y)) (‵ ftrue))
 
       -- a turn that adds a fighter
-      more : (i t : ℕ) (X : SProp 𝓤) → i < n → t ≤ 5100 → (Is T.the_row (fighterAt ys i) (LL.val T.the_type T'.the_laws (fighterAt ys i) ∷ []) → ent 𝓤 (⋆ 𝓛 (At (i + 1) (t + f (fighterAt ys i)))) X)
+      more : (i t : ℕ) (X : SProp 𝓤) → i < n → t ≤ 5100 → (Is T.the_row (fighter_at ys i) (LL.val T.the_type T'.the_laws (fighter_at ys i) ∷ []) → ent 𝓤 (⋆ 𝓛 (At (i + 1) (t + f (fighter_at ys i)))) X)
           → ent 𝓤 (⋆ 𝓛 (At i t)) (Wp 𝓤 H C Λ En (turn k) (after_turn 𝓤 H X Left))
       unfolding after_turn
       more i t X l bound next =
@@ -151,15 +151,15 @@ module _ {M : Type 1} {𝓤 : Ura M} (𝓛 : Logic 𝓤) (𝓣 : Tables 𝓤 �
           -- the slice is Copy: one copy of what it owns is kept, and the other is looked into
           move ! (9 ∷ []) $ use1 𝓛 (‵ Own ⊛ ‵ Own) ((shr_slice_copy 𝓛 (named 0) κ T.the_row).twice x (s ∷ [])) $ split ! $ fsplit ! $ drop ! $ fsplit ! $ drop ! $ move ! (0 ∷ 11 ∷ []) $
           looks_slice ! tt T.the_row (Is T.the_row) (shows 𝓛 T.the_row) (LL.vals T.the_type T'.the_laws) (LL.tells T.the_type T'.the_laws) (LL.copy T.the_type T'.the_copy 𝓛) ys b o (λ q'.
-          elem_out ! T.the_row (Is T.the_row) (shows 𝓛 T.the_row) (LL.vals T.the_type T'.the_laws) (LL.tells T.the_type T'.the_laws) q' ys i (fighterOf 0 0 0) b o l (λ g.
-          use1 𝓛 (‵ (fat q' T'.mir b (place 4 o i) (LL.val T.the_type T'.the_laws (fighterAt ys i)))) (𝓛.laws.raw_at q' T'.mir b (place 4 o i) (LL.val T.the_type T'.the_laws (fighterAt ys i))) $
+          elem_out ! T.the_row (Is T.the_row) (shows 𝓛 T.the_row) (LL.vals T.the_type T'.the_laws) (LL.tells T.the_type T'.the_laws) q' ys i (fighter_of 0 0 0) b o l (λ g.
+          use1 𝓛 (‵ (fat q' T'.mir b (place 4 o i) (LL.val T.the_type T'.the_laws (fighter_at ys i)))) (𝓛.laws.raw_at q' T'.mir b (place 4 o i) (LL.val T.the_type T'.the_laws (fighter_at ys i))) $
           -- [the fighter; what it owns; the others; what shuts; the fractured borrow; Own; t @6; i @7; the test @8; _6 @9; _7 @10; _8 @11; …]
-          assigns ! (of_opd ! (load ! (from ! (hop ! (look ! 10 refl) (stop !))) (look ! 0 refl))) (from ! (stop !)) (init ! 11 refl ((LL.lawful T.the_type T'.the_laws 𝓛).typed (fighterAt ys i) _ g).0) $
-          use1 𝓛 (‵ (cell_at q' (T.the_row).mir (LL.val T.the_type T'.the_laws (fighterAt ys i) ∷ []) b (place 4 o i))) (𝓛.laws.at_raw q' T'.mir b (place 4 o i) (LL.val T.the_type T'.the_laws (fighterAt ys i))) $
-          elem_back ! T.the_row q' ys i (fighterOf 0 0 0) (LL.val T.the_type T'.the_laws (fighterAt ys i) ∷ []) b o l $ shuts_slice ! tt T.the_row q' ys b o $ move ! (1 ∷ []) $ drop ! $
+          assigns ! (of_opd ! (load ! (from ! (hop ! (look ! 10 refl) (stop !))) (look ! 0 refl))) (from ! (stop !)) (init ! 11 refl ((LL.lawful T.the_type T'.the_laws 𝓛).typed (fighter_at ys i) _ g).0) $
+          use1 𝓛 (‵ (cell_at q' (T.the_row).mir (LL.val T.the_type T'.the_laws (fighter_at ys i) ∷ []) b (place 4 o i))) (𝓛.laws.at_raw q' T'.mir b (place 4 o i) (LL.val T.the_type T'.the_laws (fighter_at ys i))) $
+          elem_back ! T.the_row q' ys i (fighter_of 0 0 0) (LL.val T.the_type T'.the_laws (fighter_at ys i) ∷ []) b o l $ shuts_slice ! tt T.the_row q' ys b o $ move ! (1 ∷ []) $ drop ! $
           -- [the token; Own; t @2; i @3; the test @4; _6 @5; _7 @6; _8 @7; the slice @8; n @9; room for _0 @10; …]: the call
-          use0 𝓛 (raw (C k (vint w64 t ∷ LL.val T.the_type T'.the_laws (fighterAt ys i) ∷ []) (λ v. mean 𝓛 (Back t (fighterAt ys i) v)))) (steps t (fighterAt ys i) below g) $
-          calls ! (fm_of 𝓤 H 𝓛.laws 𝓣) (Back t (fighterAt ys i)) (and_then ! (load ! (from ! (stop !)) (look ! 3 refl)) (and_then ! (load ! (from ! (stop !)) (look ! 8 refl)) (no_more !))) (λ v. await ! tt $ learn ! (λ e. drop ! $
+          use0 𝓛 (raw (C k (vint w64 t ∷ LL.val T.the_type T'.the_laws (fighter_at ys i) ∷ []) (λ v. mean 𝓛 (Back t (fighter_at ys i) v)))) (steps t (fighter_at ys i) below g) $
+          calls ! (fm_of 𝓤 H 𝓛.laws 𝓣) (Back t (fighter_at ys i)) (and_then ! (load ! (from ! (stop !)) (look ! 3 refl)) (and_then ! (load ! (from ! (stop !)) (look ! 8 refl)) (no_more !))) (λ v. await ! tt $ learn ! (λ e. drop ! $
           land ! (from ! (stop !)) (store ! 2 refl (subst (λ (u : Val). Holds (has_ty word u) × WT u) (sym e) (tt, record { fits = fits g }))) $
           rewrite ! 2 (λ (u : Val). ‵ (fat full_share word l₃ 0 u)) e refl $
           assigns_last ! (bin ! (load ! (from ! (stop !)) (look ! 3 refl)) (lit ! tt) (record { fits = next_fits })) (from ! (stop !)) (store ! 3 refl (tt, record { fits = next_fits })) $
@@ -171,14 +171,14 @@ module _ {M : Type 1} {𝓤 : Ura M} (𝓛 : Logic 𝓤) (𝓣 : Tables 𝓤 �
           below : t ≤ 5355
           below = omega arith
 
-          fits : Is T.the_row (fighterAt ys i) (LL.val T.the_type T'.the_laws (fighterAt ys i) ∷ []) → t + f (fighterAt ys i) < 2 ^ 64
-          fits g = let z : f (fighterAt ys i) < 256 = small (fighterAt ys i) g in omega arith
+          fits : Is T.the_row (fighter_at ys i) (LL.val T.the_type T'.the_laws (fighter_at ys i) ∷ []) → t + f (fighter_at ys i) < 2 ^ 64
+          fits g = let z : f (fighter_at ys i) < 256 = small (fighter_at ys i) g in omega arith
 
           next_fits : i + 1 < 2 ^ 64
           next_fits = omega arith
 
       -- the turn that leaves the loop, and the rest of the body
-      ends : (t : ℕ) (X : SProp 𝓤) → Comes (totalBy f ys) t → ent 𝓤 (⋆ 𝓛 (At n t)) (Wp 𝓤 H C Λ En (turn k) (after_turn 𝓤 H X Left))
+      ends : (t : ℕ) (X : SProp 𝓤) → Comes (total_by f ys) t → ent 𝓤 (⋆ 𝓛 (At n t)) (Wp 𝓤 H C Λ En (turn k) (after_turn 𝓤 H X Left))
       unfolding after_turn
       ends t X e =
           qed 𝓛 (At n t) ∵ exec ! C Λ En (turn k) (any_q (after_turn 𝓤 H X Left)) $
@@ -203,24 +203,24 @@ module _ {M : Type 1} {𝓤 : Ura M} (𝓛 : Logic 𝓤) (𝓣 : Tables 𝓤 �
       turn_at : (u i t : ℕ) → Facts u i t → ent 𝓤 (⋆ 𝓛 (At i t)) (Wp 𝓤 H C Λ En (turn k) (after_turn 𝓤 H (Below u) Left))
       turn_at zero i t fs =
           subst (λ (m : ℕ). ent 𝓤 (⋆ 𝓛 (At m t)) (Wp 𝓤 H C Λ En (turn k) (after_turn 𝓤 H (Below 0) Left))) all
-          (ends t (Below 0) (record { is = fs.1 ∙ ap (λ (m : ℕ). totalBy f (take m ys)) (sym all) ∙ sum-all f ys; small = let z = fs.2 in omega arith }))
+          (ends t (Below 0) (record { is = fs.1 ∙ ap (λ (m : ℕ). total_by f (take m ys)) (sym all) ∙ sum_all f ys; small = let z = fs.2 in omega arith }))
         where
           all : n ≡ i
           all = let z = fs.0 in omega arith
       turn_at (suc u) i t fs =
           more i t (Below (suc u)) (let z = fs.0 in omega arith) (let z = fs.0 in let y = fs.2 in omega arith) (λ g.
-          via 𝓤 (Inv u) (inv u (i + 1) (t + f (fighterAt ys i)) ((let z = fs.0 in omega arith), new, (let z = fs.2 in let y = small (fighterAt ys i) g in omega arith)))
+          via 𝓤 (Inv u) (inv u (i + 1) (t + f (fighter_at ys i)) ((let z = fs.0 in omega arith), new, (let z = fs.2 in let y = small (fighter_at ys i) g in omega arith)))
           (via 𝓤 (guard 𝓤 (u < suc u) (Inv u)) (guard_i 𝓤 (u < suc u) (Inv u) (omega arith)) (ex_i 𝓤 (λ (u' : ℕ). guard 𝓤 (u' < suc u) (Inv u')) u)))
         where
-          new : t + f (fighterAt ys i) ≡ totalBy f (take (i + 1) ys)
-          new = ap (λ (m : ℕ). m + f (fighterAt ys i)) fs.1 ∙ sym (sum-next f ys i (fighterOf 0 0 0) (let z = fs.0 in omega arith)) ∙ ap (λ (m : ℕ). totalBy f (take m ys)) (sym (one_more i))
+          new : t + f (fighter_at ys i) ≡ total_by f (take (i + 1) ys)
+          new = ap (λ (m : ℕ). m + f (fighter_at ys i)) fs.1 ∙ sym (sum_next f ys i (fighter_of 0 0 0) (let z = fs.0 in omega arith)) ∙ ap (λ (m : ℕ). total_by f (take m ys)) (sym (one_more i))
 
       turns : (u : ℕ) → ent 𝓤 (Inv u) (Wp 𝓤 H C Λ En (turn k) (after_turn 𝓤 H (Below u) Left))
       turns u = ex_e 𝓤 (λ (i : ℕ). ex 𝓤 (λ (t : ℕ). guard 𝓤 (Facts u i t) (⋆ 𝓛 (At i t)))) (λ i.
           ex_e 𝓤 (λ (t : ℕ). guard 𝓤 (Facts u i t) (⋆ 𝓛 (At i t))) (λ t. guard_e 𝓤 (Facts u i t) (⋆ 𝓛 (At i t)) (λ fs. turn_at u i t fs)))
 
       loops : ent 𝓤 (⋆ 𝓛 (At 0 0)) (Wp 𝓤 H C Λ En (loop (turn k)) Left)
-      loops = via 𝓤 (Inv n) (inv n 0 0 (omega arith, sum-none f ys, omega arith)) (loop_rule 𝓤 H 𝓛.laws 𝓣 ◌<◌ lt-wf_rel.wf En (turn k) Left Inv turns n)
+      loops = via 𝓤 (Inv n) (inv n 0 0 (omega arith, sum_none f ys, omega arith)) (loop_rule 𝓤 H 𝓛.laws 𝓣 ◌<◌ lt-wf_rel.wf En (turn k) Left Inv turns n)
 
     -- the code up to the loop, which begins at the first fighter
     begins : Room T.the_row n → ent 𝓤 (sep 𝓤 (sep 𝓤 (A.lft κ q) (emp 𝓤)) (sem 𝓛 (owns (ShrSlice (named 0) κ T.the_row ∷ []) (x, tt) (s ∷ [], tt)))) (WpFn 𝓤 H 𝓣.C 𝓣.Λ (function k 0) (s ∷ []) Post)

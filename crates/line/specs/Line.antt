@@ -9,35 +9,35 @@ abbrev pub places : ℕ
 places = 21
 
 -- "one record for each participant, carries unit, printed strength and fighting strength"
-abbrev pub fighterOf : ℕ → ℕ → ℕ → Fighter
-fighterOf u s f = record { unit = u; printed = s; fighting = f }
+abbrev pub fighter_of : ℕ → ℕ → ℕ → Fighter
+fighter_of u s f = record { unit = u; printed = s; fighting = f }
 
 -- the fighter at place i, and past the end one of zeros
-abbrev pub fighterAt : List Fighter → ℕ → Fighter
-fighterAt l i = get_or l i (fighterOf 0 0 0)
+abbrev pub fighter_at : List Fighter → ℕ → Fighter
+fighter_at l i = get_or l i (fighter_of 0 0 0)
 
 -- the first n places of the line l are filled, place i with g i
 pub record Filled (g : ℕ → Fighter) (n : ℕ) (l : List Fighter) : Type 0 where
   pub size : length l ≡ places
-  pub each : (i : ℕ) → i < n → fighterAt l i ≡ g i
+  pub each : (i : ℕ) → i < n → fighter_at l i ≡ g i
 
 -- what f reads of each, summed
-unfoldable pub totalBy : (Fighter → ℕ) → List Fighter → ℕ
-totalBy f [] = 0
-totalBy f (x ∷ xs) = f x + totalBy f xs
+unfoldable pub total_by : (Fighter → ℕ) → List Fighter → ℕ
+total_by f [] = 0
+total_by f (x ∷ xs) = f x + total_by f xs
 
-abbrev pub fightingOf : Fighter → ℕ
-fightingOf x = x.fighting
+abbrev pub fighting_of : Fighter → ℕ
+fighting_of x = x.fighting
 
-abbrev pub printedOf : Fighter → ℕ
-printedOf x = x.printed
+abbrev pub printed_of : Fighter → ℕ
+printed_of x = x.printed
 
 -- what a part of the line comes to in the odds, and in the losses
-abbrev pub fightingTotal : List Fighter → ℕ
-fightingTotal l = totalBy fightingOf l
+abbrev pub fighting_total : List Fighter → ℕ
+fighting_total l = total_by fighting_of l
 
-abbrev pub printedTotal : List Fighter → ℕ
-printedTotal l = totalBy printedOf l
+abbrev pub printed_total : List Fighter → ℕ
+printed_total l = total_by printed_of l
 
 -- the most that 21 strengths of a byte each come to
 abbrev pub most : ℕ
@@ -50,5 +50,5 @@ pub record Comes (x r : ℕ) : Type 0 where
 
 -- both totals of the fighters l
 pub record Sums (l : List Fighter) (r : Totals) : Type 0 where
-  pub fighting : Comes (fightingTotal l) r.fighting
-  pub printed : Comes (printedTotal l) r.printed
+  pub fighting : Comes (fighting_total l) r.fighting
+  pub printed : Comes (printed_total l) r.printed

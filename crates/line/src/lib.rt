@@ -1,6 +1,6 @@
 // The battle line: one record for each participant, lent to the sums for odds and losses.
 ghost use Rattle.std.specs.Prelude.{◌≡◌, ◌+◌, ◌-◌, ◌≤◌, length, take, drop};
-ghost use Rattle.line.specs.Line.{places, most, fightingTotal, printedTotal, Comes, Sums};
+ghost use Rattle.line.specs.Line.{places, most, fighting_total, printed_total, Comes, Sums};
 
 // A participant: the unit, its printed strength and what it fights with.
 #[derive(Drop)]
@@ -51,7 +51,7 @@ fn add_printed(total: usize, f: Fighter) -> usize
 // What the fighters that are lent come to in the odds.
 pub fn fighting_total(line: &[Fighter]) -> usize
     requires { length line.now ≤ places }
-    ensures { Comes (fightingTotal line.now) result }
+    ensures { Comes (fighting_total line.now) result }
 {
     let n = line.len();
     let mut total: usize = 0;
@@ -66,7 +66,7 @@ pub fn fighting_total(line: &[Fighter]) -> usize
 // What the fighters that are lent come to in the losses.
 pub fn printed_total(line: &[Fighter]) -> usize
     requires { length line.now ≤ places }
-    ensures { Comes (printedTotal line.now) result }
+    ensures { Comes (printed_total line.now) result }
 {
     let n = line.len();
     let mut total: usize = 0;

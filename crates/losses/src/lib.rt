@@ -8,24 +8,24 @@ ghost use Rattle.position.specs.Laid.{Laid};
 ghost use Rattle.line.specs.Line.{Filled};
 ghost use Rattle.ruling.specs.Verdict.{Met};
 ghost use Rattle.ruling.specs.Judged.{TestedOf};
-ghost use Rattle.ruling.specs.Answers.{answerAs};
-ghost use Rattle.aftermath.specs.Stage.{thenOn};
+ghost use Rattle.ruling.specs.Answers.{answer_as};
+ghost use Rattle.aftermath.specs.Stage.{then_on};
 ghost use Rattle.aftermath.specs.Losses.{
   owes,
   loss,
   losses,
-  shownTotal,
-  lossAt,
+  shown_total,
+  loss_at,
   spared,
   enough,
-  owesPhasing,
-  otherType,
-  sparedSpecial,
-  passedOver,
+  owes_phasing,
+  other_type,
+  spared_special,
+  passed_over,
   short,
-  lossChanges,
-  lossChecks,
-  lossesRule,
+  loss_changes,
+  loss_checks,
+  losses_rule,
 };
 
 use field::listed;
@@ -73,7 +73,7 @@ fn each_loss(p: &[u8], v: View, units: &[u16]) -> Tested
 // The line of the list: each unit with the strength that it shows. Nobody fights.
 fn loss_line(p: &[u8], v: View, units: &[u16]) -> [Fighter; 21]
     requires { Laid p.now v × (length units.now ≤ 18) }
-    ensures { Filled (lossAt (board p.now) units.now) (length units.now) result }
+    ensures { Filled (loss_at (board p.now) units.now) (length units.now) result }
 {
     let mut fighters = line::nobody();
     for i in 0..units.len() {
@@ -89,7 +89,7 @@ fn loss_line(p: &[u8], v: View, units: &[u16]) -> [Fighter; 21]
 // The printed total of the list, of strengths that are shown.
 fn shown_total(p: &[u8], v: View, units: &[u16]) -> usize
     requires { Laid p.now v × (length units.now ≤ 18) }
-    ensures { result ≡ shownTotal (board p.now) units.now }
+    ensures { result ≡ shown_total (board p.now) units.now }
 {
     let totals = line::sum_up(loss_line(p, v, units), 0, units.len());
     totals.printed
@@ -136,7 +136,7 @@ fn enough(p: &[u8], v: View, units: &[u16]) -> bool
 // Whether unit `u` owes and is of the phasing force.
 fn owes_phasing(p: &[u8], v: View, u: usize) -> bool
     requires { Laid p.now v }
-    ensures { result ≡ owesPhasing (board p.now) u }
+    ensures { result ≡ owes_phasing (board p.now) u }
 {
     if !owes(p, v, u) {
         return false;
@@ -147,7 +147,7 @@ fn owes_phasing(p: &[u8], v: View, u: usize) -> bool
 // Whether the owing units are the phasing force's.
 fn phasing_owes(p: &[u8], v: View) -> bool
     requires { Laid p.now v }
-    ensures { result ≡ any (owesPhasing (board p.now)) (board p.now).units.count }
+    ensures { result ≡ any (owes_phasing (board p.now)) (board p.now).units.count }
 {
     let count = v.count;
     let mut u = 0;
@@ -163,7 +163,7 @@ fn phasing_owes(p: &[u8], v: View) -> bool
 // Whether the list names unit `u`, and it is no special infantry.
 fn other_type(p: &[u8], v: View, units: &[u16], u: usize) -> bool
     requires { Laid p.now v }
-    ensures { result ≡ otherType (board p.now) units.now u }
+    ensures { result ≡ other_type (board p.now) units.now u }
 {
     if !listed::named(units, units.len(), u) {
         return false;
@@ -174,7 +174,7 @@ fn other_type(p: &[u8], v: View, units: &[u16], u: usize) -> bool
 // Whether the list names another type than special infantry.
 fn names_other(p: &[u8], v: View, units: &[u16]) -> bool
     requires { Laid p.now v }
-    ensures { result ≡ any (otherType (board p.now) units.now) (board p.now).units.count }
+    ensures { result ≡ any (other_type (board p.now) units.now) (board p.now).units.count }
 {
     let count = v.count;
     let mut u = 0;
@@ -190,7 +190,7 @@ fn names_other(p: &[u8], v: View, units: &[u16]) -> bool
 // Whether unit `u` is special infantry that owes and that the list spares.
 fn spared_special(p: &[u8], v: View, units: &[u16], u: usize) -> bool
     requires { Laid p.now v }
-    ensures { result ≡ sparedSpecial (board p.now) units.now u }
+    ensures { result ≡ spared_special (board p.now) units.now u }
 {
     if !spared(p, v, units, u) {
         return false;
@@ -201,7 +201,7 @@ fn spared_special(p: &[u8], v: View, units: &[u16], u: usize) -> bool
 // Whether the list spares special infantry that owes.
 fn spares_special(p: &[u8], v: View, units: &[u16]) -> bool
     requires { Laid p.now v }
-    ensures { result ≡ any (sparedSpecial (board p.now) units.now) (board p.now).units.count }
+    ensures { result ≡ any (spared_special (board p.now) units.now) (board p.now).units.count }
 {
     let count = v.count;
     let mut u = 0;
@@ -217,7 +217,7 @@ fn spares_special(p: &[u8], v: View, units: &[u16]) -> bool
 // Whether special infantry is passed over.
 fn passed_over(p: &[u8], v: View, units: &[u16]) -> bool
     requires { Laid p.now v }
-    ensures { result ≡ passedOver (board p.now) units.now }
+    ensures { result ≡ passed_over (board p.now) units.now }
 {
     if !phasing_owes(p, v) {
         return false;
@@ -242,7 +242,7 @@ fn short(p: &[u8], v: View, units: &[u16]) -> bool
 // All the questions of losses.
 fn judge_losses(p: &[u8], v: View, units: &[u16]) -> Tested
     requires { Laid p.now v }
-    ensures { TestedOf p.now (lossChecks (board p.now) units.now) (Unit {0}) result }
+    ensures { TestedOf p.now (loss_checks (board p.now) units.now) (Unit {0}) result }
 {
     if units.len() < 1 {
         return Tested::Stopped(3, 0);
@@ -278,7 +278,7 @@ fn destroy_all(p: &mut [u8], v: View, units: &[u16])
 // The units of the list are destroyed, the survivors may advance, and the stage passes on.
 fn lose(p: &mut [u8], v: View, units: &[u16])
     requires { Laid p.old v }
-    ensures { p.new ≡ makes p.old (thenOn (board p.old) (lossChanges (board p.old) units.now)) }
+    ensures { p.new ≡ makes p.old (then_on (board p.old) (loss_changes (board p.old) units.now)) }
 {
     destroy_all(p, v, units);
     passing::reassign(p, v, role::OWES, role::ADVANCES);
@@ -288,7 +288,7 @@ fn lose(p: &mut [u8], v: View, units: &[u16])
 // The losses on a checked position: the units of the list are those of an exchange.
 pub fn losses(p: &mut [u8], v: View, units: &[u16]) -> Answer
     requires { Laid p.old v }
-    ensures { Met p.old [] (lossesRule (board p.old) units.now) (answerAs result) p.new [] }
+    ensures { Met p.old [] (losses_rule (board p.old) units.now) (answer_as result) p.new [] }
 {
     if let Tested::Stopped(n, k) = judge_losses(p, v, units) {
         return Answer::Refused(n, k);

@@ -6,68 +6,68 @@ use mathlib.Core.Bool.{Bool, true, false}
 use mathlib.Core.List.{List}
 use lib.ListN.{length, get_or}
 use borrow.Author.Tests.{lt-ltb, le-ltb}
-use Rattle.position.specs.Board.{Board, forceOf}
+use Rattle.position.specs.Board.{Board, force_of}
 use Rattle.ruling.specs.Verdict.{Verdict, Ruling, Met}
 use Rattle.ruling.specs.Verdict.Ruling.{refused}
 use Rattle.ruling.specs.Judged.{Passes, Stops}
 use Rattle.ruling.proofs.Meets.{pass, stop}
 use Rattle.ruling.proofs.Going.{Gone, gone-more}
 use Rattle.field.specs.Scene.{scene}
-use Rattle.field.specs.Zone.{holdsEnemy, holdsNeutral}
-use Rattle.march.specs.Move.{Leg, leg, afterStep, allowed, leavesZone, noStep, step}
+use Rattle.field.specs.Zone.{holds_enemy, holds_neutral}
+use Rattle.march.specs.Move.{Leg, leg, after_step, allowed, leaves_zone, no_step, step}
 use Rattle.march.specs.Judged.{Onward, PathOf}
 use Rattle.march.specs.declared.Path.{Path}
 use Rattle.march.specs.declared.Path.TheVariants as P
 
 -- the tests of a step, in their order
 module _ (p : List ℕ) (b : Board) (u : ℕ) (l : Leg) (x k : ℕ) where
-  pub stops-zone : leavesZone b u l k ≡ true → Stops p (step b u l x k) 9 k
+  pub stops_zone : leaves_zone b u l k ≡ true → Stops p (step b u l x k) 9 k
   unfolding step
-  stops-zone e m v = stop e
+  stops_zone e m v = stop e
 
-  pub stops-ground : leavesZone b u l k ≡ false → noStep b l.at x ≡ true → Stops p (step b u l x k) 7 k
+  pub stops_ground : leaves_zone b u l k ≡ false → no_step b l.at x ≡ true → Stops p (step b u l x k) 7 k
   unfolding step
-  stops-ground e f m v = pass e (stop f)
+  stops_ground e f m v = pass e (stop f)
 
   pub stops-enemy :
-      leavesZone b u l k ≡ false → noStep b l.at x ≡ false → holdsEnemy (scene b) (forceOf b u) x ≡ true
+      leaves_zone b u l k ≡ false → no_step b l.at x ≡ false → holds_enemy (scene b) (force_of b u) x ≡ true
       → Stops p (step b u l x k) 8 k
   unfolding step
   stops-enemy e f g m v = pass e (pass f (stop g))
 
   pub stops-neutral :
-      leavesZone b u l k ≡ false → noStep b l.at x ≡ false → holdsEnemy (scene b) (forceOf b u) x ≡ false
-      → holdsNeutral (scene b) (forceOf b u) x ≡ true
+      leaves_zone b u l k ≡ false → no_step b l.at x ≡ false → holds_enemy (scene b) (force_of b u) x ≡ false
+      → holds_neutral (scene b) (force_of b u) x ≡ true
       → Stops p (step b u l x k) 18 k
   unfolding step
   stops-neutral e f g n m v = pass e (pass f (pass g (stop n)))
 
   -- the tests before the last, passed
   pub record Open : Type 0 where
-    pub zone : leavesZone b u l k ≡ false
-    pub ground : noStep b l.at x ≡ false
-    pub foe : holdsEnemy (scene b) (forceOf b u) x ≡ false
-    pub neutral : holdsNeutral (scene b) (forceOf b u) x ≡ false
+    pub zone : leaves_zone b u l k ≡ false
+    pub ground : no_step b l.at x ≡ false
+    pub foe : holds_enemy (scene b) (force_of b u) x ≡ false
+    pub neutral : holds_neutral (scene b) (force_of b u) x ≡ false
 
-  pub stops-spent : Open → allowed b u < (afterStep b l x).spent → Stops p (step b u l x k) 10 k
+  pub stops_spent : Open → allowed b u < (after_step b l x).spent → Stops p (step b u l x k) 10 k
   unfolding step
-  stops-spent o h m v =
-      pass o.zone (pass o.ground (pass o.foe (pass o.neutral (stop (lt-ltb (allowed b u) (afterStep b l x).spent h)))))
+  stops_spent o h m v =
+      pass o.zone (pass o.ground (pass o.foe (pass o.neutral (stop (lt-ltb (allowed b u) (after_step b l x).spent h)))))
 
-  pub passes-step : Open → (afterStep b l x).spent ≤ allowed b u → Passes p (step b u l x k)
+  pub passes_step : Open → (after_step b l x).spent ≤ allowed b u → Passes p (step b u l x k)
   unfolding step
-  passes-step o h m v a q r w =
-      pass o.zone (pass o.ground (pass o.foe (pass o.neutral (pass (le-ltb (allowed b u) (afterStep b l x).spent h) w))))
+  passes_step o h m v a q r w =
+      pass o.zone (pass o.ground (pass o.foe (pass o.neutral (pass (le-ltb (allowed b u) (after_step b l x).spent h) w))))
 
 -- past a step, to where it leads and what it comes to
 pub gone-step :
     (b : Board) (u : ℕ) {p path : List ℕ} {i at spent total : ℕ} {there zone : Bool} {first : Leg}
-    → Gone p (step b u) (afterStep b) first path i (leg at spent) → i < length path
-    → Onward p (step b u (leg at spent) (get_or path i 0) (i + 1)) (afterStep b (leg at spent) (get_or path i 0)).spent there total zone
-    → Gone p (step b u) (afterStep b) first path (i + 1) (leg (get_or path i 0) total)
-unfolding afterStep
+    → Gone p (step b u) (after_step b) first path i (leg at spent) → i < length path
+    → Onward p (step b u (leg at spent) (get_or path i 0) (i + 1)) (after_step b (leg at spent) (get_or path i 0)).spent there total zone
+    → Gone p (step b u) (after_step b) first path (i + 1) (leg (get_or path i 0) total)
+unfolding after_step
 gone-step b u {p} {path} {i} {first = first} o l w =
-    subst (λ (n : ℕ). Gone p (step b u) (afterStep b) first path (i + 1) (leg (get_or path i 0) n)) (sym w.is)
+    subst (λ (n : ℕ). Gone p (step b u) (after_step b) first path (i + 1) (leg (get_or path i 0) n)) (sym w.is)
     (gone-more o l w.passes)
 
 -- the answer for the tests of a path, handed on past tests before them

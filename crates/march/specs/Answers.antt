@@ -6,6 +6,6 @@ use Rattle.ruling.specs.Verdict.Ruling.{refused, accepted}
 use Rattle.march.specs.declared.Moved.{Moved}
 use Rattle.march.specs.declared.Moved.TheVariants as M
 
-abbrev pub movedAs : Moved → Ruling
-movedAs M.Done = accepted accepting
-movedAs (M.Refused n k) = refused n k
+abbrev pub moved_as : Moved → Ruling
+moved_as M.Done = accepted accepting
+moved_as (M.Refused n k) = refused n k

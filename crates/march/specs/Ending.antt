@@ -9,7 +9,7 @@ use Rattle.position.specs.Change.Change.{marked}
 use Rattle.field.specs.Scene.{scene}
 use Rattle.supply.specs.Traced.{Traced}
 use Rattle.clock.specs.declared.Clock.{Clock}
-use Rattle.march.specs.EndPhase.{rested, judgedMarks, mappedOf, judgeAll, judgeForce, supplyChanges, endChanges}
+use Rattle.march.specs.EndPhase.{rested, judged_marks, mapped_of, judge_all, judge_force, supply_changes, end_changes}
 
 -- the clock of a board, whose numbers are bytes
 pub record ClockOf (b : Board) (c : Clock) : Type 0 where
@@ -34,23 +34,23 @@ pub record Since (b b' : Board) (n : ℕ) : Type 0 where
 pub record JudgesUnit (p map : List ℕ) (n u : ℕ) (q : List ℕ) : Type 0 where
   pub judged :
       (b : Board) → Waits b (board p) n u → Traced (scene b) n map
-      → q ≡ makes p (cond (mappedOf b n u) (marked u (judgedMarks b u) ∷ []) [])
+      → q ≡ makes p (cond (mapped_of b n u) (marked u (judged_marks b u) ∷ []) [])
   pub scenes : scene (board q) ≡ scene (board p)
 
 -- the units of nationality n below k are judged
 pub record JudgesAll (p : List ℕ) (n k : ℕ) (q : List ℕ) : Type 0 where
-  pub judged : (b : Board) → Since b (board p) n → q ≡ makes p (judgeAll b n k)
+  pub judged : (b : Board) → Since b (board p) n → q ≡ makes p (judge_all b n k)
   pub scenes : scene (board q) ≡ scene (board p)
 
 -- and so are those of force f
 pub record JudgesForce (p : List ℕ) (f : ℕ) (q : List ℕ) : Type 0 where
-  pub judged : (b : Board) → ((n : ℕ) → Since b (board p) n) → q ≡ makes p (judgeForce b f)
+  pub judged : (b : Board) → ((n : ℕ) → Since b (board p) n) → q ≡ makes p (judge_force b f)
 
 -- or of none, as the clock c says
 pub record JudgesPhase (p : List ℕ) (c : Clock) (q : List ℕ) : Type 0 where
-  pub judged : (b : Board) → ((n : ℕ) → Since b (board p) n) → q ≡ makes p (supplyChanges b c)
+  pub judged : (b : Board) → ((n : ℕ) → Since b (board p) n) → q ≡ makes p (supply_changes b c)
 
 -- all that the call changes, and the scratch handed back all 0
 pub record Ended (p q l : List ℕ) : Type 0 where
-  pub made : q ≡ makes p (endChanges (board p))
+  pub made : q ≡ makes p (end_changes (board p))
   pub clear : l ≡ replicate (board p).map.hexes 0

@@ -3,9 +3,9 @@ ghost use Rattle.std.specs.Prelude.{◌≡◌, [], ◌<◌, length};
 ghost use Rattle.position.specs.Board.{board};
 ghost use Rattle.position.specs.Laid.{Laid};
 ghost use Rattle.ruling.specs.Verdict.{Met};
-ghost use Rattle.march.specs.Move.{mayMoveNow, movesIn, forbidden, steps, moveChecks, arrival, moveRule};
+ghost use Rattle.march.specs.Move.{may_move_now, moves_in, forbidden, steps, move_checks, arrival, move_rule};
 ghost use Rattle.march.specs.Judged.{PathOf};
-ghost use Rattle.march.specs.Answers.{movedAs};
+ghost use Rattle.march.specs.Answers.{moved_as};
 
 use clock::phase;
 use field::{listed, unit};
@@ -17,7 +17,7 @@ use ruling::Tested;
 // Whether a move may be made in this stage and phase.
 fn may_move_now(p: &[u8], v: View) -> bool
     requires { Laid p.now v }
-    ensures { result ≡ mayMoveNow (board p.now) }
+    ensures { result ≡ may_move_now (board p.now) }
 {
     if read::stage(p, v) != stage::QUIET {
         return false;
@@ -31,7 +31,7 @@ fn may_move_now(p: &[u8], v: View) -> bool
 
 // Whether a type moves in a phase.
 fn moves_in(phase: usize, kind: usize) -> bool
-    ensures { result ≡ movesIn phase kind }
+    ensures { result ≡ moves_in phase kind }
 {
     if !Kind(kind).moves_by_land() {
         return false;
@@ -78,7 +78,7 @@ fn steps(p: &[u8], v: View, u: usize, path: &[u16]) -> Path
 // All the questions of a move but 11.
 pub fn judge_move(p: &[u8], v: View, u: usize, path: &[u16]) -> Path
     requires { Laid p.now v }
-    ensures { PathOf p.now (moveChecks (board p.now) u path.now) result }
+    ensures { PathOf p.now (move_checks (board p.now) u path.now) result }
 {
     let long = path.len();
     if long < 1 {
@@ -109,7 +109,7 @@ pub fn judge_move(p: &[u8], v: View, u: usize, path: &[u16]) -> Path
 // The move is made, if there is room where it ends.
 fn arrive(p: &mut [u8], v: View, u: usize, h: usize, last: usize) -> Moved
     requires { Laid p.old v }
-    ensures { Met p.old [] (arrival (board p.old) u last h) (movedAs result) p.new [] }
+    ensures { Met p.old [] (arrival (board p.old) u last h) (moved_as result) p.new [] }
 {
     if 3 <= crowd::others(p, v, u, h) {
         return Moved::Refused(11, last);
@@ -123,7 +123,7 @@ fn arrive(p: &mut [u8], v: View, u: usize, h: usize, last: usize) -> Moved
 // The move on a checked position: unit `unit` goes along `path`, hex by hex.
 pub fn move_unit(p: &mut [u8], v: View, unit: usize, path: &[u16]) -> Moved
     requires { Laid p.old v }
-    ensures { Met p.old [] (moveRule (board p.old) unit path.now) (movedAs result) p.new [] }
+    ensures { Met p.old [] (move_rule (board p.old) unit path.now) (moved_as result) p.new [] }
 {
     let way = judge_move(p, v, unit, path);
     match way {

@@ -14,70 +14,70 @@ use lib.Seq.{length-take-le, take_all}
 use Rattle.position.proofs.BitLaws.{low}
 use Rattle.position.proofs.Tallies.{either}
 use Rattle.position.specs.Board.{Board, Chart}
-use Rattle.position.specs.Ground.{majorRiverSide, riverSide, side}
-use Rattle.position.specs.Layout.{majorRiver, river}
+use Rattle.position.specs.Ground.{major_river_side, river_side, side}
+use Rattle.position.specs.Layout.{major_river, river}
 use Rattle.position.specs.Ground.{bearing}
-use Rattle.field.proofs.Lists.{map_last, map-long, take_more}
-use Rattle.odds.specs.Odds.{crossed, defenceMultiple, larger, last, multipleAt, sideMultiple, smaller, smallest, smallestFrom}
+use Rattle.field.proofs.Lists.{map_last, map_long, take_more}
+use Rattle.odds.specs.Odds.{crossed, defence_multiple, larger, last, multiple_at, side_multiple, smaller, smallest, smallest_from}
 
 module _ (m n : ℕ) where
-  pub smaller-first : m ≤ n → smaller m n ≡ m
+  pub smaller_first : m ≤ n → smaller m n ≡ m
   unfolding smaller
-  smaller-first l = simp (le-leb m n l)
+  smaller_first l = simp (le-leb m n l)
 
-  pub smaller-second : n < m → smaller m n ≡ n
+  pub smaller_second : n < m → smaller m n ≡ n
   unfolding smaller
-  smaller-second l = simp (lt-leb m n l)
+  smaller_second l = simp (lt-leb m n l)
 
-  pub larger-second : m ≤ n → larger m n ≡ n
+  pub larger_second : m ≤ n → larger m n ≡ n
   unfolding larger
-  larger-second l = simp (le-leb m n l)
+  larger_second l = simp (le-leb m n l)
 
-  pub larger-first : n < m → larger m n ≡ m
+  pub larger_first : n < m → larger m n ≡ m
   unfolding larger
-  larger-first l = simp (lt-leb m n l)
+  larger_first l = simp (lt-leb m n l)
 
   -- neither is above a limit that both are below
-  pub smaller-below : (k : ℕ) → n < k → smaller m n < k
-  smaller-below k l = either (leb m n) (λ e. omega (arith, smaller-first (leb-true m n e), leb-true m n e)) (λ e. omega (arith, smaller-second (leb-false m n e)))
+  pub smaller_below : (k : ℕ) → n < k → smaller m n < k
+  smaller_below k l = either (leb m n) (λ e. omega (arith, smaller_first (leb-true m n e), leb-true m n e)) (λ e. omega (arith, smaller_second (leb-false m n e)))
 
-  pub larger-below : (k : ℕ) → m < k → n < k → larger m n < k
-  larger-below k h l = either (leb m n) (λ e. omega (arith, larger-second (leb-true m n e))) (λ e. omega (arith, larger-first (leb-false m n e)))
+  pub larger_below : (k : ℕ) → m < k → n < k → larger m n < k
+  larger_below k h l = either (leb m n) (λ e. omega (arith, larger_second (leb-true m n e))) (λ e. omega (arith, larger_first (leb-false m n e)))
 
 -- a river, a major river, and any other side
 module _ (c : Chart) (s : ℕ) where
-  pub multiple-river : s ≡ riverSide → sideMultiple c s ≡ c.multiple river
-  unfolding sideMultiple
-  multiple-river e = simp (eq-eqb s riverSide e)
+  pub multiple_river : s ≡ river_side → side_multiple c s ≡ c.multiple river
+  unfolding side_multiple
+  multiple_river e = simp (eq-eqb s river_side e)
 
-  pub multiple-major : s ≡ majorRiverSide → sideMultiple c s ≡ c.multiple majorRiver
-  unfolding sideMultiple
-  multiple-major e = simp (ne_eqb s riverSide (λ f. omega arith), eq-eqb s majorRiverSide e)
+  pub multiple_major : s ≡ major_river_side → side_multiple c s ≡ c.multiple major_river
+  unfolding side_multiple
+  multiple_major e = simp (ne_eqb s river_side (λ f. omega arith), eq-eqb s major_river_side e)
 
-  pub multiple-none : (s ≡ riverSide → ⊥) → (s ≡ majorRiverSide → ⊥) → sideMultiple c s ≡ 0
-  unfolding sideMultiple
-  multiple-none e f = simp (ne_eqb s riverSide e, ne_eqb s majorRiverSide f)
+  pub multiple_none : (s ≡ river_side → ⊥) → (s ≡ major_river_side → ⊥) → side_multiple c s ≡ 0
+  unfolding side_multiple
+  multiple_none e f = simp (ne_eqb s river_side e, ne_eqb s major_river_side f)
 
 -- what an attacker crosses, read
 pub crossed-read :
-    (b : Board) (target u : ℕ) {h d s r : ℕ} → h ≡ b.units.state.hex u → d ≡ bearing b.map h target → s ≡ side b.map h d → r ≡ sideMultiple b.chart s
+    (b : Board) (target u : ℕ) {h d s r : ℕ} → h ≡ b.units.state.hex u → d ≡ bearing b.map h target → s ≡ side b.map h d → r ≡ side_multiple b.chart s
     → r ≡ crossed b target u
 unfolding crossed
 crossed-read b target u {h} {d} e f g k =
     k
-    ∙ ap (sideMultiple b.chart)
+    ∙ ap (side_multiple b.chart)
     (g ∙ ap (side b.map h) f ∙ ap (λ (x : ℕ). side b.map x (bearing b.map x target)) e)
 
 -- the smallest of a list, and of one more
-smallest-from : (m : ℕ) (xs : List ℕ) (x : ℕ) → smallestFrom m (xs ++ (x ∷ [])) ≡ smaller x (smallestFrom m xs)
-unfolding smallestFrom
-smallest-from m [] x = refl
-smallest-from m (y ∷ ys) x = smallest-from (smaller y m) ys x
+smallest_from_lem : (m : ℕ) (xs : List ℕ) (x : ℕ) → smallest_from m (xs ++ (x ∷ [])) ≡ smaller x (smallest_from m xs)
+unfolding smallest_from
+smallest_from_lem m [] x = refl
+smallest_from_lem m (y ∷ ys) x = smallest_from_lem (smaller y m) ys x
 
-smallest-last : (xs : List ℕ) (x : ℕ) → 1 ≤ length xs → smallest (xs ++ (x ∷ [])) ≡ smaller x (smallest xs)
+smallest_last : (xs : List ℕ) (x : ℕ) → 1 ≤ length xs → smallest (xs ++ (x ∷ [])) ≡ smaller x (smallest xs)
 unfolding smallest
-smallest-last [] x l = absurd (omega arith)
-smallest-last (y ∷ ys) x l = smallest-from y ys x
+smallest_last [] x l = absurd (omega arith)
+smallest_last (y ∷ ys) x l = smallest_from_lem y ys x
 
 -- the smallest that f makes of the first i
 pub record Lowest (f : ℕ → ℕ) (us : List ℕ) (i low : ℕ) : Type 0 where
@@ -86,9 +86,9 @@ pub record Lowest (f : ℕ → ℕ) (us : List ℕ) (i low : ℕ) : Type 0 where
   pub is : low ≡ smallest (map f (take i us))
   pub small : low < 256
 
-pub lowest-first : {f : ℕ → ℕ} {us : List ℕ} {low : ℕ} → 1 ≤ length us → low ≡ f (get_or us 0 0) → low < 256 → Lowest f us 1 low
-unfolding smallest smallestFrom
-lowest-first {f} {us} l e s =
+pub lowest_first : {f : ℕ → ℕ} {us : List ℕ} {low : ℕ} → 1 ≤ length us → low ≡ f (get_or us 0 0) → low < 256 → Lowest f us 1 low
+unfolding smallest smallest_from
+lowest_first {f} {us} l e s =
     record {
       most = l;
       some = omega arith;
@@ -109,12 +109,12 @@ lowest-more {f} {us} {i} {low} {x} {r} o l e s g =
           ∙ sym
           (ap (λ (l : List ℕ). smallest (map f l)) (take_more us i l)
           ∙ ap smallest (map_last f (take i us) (get_or us i 0))
-          ∙ smallest-last (map f (take i us)) (f (get_or us i 0)) (omega (arith, map-long f (take i us), length-take-le i us o.most, o.some)));
-      small = rw g (smaller-below x low 256 o.small);
+          ∙ smallest_last (map f (take i us)) (f (get_or us i 0)) (omega (arith, map_long f (take i us), length-take-le i us o.most, o.some)));
+      small = rw g (smaller_below x low 256 o.small);
     }
 
-pub lowest-all : {f : ℕ → ℕ} {us : List ℕ} {i low : ℕ} → Lowest f us i low → length us ≤ i → low ≡ smallest (map f us)
-lowest-all {f} {us} {i} o l = o.is ∙ ap (λ (x : List ℕ). smallest (map f x)) (take_all i us l)
+pub lowest_all : {f : ℕ → ℕ} {us : List ℕ} {i low : ℕ} → Lowest f us i low → length us ≤ i → low ≡ smallest (map f us)
+lowest_all {f} {us} {i} o l = o.is ∙ ap (λ (x : List ℕ). smallest (map f x)) (take_all i us l)
 
 -- the last number below n that passes, of those below i
 pub record Highest (t : ℕ → Bool) (i n k : ℕ) : Type 0 where
@@ -123,41 +123,41 @@ pub record Highest (t : ℕ → Bool) (i n k : ℕ) : Type 0 where
   pub small : k < i + 1
 
 module _ {t : ℕ → Bool} {n : ℕ} where
-  pub highest-none : Highest t 0 n 0
+  pub highest_none : Highest t 0 n 0
   unfolding last
-  highest-none = record { most = omega arith; is = refl; small = omega arith }
+  highest_none = record { most = omega arith; is = refl; small = omega arith }
 
-  pub highest-hit : {i k m : ℕ} → Highest t i n k → i < n → t i ≡ true → m ≡ i → Highest t (i + 1) n m
+  pub highest_hit : {i k m : ℕ} → Highest t i n k → i < n → t i ≡ true → m ≡ i → Highest t (i + 1) n m
   unfolding last
-  highest-hit {i} o l e f = record { most = omega arith; is = f ∙ rw (add-one i) (simp e); small = omega arith }
+  highest_hit {i} o l e f = record { most = omega arith; is = f ∙ rw (add-one i) (simp e); small = omega arith }
 
-  pub highest-miss : {i k m : ℕ} → Highest t i n k → i < n → t i ≡ false → m ≡ k → Highest t (i + 1) n m
+  pub highest_miss : {i k m : ℕ} → Highest t i n k → i < n → t i ≡ false → m ≡ k → Highest t (i + 1) n m
   unfolding last
-  highest-miss {i} o l e f = record { most = omega arith; is = f ∙ rw (add-one i) (simp e o.is); small = omega (arith, o.small) }
+  highest_miss {i} o l e f = record { most = omega arith; is = f ∙ rw (add-one i) (simp e o.is); small = omega (arith, o.small) }
 
-  pub highest-all : {i k m : ℕ} → Highest t i n k → n ≤ i → n ≡ m → k ≡ last t m
-  highest-all {i} {k} {m} o l e = let f : i ≡ m = omega (arith, o.most) in o.is ∙ ap (last t) f
+  pub highest_all : {i k m : ℕ} → Highest t i n k → n ≤ i → n ≡ m → k ≡ last t m
+  highest_all {i} {k} {m} o l e = let f : i ≡ m = omega (arith, o.most) in o.is ∙ ap (last t) f
 
 -- the last of some numbers is one of them
-last-below : (t : ℕ → Bool) (n : ℕ) → last t (suc n) < suc n
+last_below : (t : ℕ → Bool) (n : ℕ) → last t (suc n) < suc n
 unfolding last
-last-below t zero = either (t 0) (λ e. simp e (omega arith)) (λ e. simp e (omega arith))
-last-below t (suc n) =
-    let h = last-below t n in
+last_below t zero = either (t 0) (λ e. simp e (omega arith)) (λ e. simp e (omega arith))
+last_below t (suc n) =
+    let h = last_below t n in
     either (t (suc n)) (λ e. simp e (omega arith)) (λ e. simp e (omega arith))
 
-pub last-small : (t : ℕ → Bool) (n : ℕ) → 1 ≤ n → last t n < n
-last-small t zero l = absurd (omega arith)
-last-small t (suc n) l = last-below t n
+pub last_small : (t : ℕ → Bool) (n : ℕ) → 1 ≤ n → last t n < n
+last_small t zero l = absurd (omega arith)
+last_small t (suc n) l = last_below t n
 
 -- products of odds and strengths fit
-pub product-fits : {m n : ℕ} → m < 256 → n < 16777216 → m * n < 18446744073709551616
-product-fits {m} {n} l k = let a : m ≤ 255 = omega arith in let b : n ≤ 16777215 = omega arith in let e : m * n ≤ 255 * 16777215 = mul-le-mul a b in omega arith
+pub product_fits : {m n : ℕ} → m < 256 → n < 16777216 → m * n < 18446744073709551616
+product_fits {m} {n} l k = let a : m ≤ 255 = omega arith in let b : n ≤ 16777215 = omega arith in let e : m * n ≤ 255 * 16777215 = mul-le-mul a b in omega arith
 
-pub product-fits-too : {m n : ℕ} → m < 16777216 → n < 256 → m * n < 18446744073709551616
-product-fits-too {m} {n} l k = let a : m ≤ 16777215 = omega arith in let b : n ≤ 255 = omega arith in let e : m * n ≤ 16777215 * 255 = mul-le-mul a b in omega arith
+pub product_fits_too : {m n : ℕ} → m < 16777216 → n < 256 → m * n < 18446744073709551616
+product_fits_too {m} {n} l k = let a : m ≤ 16777215 = omega arith in let b : n ≤ 255 = omega arith in let e : m * n ≤ 16777215 * 255 = mul-le-mul a b in omega arith
 
 -- the defence multiple, read
-pub multiple-read : (b : Board) (target : ℕ) (units : List ℕ) {t s r : ℕ} → t ≡ b.chart.multiple (b.map.terrain target) → s ≡ smallest (map (crossed b target) units) → r ≡ larger t s → r ≡ multipleAt b target units
-unfolding multipleAt defenceMultiple
-multiple-read b target units e f g = g ∙ ap₂ larger e f
+pub multiple_read : (b : Board) (target : ℕ) (units : List ℕ) {t s r : ℕ} → t ≡ b.chart.multiple (b.map.terrain target) → s ≡ smallest (map (crossed b target) units) → r ≡ larger t s → r ≡ multiple_at b target units
+unfolding multiple_at defence_multiple
+multiple_read b target units e f g = g ∙ ap₂ larger e f

@@ -4,42 +4,42 @@ use Rattle.std.specs.Prelude.{ℕ, ◌+◌, cond, List, [], ◌∷◌, map, eqb}
 use Rattle.grid.specs.Rulings.{Row, row}
 use Rattle.position.specs.Layout.{river}
 use Rattle.position.specs.Board.{Chart, Results}
-use Rattle.position.specs.Ground.{riverSide, majorRiverSide}
+use Rattle.position.specs.Ground.{river_side, major_river_side}
 use Rattle.field.specs.Working.{half}
-use Rattle.odds.specs.Odds.{smaller, larger, sideMultiple, smallestFrom, smallest, defenceMultiple, reached, last, column}
+use Rattle.odds.specs.Odds.{smaller, larger, side_multiple, smallest_from, smallest, defence_multiple, reached, last, column}
 
 -- 'unfolding oddsOpen' opens the odds, for a row that is to be computed
-unfoldable pub oddsOpen : ℕ
-unfolding half smaller larger sideMultiple smallestFrom smallest defenceMultiple reached last column
-oddsOpen = 0
+unfoldable pub odds_open : ℕ
+unfolding half smaller larger side_multiple smallest_from smallest defence_multiple reached last column
+odds_open = 0
 
 -- "columns 1:1, 2:1, 3:1"
-abbrev pub threeColumns : Results
-threeColumns = record { columns = 3; attack = λ c. c + 1; defence = λ c. 1; code = λ c die. 1 }
+abbrev pub three_columns : Results
+three_columns = record { columns = 3; attack = λ c. c + 1; defence = λ c. 1; code = λ c die. 1 }
 
 -- the column of these odds, counted from 1
-abbrev pub columnFor : ℕ → ℕ → ℕ
-columnFor attack defence = column threeColumns attack defence + 1
+abbrev pub column_for : ℕ → ℕ → ℕ
+column_for attack defence = column three_columns attack defence + 1
 
 -- a river of multiple 2 and a major river of multiple 3, and a side without
 abbrev pub rivers : Chart
 rivers = record { cost = λ t. 1; multiple = λ t. cond (eqb t river) 2 3 }
 
-abbrev pub plainSide : ℕ
-plainSide = 0
+abbrev pub plain_side : ℕ
+plain_side = 0
 
 -- the defence multiple for a terrain's, with attackers over these sides
-abbrev pub multipleFor : ℕ → List ℕ → ℕ
-multipleFor terrain sides = defenceMultiple terrain (map (sideMultiple rivers) sides)
+abbrev pub multiple_for : ℕ → List ℕ → ℕ
+multiple_for terrain sides = defence_multiple terrain (map (side_multiple rivers) sides)
 
 -- "columns 1:1, 2:1, 3:1 give 26:9 2:1, 27:9 3:1, 8:9 1:1; halves of 5, 1, 4 are 3, 1, 2; side multiples 2 and 3, terrain 1: 2;
 -- a plain side, terrain 3: 3"
-abbrev pub oddsRows : List Row
-oddsRows =
-    row (columnFor 26 9) 2 ∷
-    row (columnFor 27 9) 3 ∷
-    row (columnFor 8 9) 1 ∷
+abbrev pub odds_rows : List Row
+odds_rows =
+    row (column_for 26 9) 2 ∷
+    row (column_for 27 9) 3 ∷
+    row (column_for 8 9) 1 ∷
     row (map half (5 ∷ 1 ∷ 4 ∷ [])) (3 ∷ 1 ∷ 2 ∷ []) ∷
-    row (multipleFor 1 (riverSide ∷ majorRiverSide ∷ [])) 2 ∷
-    row (multipleFor 3 (plainSide ∷ [])) 3 ∷
+    row (multiple_for 1 (river_side ∷ major_river_side ∷ [])) 2 ∷
+    row (multiple_for 3 (plain_side ∷ [])) 3 ∷
     []

@@ -2,7 +2,7 @@
 ghost use Rattle.std.specs.Prelude.{◌≡◌, map, ◌<◌, ◌≤◌, length};
 ghost use Rattle.position.specs.Board.{board, chart, results, ground};
 ghost use Rattle.position.specs.Laid.{Laid, Read};
-ghost use Rattle.odds.specs.Odds.{smaller, larger, sideMultiple, crossed, smallest, multipleAt, reached, column};
+ghost use Rattle.odds.specs.Odds.{smaller, larger, side_multiple, crossed, smallest, multiple_at, reached, column};
 ghost use Rattle.odds.specs.Adjacent.{Adjacent, AllAdjacent};
 
 use position::{View, layout, read};
@@ -30,7 +30,7 @@ fn larger(m: usize, n: usize) -> usize
 
 fn side_multiple(p: &[u8], v: View, s: usize) -> usize
     requires { Laid p.now v }
-    ensures { Read (sideMultiple (chart p.now) s) 256 result }
+    ensures { Read (side_multiple (chart p.now) s) 256 result }
 {
     if s == ground::RIVER {
         return read::multiple(p, v, layout::RIVER);
@@ -66,7 +66,7 @@ fn smallest(p: &[u8], v: View, target: usize, units: &[u16]) -> usize
 // What multiplies the defence: the larger of the terrain's multiple and the smallest that the attackers cross.
 pub fn multiple_at(p: &[u8], v: View, target: usize, units: &[u16]) -> usize
     requires { Laid p.now v × (1 ≤ length units.now) × AllAdjacent (board p.now) target units.now }
-    ensures { Read (multipleAt (board p.now) target units.now) 256 result }
+    ensures { Read (multiple_at (board p.now) target units.now) 256 result }
 {
     let terrain = read::multiple(p, v, read::terrain(p, v, target));
     larger(terrain, smallest(p, v, target, units))

@@ -1,7 +1,7 @@
 // Friends near the start of a retreat, who might be pushed out of its road.
 ghost use Rattle.std.specs.Prelude.{◌≡◌, ◌<◌, length, set};
 ghost use Rattle.position.specs.Tally.{any};
-ghost use Rattle.routes.specs.Outlook.{friendly, friendlyAt};
+ghost use Rattle.routes.specs.Outlook.{friendly, friendly_at};
 
 use position::{bits, layout};
 
@@ -24,7 +24,7 @@ fn friendly(m: usize) -> bool
 // Whether a place of the window shows such a hex. All are looked at: that is faster than to stop at the first.
 fn any_friendly(painted: &[u8]) -> bool
     requires { length painted.now ≡ 56 }
-    ensures { result ≡ any (friendlyAt painted.now) 56 }
+    ensures { result ≡ any (friendly_at painted.now) 56 }
 {
     let mut found = false;
     for i in 0..PLACES {
@@ -38,7 +38,7 @@ fn any_friendly(painted: &[u8]) -> bool
 // Whether a place other than `home` does: the start's own, which no route enters, is blotted out first.
 pub fn near(painted: &mut [u8], home: usize) -> bool
     requires { (length painted.old ≡ 56) × (home < 56) }
-    ensures { result ≡ any (friendlyAt (set painted.old home 0)) 56 }
+    ensures { result ≡ any (friendly_at (set painted.old home 0)) 56 }
 {
     painted[home] = 0;
     any_friendly(painted)

@@ -5,7 +5,7 @@ ghost use Rattle.position.specs.Board.{board, ground};
 ghost use Rattle.position.specs.Laid.{Laid};
 ghost use Rattle.field.specs.Scene.{scene};
 ghost use Rattle.paint.specs.Room.{Room, StandsAt};
-ghost use Rattle.paint.specs.Paint.{inZone, castsAgainst, Adds, castTo, reaches, part};
+ghost use Rattle.paint.specs.Paint.{in_zone, casts_against, Adds, cast_to, reaches, part};
 
 use crate::ink;
 use position::kind::Kind;
@@ -18,7 +18,7 @@ const ALL_SEA: usize = 2;
 // The zone of a caster on the spot over the hex in direction `d`.
 fn over(p: &[u8], v: View, at: Region, s: Spot, d: usize, buf: &mut [u8])
     requires { Laid p.now v × Room at buf.old × SpotOf v.width v.height s × (d < 6) }
-    ensures { Adds v.width v.height at (castTo (ground p.now) s.hex d) buf.old buf.new }
+    ensures { Adds v.width v.height at (cast_to (ground p.now) s.hex d) buf.old buf.new }
 {
     let Nearby::At(t) = near::near(v.width, v.height, s, d) else {
         return;
@@ -45,7 +45,7 @@ fn around(p: &[u8], v: View, at: Region, s: Spot, buf: &mut [u8])
 // Whether unit `u` casts a zone against force `f`.
 fn casts_against(p: &[u8], v: View, f: usize, u: usize) -> bool
     requires { Laid p.now v }
-    ensures { result ≡ castsAgainst (scene (board p.now)) f u }
+    ensures { result ≡ casts_against (scene (board p.now)) f u }
 {
     let g = forces::force_of(p, v, u);
     if layout::FORCES <= g {
@@ -60,7 +60,7 @@ fn casts_against(p: &[u8], v: View, f: usize, u: usize) -> bool
 // The zone that unit `u` on the spot casts against force `f`, if it does.
 pub fn cast(p: &[u8], v: View, at: Region, f: usize, u: usize, s: Spot, buf: &mut [u8])
     requires { Laid p.now v × Room at buf.old × StandsAt p.now v u s }
-    ensures { Adds v.width v.height at (part (scene (board p.now)) f inZone u) buf.old buf.new }
+    ensures { Adds v.width v.height at (part (scene (board p.now)) f in_zone u) buf.old buf.new }
 {
     if casts_against(p, v, f, u) {
         around(p, v, at, s, buf);

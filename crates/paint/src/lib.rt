@@ -9,7 +9,7 @@ ghost use Rattle.position.specs.Laid.{Laid};
 ghost use Rattle.field.specs.Scene.{scene};
 ghost use Rattle.survey.specs.Region.{Before, Past};
 ghost use Rattle.paint.specs.Room.{Room};
-ghost use Rattle.paint.specs.Paint.{Adds, Shows, Marked, says, saysBelow};
+ghost use Rattle.paint.specs.Paint.{Adds, Shows, Marked, says, says_below};
 
 use position::{View, layout, read};
 use survey::region::Region;
@@ -70,7 +70,7 @@ fn paint_unit(
 // What the units show to force `f` in the region: one pass over them.
 fn paint_units(p: &[u8], v: View, at: Region, f: usize, from: usize, to: usize, buf: &mut [u8])
     requires { Laid p.now v × Room at buf.old × Before v.width v.height at from × Past v.width v.height at to }
-    ensures { Adds v.width v.height at (saysBelow (scene (board p.now)) f v.count) buf.old buf.new }
+    ensures { Adds v.width v.height at (says_below (scene (board p.now)) f v.count) buf.old buf.new }
 {
     let count = v.count;
     for u in 0..count {

@@ -3,7 +3,7 @@ ghost use Rattle.position.specs.Board.{board};
 ghost use Rattle.position.specs.Laid.{Laid};
 ghost use Rattle.field.specs.Scene.{scene};
 ghost use Rattle.paint.specs.Room.{Room, StandsAt};
-ghost use Rattle.paint.specs.Paint.{byEnemy, byOwn, byDepot, Adds, part, stands};
+ghost use Rattle.paint.specs.Paint.{by_enemy, by_own, by_depot, Adds, part, stands};
 
 use crate::ink;
 use position::kind::Kind;
@@ -13,7 +13,7 @@ use survey::region::Region;
 
 fn enemy(p: &[u8], v: View, at: Region, f: usize, u: usize, s: Spot, buf: &mut [u8])
     requires { Laid p.now v × Room at buf.old × StandsAt p.now v u s }
-    ensures { Adds v.width v.height at (part (scene (board p.now)) f byEnemy u) buf.old buf.new }
+    ensures { Adds v.width v.height at (part (scene (board p.now)) f by_enemy u) buf.old buf.new }
 {
     if forces::enemy(p, v, f, forces::force_of(p, v, u)) {
         ink::stamp(v, at, s, crate::ENEMY, buf);
@@ -22,7 +22,7 @@ fn enemy(p: &[u8], v: View, at: Region, f: usize, u: usize, s: Spot, buf: &mut [
 
 fn own(p: &[u8], v: View, at: Region, f: usize, u: usize, s: Spot, buf: &mut [u8])
     requires { Laid p.now v × Room at buf.old × StandsAt p.now v u s }
-    ensures { Adds v.width v.height at (part (scene (board p.now)) f byOwn u) buf.old buf.new }
+    ensures { Adds v.width v.height at (part (scene (board p.now)) f by_own u) buf.old buf.new }
 {
     if forces::force_of(p, v, u) == f {
         ink::stamp(v, at, s, crate::OWN, buf);
@@ -31,7 +31,7 @@ fn own(p: &[u8], v: View, at: Region, f: usize, u: usize, s: Spot, buf: &mut [u8
 
 fn depot(p: &[u8], v: View, at: Region, f: usize, u: usize, s: Spot, buf: &mut [u8])
     requires { Laid p.now v × Room at buf.old × StandsAt p.now v u s }
-    ensures { Adds v.width v.height at (part (scene (board p.now)) f byDepot u) buf.old buf.new }
+    ensures { Adds v.width v.height at (part (scene (board p.now)) f by_depot u) buf.old buf.new }
 {
     if forces::force_of(p, v, u) != f {
         return;

@@ -4,7 +4,7 @@ ghost use Rattle.position.specs.Board.{board};
 ghost use Rattle.position.specs.Change.{makes};
 ghost use Rattle.position.specs.Change.Change.{assigned};
 ghost use Rattle.position.specs.Laid.{Laid};
-ghost use Rattle.aftermath.specs.Stage.{reassigned, passesOn};
+ghost use Rattle.aftermath.specs.Stage.{reassigned, passes_on};
 
 use position::{View, read, role, stage};
 
@@ -33,7 +33,7 @@ pub fn reassign(p: &mut [u8], v: View, from: usize, to: usize)
 // The stage that follows, once a call's own changes are written.
 pub fn pass_on(p: &mut [u8], v: View)
     requires { Laid p.old v }
-    ensures { p.new ≡ makes p.old (passesOn (board p.old)) }
+    ensures { p.new ≡ makes p.old (passes_on (board p.old)) }
 {
     if crowd::holders(p, v, role::OWES) != 0 {
         return;

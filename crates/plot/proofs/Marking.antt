@@ -10,22 +10,22 @@ use lib.Seq.{get_or-set_same, get_or-set_other}
 use Rattle.position.specs.Bits.{has}
 use Rattle.position.specs.Layout.{byte}
 use Rattle.position.proofs.Tallies.{same_or}
-use Rattle.position.proofs.BitLaws.{bit-off, bit-there, bit-same}
-use Rattle.plot.specs.Plot.{sideBit}
-use Rattle.plot.specs.Ends.{bit_of, markIn, MarkSet}
+use Rattle.position.proofs.BitLaws.{bit_off, bit_there, bit_same}
+use Rattle.plot.specs.Plot.{side_bit}
+use Rattle.plot.specs.Ends.{bit_of, mark_in, MarkSet}
 
 -- no mark is in 0
-pub has-none : (j : ℕ) → has (bit_of j) 0 ≡ false
+pub has_none : (j : ℕ) → has (bit_of j) 0 ≡ false
 unfolding has
-has-none zero = refl
-has-none (suc zero) = refl
-has-none (suc (suc zero)) = refl
-has-none (suc (suc (suc zero))) = refl
-has-none (suc (suc (suc (suc zero)))) = refl
-has-none (suc (suc (suc (suc (suc zero))))) = refl
-has-none (suc (suc (suc (suc (suc (suc zero)))))) = refl
-has-none (suc (suc (suc (suc (suc (suc (suc zero))))))) = refl
-has-none (suc (suc (suc (suc (suc (suc (suc (suc j)))))))) = refl
+has_none zero = refl
+has_none (suc zero) = refl
+has_none (suc (suc zero)) = refl
+has_none (suc (suc (suc zero))) = refl
+has_none (suc (suc (suc (suc zero)))) = refl
+has_none (suc (suc (suc (suc (suc zero))))) = refl
+has_none (suc (suc (suc (suc (suc (suc zero)))))) = refl
+has_none (suc (suc (suc (suc (suc (suc (suc zero))))))) = refl
+has_none (suc (suc (suc (suc (suc (suc (suc (suc j)))))))) = refl
 
 -- a number below eight, one by one
 below-8 :
@@ -41,19 +41,19 @@ below-8 t a b c d e f g h (suc (suc (suc (suc (suc (suc (suc zero))))))) l = h
 below-8 t a b c d e f g h (suc (suc (suc (suc (suc (suc (suc (suc j)))))))) l = absurd (omega arith)
 
 -- the first two bits, and those that directions have too
-pub bit-low : (j : ℕ) → j < 2 → j + 1 ≡ bit_of j
-bit-low zero l = refl
-bit-low (suc zero) l = refl
-bit-low (suc (suc j)) l = absurd (omega arith)
+pub bit_low : (j : ℕ) → j < 2 → j + 1 ≡ bit_of j
+bit_low zero l = refl
+bit_low (suc zero) l = refl
+bit_low (suc (suc j)) l = absurd (omega arith)
 
-pub bit-side : (j : ℕ) → j < 6 → sideBit j ≡ bit_of (j + 2)
-bit-side zero l = refl
-bit-side (suc zero) l = refl
-bit-side (suc (suc zero)) l = refl
-bit-side (suc (suc (suc zero))) l = refl
-bit-side (suc (suc (suc (suc zero)))) l = refl
-bit-side (suc (suc (suc (suc (suc zero))))) l = refl
-bit-side (suc (suc (suc (suc (suc (suc j)))))) l = absurd (omega arith)
+pub bit_side : (j : ℕ) → j < 6 → side_bit j ≡ bit_of (j + 2)
+bit_side zero l = refl
+bit_side (suc zero) l = refl
+bit_side (suc (suc zero)) l = refl
+bit_side (suc (suc (suc zero))) l = refl
+bit_side (suc (suc (suc (suc zero)))) l = refl
+bit_side (suc (suc (suc (suc (suc zero))))) l = refl
+bit_side (suc (suc (suc (suc (suc (suc j)))))) l = absurd (omega arith)
 
 -- on a byte m without a mark
 module _ (m : ℕ) where
@@ -76,65 +76,65 @@ module _ (m : ℕ) where
   higher : (n k : ℕ) → n / k ≡ m / k → n / k % 2 ≡ m / k % 2
   higher n k e = ap (λ (x : ℕ). x % 2) e
 
-  stays-0 : (j : ℕ) → j < 8 → Stays 0 j
-  stays-0 = below-8 (Stays 0) (λ d e. absurd (d refl)) (λ d e. higher (m + 1) 2 (omega arith)) (λ d e. higher (m + 1) 4 (omega arith)) (λ d e. higher (m + 1) 8 (omega arith)) (λ d e. higher (m + 1) 16 (omega arith)) (λ d e. higher (m + 1) 32 (omega arith)) (λ d e. higher (m + 1) 64 (omega arith)) (λ d e. higher (m + 1) 128 (omega arith))
+  stays_0 : (j : ℕ) → j < 8 → Stays 0 j
+  stays_0 = below-8 (Stays 0) (λ d e. absurd (d refl)) (λ d e. higher (m + 1) 2 (omega arith)) (λ d e. higher (m + 1) 4 (omega arith)) (λ d e. higher (m + 1) 8 (omega arith)) (λ d e. higher (m + 1) 16 (omega arith)) (λ d e. higher (m + 1) 32 (omega arith)) (λ d e. higher (m + 1) 64 (omega arith)) (λ d e. higher (m + 1) 128 (omega arith))
 
-  stays-1 : (j : ℕ) → j < 8 → Stays 1 j
-  stays-1 = below-8 (Stays 1) (λ d e. omega arith) (λ d e. absurd (d refl)) (λ d e. higher (m + 2) 4 (omega arith)) (λ d e. higher (m + 2) 8 (omega arith)) (λ d e. higher (m + 2) 16 (omega arith)) (λ d e. higher (m + 2) 32 (omega arith)) (λ d e. higher (m + 2) 64 (omega arith)) (λ d e. higher (m + 2) 128 (omega arith))
+  stays_1 : (j : ℕ) → j < 8 → Stays 1 j
+  stays_1 = below-8 (Stays 1) (λ d e. omega arith) (λ d e. absurd (d refl)) (λ d e. higher (m + 2) 4 (omega arith)) (λ d e. higher (m + 2) 8 (omega arith)) (λ d e. higher (m + 2) 16 (omega arith)) (λ d e. higher (m + 2) 32 (omega arith)) (λ d e. higher (m + 2) 64 (omega arith)) (λ d e. higher (m + 2) 128 (omega arith))
 
-  stays-2 : (j : ℕ) → j < 8 → Stays 2 j
-  stays-2 = below-8 (Stays 2) (λ d e. omega arith) (λ d e. omega arith) (λ d e. absurd (d refl)) (λ d e. higher (m + 4) 8 (omega arith)) (λ d e. higher (m + 4) 16 (omega arith)) (λ d e. higher (m + 4) 32 (omega arith)) (λ d e. higher (m + 4) 64 (omega arith)) (λ d e. higher (m + 4) 128 (omega arith))
+  stays_2 : (j : ℕ) → j < 8 → Stays 2 j
+  stays_2 = below-8 (Stays 2) (λ d e. omega arith) (λ d e. omega arith) (λ d e. absurd (d refl)) (λ d e. higher (m + 4) 8 (omega arith)) (λ d e. higher (m + 4) 16 (omega arith)) (λ d e. higher (m + 4) 32 (omega arith)) (λ d e. higher (m + 4) 64 (omega arith)) (λ d e. higher (m + 4) 128 (omega arith))
 
-  stays-3 : (j : ℕ) → j < 8 → Stays 3 j
-  stays-3 = below-8 (Stays 3) (λ d e. omega arith) (λ d e. omega arith) (λ d e. omega arith) (λ d e. absurd (d refl)) (λ d e. higher (m + 8) 16 (omega arith)) (λ d e. higher (m + 8) 32 (omega arith)) (λ d e. higher (m + 8) 64 (omega arith)) (λ d e. higher (m + 8) 128 (omega arith))
+  stays_3 : (j : ℕ) → j < 8 → Stays 3 j
+  stays_3 = below-8 (Stays 3) (λ d e. omega arith) (λ d e. omega arith) (λ d e. omega arith) (λ d e. absurd (d refl)) (λ d e. higher (m + 8) 16 (omega arith)) (λ d e. higher (m + 8) 32 (omega arith)) (λ d e. higher (m + 8) 64 (omega arith)) (λ d e. higher (m + 8) 128 (omega arith))
 
-  stays-4 : (j : ℕ) → j < 8 → Stays 4 j
-  stays-4 = below-8 (Stays 4) (λ d e. omega arith) (λ d e. omega arith) (λ d e. omega arith) (λ d e. omega arith) (λ d e. absurd (d refl)) (λ d e. higher (m + 16) 32 (omega arith)) (λ d e. higher (m + 16) 64 (omega arith)) (λ d e. higher (m + 16) 128 (omega arith))
+  stays_4 : (j : ℕ) → j < 8 → Stays 4 j
+  stays_4 = below-8 (Stays 4) (λ d e. omega arith) (λ d e. omega arith) (λ d e. omega arith) (λ d e. omega arith) (λ d e. absurd (d refl)) (λ d e. higher (m + 16) 32 (omega arith)) (λ d e. higher (m + 16) 64 (omega arith)) (λ d e. higher (m + 16) 128 (omega arith))
 
-  stays-5 : (j : ℕ) → j < 8 → Stays 5 j
-  stays-5 = below-8 (Stays 5) (λ d e. omega arith) (λ d e. omega arith) (λ d e. omega arith) (λ d e. omega arith) (λ d e. omega arith) (λ d e. absurd (d refl)) (λ d e. higher (m + 32) 64 (omega arith)) (λ d e. higher (m + 32) 128 (omega arith))
+  stays_5 : (j : ℕ) → j < 8 → Stays 5 j
+  stays_5 = below-8 (Stays 5) (λ d e. omega arith) (λ d e. omega arith) (λ d e. omega arith) (λ d e. omega arith) (λ d e. omega arith) (λ d e. absurd (d refl)) (λ d e. higher (m + 32) 64 (omega arith)) (λ d e. higher (m + 32) 128 (omega arith))
 
-  stays-6 : (j : ℕ) → j < 8 → Stays 6 j
-  stays-6 = below-8 (Stays 6) (λ d e. omega arith) (λ d e. omega arith) (λ d e. omega arith) (λ d e. omega arith) (λ d e. omega arith) (λ d e. omega arith) (λ d e. absurd (d refl)) (λ d e. higher (m + 64) 128 (omega arith))
+  stays_6 : (j : ℕ) → j < 8 → Stays 6 j
+  stays_6 = below-8 (Stays 6) (λ d e. omega arith) (λ d e. omega arith) (λ d e. omega arith) (λ d e. omega arith) (λ d e. omega arith) (λ d e. omega arith) (λ d e. absurd (d refl)) (λ d e. higher (m + 64) 128 (omega arith))
 
-  stays-7 : (j : ℕ) → j < 8 → Stays 7 j
-  stays-7 = below-8 (Stays 7) (λ d e. omega arith) (λ d e. omega arith) (λ d e. omega arith) (λ d e. omega arith) (λ d e. omega arith) (λ d e. omega arith) (λ d e. omega arith) (λ d e. absurd (d refl))
+  stays_7 : (j : ℕ) → j < 8 → Stays 7 j
+  stays_7 = below-8 (Stays 7) (λ d e. omega arith) (λ d e. omega arith) (λ d e. omega arith) (λ d e. omega arith) (λ d e. omega arith) (λ d e. omega arith) (λ d e. omega arith) (λ d e. absurd (d refl))
 
   keeps : (i : ℕ) → i < 8 → (j : ℕ) → j < 8 → Stays i j
-  keeps = below-8 (λ i. (j : ℕ) → j < 8 → Stays i j) stays-0 stays-1 stays-2 stays-3 stays-4 stays-5 stays-6 stays-7
+  keeps = below-8 (λ i. (j : ℕ) → j < 8 → Stays i j) stays_0 stays_1 stays_2 stays_3 stays_4 stays_5 stays_6 stays_7
 
 -- mark k of a buffer
-pub mark-read : (k : ℕ) (l : List ℕ) (b m : ℕ) (r : Bool) → r ≡ has b m → b ≡ bit_of (k % 8) → m ≡ byte l (k / 8) → r ≡ markIn l k
-unfolding markIn
-mark-read k l b m r e p q = e ∙ ap (λ (x : ℕ). has x m) p ∙ ap (has (bit_of (k % 8))) q
+pub mark_read : (k : ℕ) (l : List ℕ) (b m : ℕ) (r : Bool) → r ≡ has b m → b ≡ bit_of (k % 8) → m ≡ byte l (k / 8) → r ≡ mark_in l k
+unfolding mark_in
+mark_read k l b m r e p q = e ∙ ap (λ (x : ℕ). has x m) p ∙ ap (has (bit_of (k % 8))) q
 
 module _ (k : ℕ) (l : List ℕ) where
-  pub mark-known : markIn l k ≡ true → MarkSet k l l
-  mark-known e = record { long = refl; there = e; others = λ j n. refl }
+  pub mark_known : mark_in l k ≡ true → MarkSet k l l
+  mark_known e = record { long = refl; there = e; others = λ j n. refl }
 
-  module _ (m b : ℕ) (is : m ≡ byte l (k / 8)) (bit : b ≡ bit_of (k % 8)) (e : markIn l k ≡ false) where
+  module _ (m b : ℕ) (is : m ≡ byte l (k / 8)) (bit : b ≡ bit_of (k % 8)) (e : mark_in l k ≡ false) where
     free : m / bit_of (k % 8) % 2 ≡ 0
-    unfolding markIn
-    free = bit-off (bit_of (k % 8)) m (ap (has (bit_of (k % 8))) is ∙ e)
+    unfolding mark_in
+    free = bit_off (bit_of (k % 8)) m (ap (has (bit_of (k % 8))) is ∙ e)
 
-    pub mark-fits : m < 256 → m + b < 256
-    mark-fits p = rw bit (fits m (k % 8) (omega arith) free p)
+    pub mark_fits : m < 256 → m + b < 256
+    mark_fits p = rw bit (fits m (k % 8) (omega arith) free p)
 
     pub mark_set : k / 8 < length l → MarkSet k l (set l (k / 8) (m + b))
-    unfolding markIn
+    unfolding mark_in
     mark_set p = rw bit
         (record {
           long = length-set l (k / 8) (m + bit_of (k % 8));
           there =
               ap (has (bit_of (k % 8))) (get_or-set_same l (k / 8) (m + bit_of (k % 8)) 0 p)
-              ∙ bit-there (bit_of (k % 8)) (m + bit_of (k % 8)) (gets m (k % 8) (omega arith) free);
+              ∙ bit_there (bit_of (k % 8)) (m + bit_of (k % 8)) (gets m (k % 8) (omega arith) free);
           others =
               λ j n.
               same_or (j / 8) (k / 8)
               (λ q.
               ap (λ (i : ℕ). has (bit_of (j % 8)) (byte (set l (k / 8) (m + bit_of (k % 8))) i)) q
               ∙ ap (has (bit_of (j % 8))) (get_or-set_same l (k / 8) (m + bit_of (k % 8)) 0 p)
-              ∙ bit-same (bit_of (j % 8)) (m + bit_of (k % 8)) m (keeps m (k % 8) (omega arith) (j % 8) (omega arith) (λ z. n (omega arith)) free)
+              ∙ bit_same (bit_of (j % 8)) (m + bit_of (k % 8)) m (keeps m (k % 8) (omega arith) (j % 8) (omega arith) (λ z. n (omega arith)) free)
               ∙ ap (has (bit_of (j % 8))) is
               ∙ ap (λ (i : ℕ). has (bit_of (j % 8)) (byte l i)) (sym q))
               (λ d. ap (has (bit_of (j % 8))) (get_or-set_other l (k / 8) (j / 8) (m + bit_of (k % 8)) 0 d));

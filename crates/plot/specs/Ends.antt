@@ -28,14 +28,14 @@ bit_of (suc (suc (suc (suc (suc (suc (suc zero))))))) = 128
 bit_of (suc (suc (suc (suc (suc (suc (suc (suc j)))))))) = 256
 
 -- mark k is set
-unfoldable pub markIn : List ℕ → ℕ → Bool
-markIn l k = has (bit_of (k % 8)) (byte l (k / 8))
+unfoldable pub mark_in : List ℕ → ℕ → Bool
+mark_in l k = has (bit_of (k % 8)) (byte l (k / 8))
 
 -- mark k is set now, and the others are as they were
 pub record MarkSet (k : ℕ) (l m : List ℕ) : Type 0 where
   pub long : length m ≡ length l
-  pub there : markIn m k ≡ true
-  pub others : (j : ℕ) → (j ≡ k → ⊥) → markIn m j ≡ markIn l j
+  pub there : mark_in m k ≡ true
+  pub others : (j : ℕ) → (j ≡ k → ⊥) → mark_in m j ≡ mark_in l j
 
 -- place y is one that a chain from place x may come to by so many steps: it has a bit
 pub record Close (x y steps : ℕ) : Type 0 where
@@ -45,7 +45,7 @@ pub record Close (x y steps : ℕ) : Type 0 where
 
 -- a chain from place x ends in place y, by its mark
 unfoldable pub marked : List ℕ → ℕ → ℕ → Bool
-marked l x y = markIn l (span + y - x)
+marked l x y = mark_in l (span + y - x)
 
 -- places are marked where t says so, and no mark goes
 pub record Marks (x : ℕ) (t : ℕ → Bool) (l m : List ℕ) : Type 0 where
@@ -53,12 +53,12 @@ pub record Marks (x : ℕ) (t : ℕ → Bool) (l m : List ℕ) : Type 0 where
   pub each : (y : ℕ) → Close x y 3 → marked m x y ≡ (t y || marked l x y)
 
 -- place y is vacant, not of the chain, and beside place h
-unfoldable pub restsBeside : Ways → Stands → List ℕ → ℕ → ℕ → Bool
-restsBeside next s used h y = leads next h y && rests s used y
+unfoldable pub rests_beside : Ways → Stands → List ℕ → ℕ → ℕ → Bool
+rests_beside next s used h y = leads next h y && rests s used y
 
 -- place y is marked, where it has a bit
-unfoldable pub endMarked : List ℕ → ℕ → ℕ → Bool
-endMarked l x y = leb x (y + span) && (leb y (x + span) && marked l x y)
+unfoldable pub end_marked : List ℕ → ℕ → ℕ → Bool
+end_marked l x y = leb x (y + span) && (leb y (x + span) && marked l x y)
 
 -- no place is marked
 pub record Blank (l : List ℕ) : Type 0 where

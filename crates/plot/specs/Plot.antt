@@ -4,7 +4,7 @@
 -- Assumes nothing.
 use Rattle.std.specs.Prelude.{ℕ, zero, suc, ◌-◌, ◌+◌, ◌%◌, cond, List, eqb, set}
 use Rattle.grid.specs.declared.Beside.TheVariants.{Off}
-use Rattle.grid.specs.Map.{neighbourOf}
+use Rattle.grid.specs.Map.{neighbour_of}
 use Rattle.grid.specs.Walk.{distance_of}
 use Rattle.position.specs.Bits.{has}
 use Rattle.position.specs.Layout.{byte}
@@ -24,29 +24,29 @@ abbrev pub places : ℕ
 places = 182
 
 -- what a byte says of its place
-unfoldable pub standOf : ℕ → Stand
-standOf m = cond (eqb (m % 4) 1) Free (cond (eqb (m % 4) 2) Loose Shut)
+unfoldable pub stand_of : ℕ → Stand
+stand_of m = cond (eqb (m % 4) 1) Free (cond (eqb (m % 4) 2) Loose Shut)
 
-unfoldable pub standIn : List ℕ → Stands
-standIn l i = standOf (byte l i)
+unfoldable pub stand_in : List ℕ → Stands
+stand_in l i = stand_of (byte l i)
 
 -- the bit of a direction; what is no direction has one that no byte has
-abbrev pub sideBit : ℕ → ℕ
-sideBit zero = 4
-sideBit (suc zero) = 8
-sideBit (suc (suc zero)) = 16
-sideBit (suc (suc (suc zero))) = 32
-sideBit (suc (suc (suc (suc zero)))) = 64
-sideBit (suc (suc (suc (suc (suc zero))))) = 128
-sideBit (suc (suc (suc (suc (suc (suc d)))))) = 256
+abbrev pub side_bit : ℕ → ℕ
+side_bit zero = 4
+side_bit (suc zero) = 8
+side_bit (suc (suc zero)) = 16
+side_bit (suc (suc (suc zero))) = 32
+side_bit (suc (suc (suc (suc zero)))) = 64
+side_bit (suc (suc (suc (suc (suc zero))))) = 128
+side_bit (suc (suc (suc (suc (suc (suc d)))))) = 256
 
 -- where a step from a place leads
-unfoldable pub nextIn : List ℕ → Ways
-nextIn l i d = cond (has (sideBit d) (byte l i)) (neighbourOf wide high i d) Off
+unfoldable pub next_in : List ℕ → Ways
+next_in l i d = cond (has (side_bit d) (byte l i)) (neighbour_of wide high i d) Off
 
 -- the plot as a land on which the retreat starts from the place `home`
-unfoldable pub landIn : ℕ → List ℕ → Land
-landIn home l = record { hexes = places; next = nextIn l; far = distance_of wide home }
+unfoldable pub land_in : ℕ → List ℕ → Land
+land_in home l = record { hexes = places; next = next_in l; far = distance_of wide home }
 
 -- the byte m with another stand: 0, 1 or 2
 unfoldable pub restood : ℕ → ℕ → ℕ

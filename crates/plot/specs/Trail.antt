@@ -11,8 +11,8 @@ unfoldable pub before : ℕ → List ℕ → List ℕ
 before i used = cond (eqb i places) used (i ∷ used)
 
 -- the last place comes first
-unfoldable pub trailOf : ℕ → List ℕ
-trailOf t = before (t % 256) (before (t / 256 % 256) (before (t / 65536) []))
+unfoldable pub trail_of : ℕ → List ℕ
+trail_of t = before (t % 256) (before (t / 256 % 256) (before (t / 65536) []))
 
 -- how many places of the plot a chain has not used: "no hex comes twice in one chain", so there are fewer with each push
 unfoldable pub unused : List ℕ → ℕ

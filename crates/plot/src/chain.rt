@@ -2,11 +2,11 @@
 ghost use Rattle.std.specs.Prelude.{◌≡◌, [], ◌∷◌, ◌-◌, ◌<◌, ◌≤◌, length};
 ghost use Rattle.position.specs.Tally.{any};
 ghost use Rattle.field.specs.Listed.{named};
-ghost use Rattle.chains.specs.Chain.{rests, yields, hasRest};
-ghost use Rattle.chains.specs.Serves.{endsIn};
-ghost use Rattle.plot.specs.Plot.{standIn, nextIn};
-ghost use Rattle.plot.specs.Trail.{trailOf, TrailOk};
-ghost use Rattle.plot.specs.Ends.{bit_of, markIn, MarkSet, Close, Marks, restsBeside, endMarked};
+ghost use Rattle.chains.specs.Chain.{rests, yields, has_rest};
+ghost use Rattle.chains.specs.Serves.{ends_in};
+ghost use Rattle.plot.specs.Plot.{stand_in, next_in};
+ghost use Rattle.plot.specs.Trail.{trail_of, TrailOk};
+ghost use Rattle.plot.specs.Ends.{bit_of, mark_in, MarkSet, Close, Marks, rests_beside, end_marked};
 
 use chains::Stand;
 use grid::Beside;
@@ -23,7 +23,7 @@ const REACH: usize = 45;
 // Whether place `z` is one of them.
 fn on_trail(t: usize, z: usize) -> bool
     requires { z < 182 }
-    ensures { result ≡ named (trailOf t) z }
+    ensures { result ≡ named (trail_of t) z }
 {
     if t % 256 == z {
         return true;
@@ -37,7 +37,7 @@ fn on_trail(t: usize, z: usize) -> bool
 // The trail of a chain that has only begun, with the group in place `a`.
 pub fn own(a: usize) -> usize
     requires { a < 182 }
-    ensures { (trailOf result ≡ a ∷ []) × TrailOk result 3 }
+    ensures { (trail_of result ≡ a ∷ []) × TrailOk result 3 }
 {
     a + 256 * NONE + 65536 * NONE
 }
@@ -45,7 +45,7 @@ pub fn own(a: usize) -> usize
 // The trail with place `h` before it.
 pub fn longer(t: usize, h: usize, left: usize) -> usize
     requires { TrailOk t left × (2 ≤ left) × (h < 182) }
-    ensures { (trailOf result ≡ h ∷ trailOf t) × TrailOk result (left - 1) }
+    ensures { (trail_of result ≡ h ∷ trail_of t) × TrailOk result (left - 1) }
 {
     h + 256 * (t % 65536)
 }
@@ -53,7 +53,7 @@ pub fn longer(t: usize, h: usize, left: usize) -> usize
 // Whether a stack in place `h` may go into place `z`: it is vacant, and not of the chain yet.
 pub fn rests(plot: &[u8; 182], t: usize, h: usize, z: usize) -> bool
     requires { (length plot.now ≡ 182) × (z < 182) }
-    ensures { result ≡ rests (standIn plot.now) (h ∷ trailOf t) z }
+    ensures { result ≡ rests (stand_in plot.now) (h ∷ trail_of t) z }
 {
     let Stand::Free = crate::stand_in(plot, z) else {
         return false;
@@ -67,7 +67,7 @@ pub fn rests(plot: &[u8; 182], t: usize, h: usize, z: usize) -> bool
 // Whether it may push the stack there.
 pub fn yields(plot: &[u8; 182], t: usize, h: usize, z: usize) -> bool
     requires { (length plot.now ≡ 182) × (z < 182) }
-    ensures { result ≡ yields (standIn plot.now) (h ∷ trailOf t) z }
+    ensures { result ≡ yields (stand_in plot.now) (h ∷ trail_of t) z }
 {
     let Stand::Loose = crate::stand_in(plot, z) else {
         return false;
@@ -81,7 +81,7 @@ pub fn yields(plot: &[u8; 182], t: usize, h: usize, z: usize) -> bool
 // Whether the stack in place `h` has a vacant one beside it.
 pub fn has_rest(plot: &[u8; 182], t: usize, h: usize) -> bool
     requires { (length plot.now ≡ 182) × (h < 182) }
-    ensures { result ≡ hasRest (nextIn plot.now) (standIn plot.now) (h ∷ trailOf t) h }
+    ensures { result ≡ has_rest (next_in plot.now) (stand_in plot.now) (h ∷ trail_of t) h }
 {
     for d in 0..6 {
         let Beside::At(z) = crate::next_in(plot, h, d) else {
@@ -108,7 +108,7 @@ fn bit(j: usize) -> usize
 // Whether mark `k` is set.
 fn is_marked(ends: &[u8; 12], k: usize) -> bool
     requires { k < 96 }
-    ensures { result ≡ markIn ends.now k }
+    ensures { result ≡ mark_in ends.now k }
 {
     bits::has(bit(k % 8), layout::wide(ends[k / 8]))
 }
@@ -128,7 +128,7 @@ fn mark(ends: &mut [u8; 12], k: usize)
 // Marks the places beside place `h` into which its stack may go.
 fn mark_rests(plot: &[u8; 182], ends: &mut [u8; 12], x: usize, t: usize, h: usize)
     requires { (length plot.now ≡ 182) × (length ends.old ≡ 12) × (x < 182) × Close x h 2 }
-    ensures { Marks x (restsBeside (nextIn plot.now) (standIn plot.now) (h ∷ trailOf t) h) ends.old ends.new }
+    ensures { Marks x (rests_beside (next_in plot.now) (stand_in plot.now) (h ∷ trail_of t) h) ends.old ends.new }
 {
     for d in 0..6 {
         let Beside::At(z) = crate::next_in(plot, h, d) else {
@@ -144,7 +144,7 @@ fn mark_rests(plot: &[u8; 182], ends: &mut [u8; 12], x: usize, t: usize, h: usiz
 // only asked for a vacant place, so the recursion has two turns at most.
 pub fn can_end(plot: &[u8; 182], t: usize, left: usize, h: usize) -> bool
     requires { (length plot.now ≡ 182) × (2 ≤ left) × TrailOk t left × (h < 182) }
-    ensures { result ≡ any (endsIn (nextIn plot.now) (standIn plot.now) (trailOf t) left h) 182 }
+    ensures { result ≡ any (ends_in (next_in plot.now) (stand_in plot.now) (trail_of t) left h) 182 }
 {
     if has_rest(plot, t, h) {
         return true;
@@ -173,7 +173,7 @@ pub fn can_end(plot: &[u8; 182], t: usize, left: usize, h: usize) -> bool
 // Marks the places in which a chain may end whose last stack is in place `h`.
 fn mark_last(plot: &[u8; 182], ends: &mut [u8; 12], x: usize, t: usize, h: usize)
     requires { (length plot.now ≡ 182) × (length ends.old ≡ 12) × (x < 182) × Close x h 2 }
-    ensures { Marks x (endsIn (nextIn plot.now) (standIn plot.now) (trailOf t) 1 h) ends.old ends.new }
+    ensures { Marks x (ends_in (next_in plot.now) (stand_in plot.now) (trail_of t) 1 h) ends.old ends.new }
 {
     if has_rest(plot, t, h) {
         mark_rests(plot, ends, x, t, h);
@@ -184,7 +184,7 @@ fn mark_last(plot: &[u8; 182], ends: &mut [u8; 12], x: usize, t: usize, h: usize
 // uses a place more, and so those not used become fewer: there are two turns at most.
 pub fn gather(plot: &[u8; 182], ends: &mut [u8; 12], x: usize, t: usize, left: usize, h: usize)
     requires { (length plot.now ≡ 182) × (length ends.old ≡ 12) × (x < 182) × (2 ≤ left) × TrailOk t left × Close x h (3 - left) }
-    ensures { Marks x (endsIn (nextIn plot.now) (standIn plot.now) (trailOf t) left h) ends.old ends.new }
+    ensures { Marks x (ends_in (next_in plot.now) (stand_in plot.now) (trail_of t) left h) ends.old ends.new }
 {
     if has_rest(plot, t, h) {
         mark_rests(plot, ends, x, t, h);
@@ -209,7 +209,7 @@ pub fn gather(plot: &[u8; 182], ends: &mut [u8; 12], x: usize, t: usize, left: u
 // Whether a chain from place `x` on ends in place `y`, by the marks that `gather` has left.
 pub fn ends_in(ends: &[u8; 12], x: usize, y: usize) -> bool
     requires { (length ends.now ≡ 12) × (x < 182) × (y < 182) }
-    ensures { result ≡ endMarked ends.now x y }
+    ensures { result ≡ end_marked ends.now x y }
 {
     if y + REACH < x {
         return false;

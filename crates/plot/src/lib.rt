@@ -2,7 +2,7 @@
 pub mod chain;
 
 ghost use Rattle.std.specs.Prelude.{◌≡◌, ◌<◌, ◌≤◌, length};
-ghost use Rattle.plot.specs.Plot.{standIn, sideBit, nextIn, restood, shifted};
+ghost use Rattle.plot.specs.Plot.{stand_in, side_bit, next_in, restood, shifted};
 
 use chains::Stand;
 use grid::Beside;
@@ -25,7 +25,7 @@ pub enum Took {
 // What place `i` is to those who move.
 pub fn stand_in(plot: &[u8; 182], i: usize) -> Stand
     requires { (length plot.now ≡ 182) × (i < 182) }
-    ensures { result ≡ standIn plot.now i }
+    ensures { result ≡ stand_in plot.now i }
 {
     let m = layout::wide(plot[i]) % 4;
     if m == 1 {
@@ -40,7 +40,7 @@ pub fn stand_in(plot: &[u8; 182], i: usize) -> Stand
 // The bit of direction `d`.
 pub fn side_bit(d: usize) -> usize
     requires { d < 6 }
-    ensures { (result ≡ sideBit d) × (4 ≤ result) × (result ≤ 128) }
+    ensures { (result ≡ side_bit d) × (4 ≤ result) × (result ≤ 128) }
 {
     match d {
         0 => 4,
@@ -55,7 +55,7 @@ pub fn side_bit(d: usize) -> usize
 // Where a step from place `i` in direction `d` leads.
 pub fn next_in(plot: &[u8; 182], i: usize, d: usize) -> Beside
     requires { (length plot.now ≡ 182) × (i < 182) × (d < 6) }
-    ensures { result ≡ nextIn plot.now i d }
+    ensures { result ≡ next_in plot.now i d }
 {
     if bits::has(side_bit(d), layout::wide(plot[i])) {
         return grid::neighbour(WIDE, HIGH, i, d);

@@ -10,15 +10,15 @@ use lib.Dec.{leb}
 use borrow.Author.Tests.{not-true, not-false, leb-true, le-leb}
 use Rattle.position.specs.Shape.{In}
 use Rattle.position.specs.Laid.{Says}
-use Rattle.position.proofs.Tallies.{not-both}
+use Rattle.position.proofs.Tallies.{not_both}
 
 -- past `if !b { return .. }`, and in it
 pub said : {A : Type 0} (b : Bool) → not b ≡ false → Says b A → A
 said true e s = s
-said false e s = not-both true refl e
+said false e s = not_both true refl e
 
 pub unsaid : {A : Type 0} (b : Bool) → not b ≡ true → Says b A → A → ⊥
-unsaid true e s = not-both true refl (sym e)
+unsaid true e s = not_both true refl (sym e)
 unsaid false e s = s
 
 -- an answer handed on: what it speaks of and what is asked follow from each other
@@ -29,12 +29,12 @@ told false f g s = λ y. s (g y)
 -- a test that holds exactly where the fact does
 pub says : {A : Type 0} (b : Bool) → (b ≡ true → A) → (A → b ≡ true) → Says b A
 says true f g = f refl
-says false f g = λ x. not-both false (g x) refl
+says false f g = λ x. not_both false (g x) refl
 
 -- two answers, and the one for both
-pub both-said : (A B : Type 0) (a b : Bool) → Says a A → Says b B → Says (a && b) (A × B)
-both-said A B true b x y = told b (λ (z : B). (x, z)) (λ (z : A × B). z.1) y
-both-said A B false b x y = λ z. x z.0
+pub both_said : (A B : Type 0) (a b : Bool) → Says a A → Says b B → Says (a && b) (A × B)
+both_said A B true b x y = told b (λ (z : B). (x, z)) (λ (z : A × B). z.1) y
+both_said A B false b x y = λ z. x z.0
 
 -- a number measured against its most
 pub up_to : (n m : ℕ) → Says (leb n m) (n ≤ m)
@@ -46,14 +46,14 @@ module _ {b t : Bool} (e : b ≡ t) where
   holds l = sym e ∙ not-false b l
 
   pub fails : not b ≡ true → t ≡ true → ⊥
-  fails l h = not-both t h (sym e ∙ not-true b l)
+  fails l h = not_both t h (sym e ∙ not-true b l)
 
 -- a number within limits, by another name of it
 pub carry : {lo n m hi : ℕ} → n ≡ m → In lo n hi → In lo m hi
 carry {lo} {hi = hi} e i = subst (λ (x : ℕ). In lo x hi) e i
 
-pub carry-both : {lo up n m hi : ℕ} → lo ≡ up → n ≡ m → In lo n hi → In up m hi
-carry-both e f i = record { low = omega arith; high = omega arith }
+pub carry_both : {lo up n m hi : ℕ} → lo ≡ up → n ≡ m → In lo n hi → In up m hi
+carry_both e f i = record { low = omega arith; high = omega arith }
 
 -- every number below i, which is at most n, has passed
 pub record Passed (P : ℕ → Type 0) (i n : ℕ) : Type 0 where
@@ -72,8 +72,8 @@ module _ {P : ℕ → Type 0} {i n : ℕ} where
   pub one_more : Passed P i n → i < n → P i → Passed P (i + 1) n
   one_more s l x = record { most = omega arith; held = below_more P i s.held x }
 
-  pub several-more : {k : ℕ} → Passed P i n → i + k ≤ n → ((j : ℕ) → j < k → P (i + j)) → Passed P (i + k) n
-  several-more {k} s l f = record { most = l; held = λ j m. at j m (dec_lt j i) }
+  pub several_more : {k : ℕ} → Passed P i n → i + k ≤ n → ((j : ℕ) → j < k → P (i + j)) → Passed P (i + k) n
+  several_more {k} s l f = record { most = l; held = λ j m. at j m (dec_lt j i) }
     where
       at : (j : ℕ) → j < i + k → Dec (j < i) → P j
       at j m (yes b) = s.held j b
@@ -82,5 +82,5 @@ module _ {P : ℕ → Type 0} {i n : ℕ} where
   pub all : {m : ℕ} → Passed P i n → m ≤ i → (k : ℕ) → k < m → P k
   all s l k h = s.held k (omega arith)
 
-  pub not-all : {m : ℕ} → Passed P i n → i < m → (P i → ⊥) → ((k : ℕ) → k < m → P k) → ⊥
-  not-all s l fail f = fail (f i l)
+  pub not_all : {m : ℕ} → Passed P i n → i < m → (P i → ⊥) → ((k : ℕ) → k < m → P k) → ⊥
+  not_all s l fail f = fail (f i l)

@@ -6,7 +6,7 @@ use mathlib.Core.Bool.{true, false}
 use native.Mathlib.Omega.{arith}
 use native.Mathlib.Nat.{div-add-mod'}
 use borrow.Author.Tests.{eq-eqb, eqb-false}
-use Rattle.position.specs.Bits.{has, with, without, tried, supplied, moved, fought, marksEnd}
+use Rattle.position.specs.Bits.{has, with, without, tried, supplied, moved, fought, marks_end}
 
 module _ (k m : ℕ) where
   -- what lies below k, and what lies above it
@@ -17,36 +17,36 @@ module _ (k m : ℕ) where
   high = omega (arith, div-add-mod' m (2 * k))
 
 -- a bit is there by its digit
-pub bit-off : (b m : ℕ) → has b m ≡ false → m / b % 2 ≡ 0
+pub bit_off : (b m : ℕ) → has b m ≡ false → m / b % 2 ≡ 0
 unfolding has
-bit-off b m e = let n = eqb-false (m / b % 2) 1 e in omega arith
+bit_off b m e = let n = eqb-false (m / b % 2) 1 e in omega arith
 
-pub bit-there : (b m : ℕ) → m / b % 2 ≡ 1 → has b m ≡ true
+pub bit_there : (b m : ℕ) → m / b % 2 ≡ 1 → has b m ≡ true
 unfolding has
-bit-there b m e = eq-eqb (m / b % 2) 1 e
+bit_there b m e = eq-eqb (m / b % 2) 1 e
 
-pub bit-same : (b m n : ℕ) → m / b % 2 ≡ n / b % 2 → has b m ≡ has b n
+pub bit_same : (b m n : ℕ) → m / b % 2 ≡ n / b % 2 → has b m ≡ has b n
 unfolding has
-bit-same b m n e = rw e
+bit_same b m n e = rw e
 
 -- the marks of a unit
 pub data UnitMark : ℕ → Type 0 where
   is-tried : UnitMark tried
-  is-supplied : UnitMark supplied
-  is-moved : UnitMark moved
-  is-fought : UnitMark fought
+  is_supplied : UnitMark supplied
+  is_moved : UnitMark moved
+  is_fought : UnitMark fought
 
 -- a mark set or cleared stays within the marks
-pub with-within : {k : ℕ} → UnitMark k → (m : ℕ) → m < marksEnd → with k m < marksEnd
+pub with_within : {k : ℕ} → UnitMark k → (m : ℕ) → m < marks_end → with k m < marks_end
 unfolding with
-with-within is-tried m l = omega arith
-with-within is-supplied m l = omega arith
-with-within is-moved m l = omega arith
-with-within is-fought m l = omega arith
+with_within is-tried m l = omega arith
+with_within is_supplied m l = omega arith
+with_within is_moved m l = omega arith
+with_within is_fought m l = omega arith
 
-pub without-within : {k : ℕ} → UnitMark k → (m : ℕ) → m < marksEnd → without k m < marksEnd
+pub without_within : {k : ℕ} → UnitMark k → (m : ℕ) → m < marks_end → without k m < marks_end
 unfolding without
-without-within is-tried m l = omega arith
-without-within is-supplied m l = omega arith
-without-within is-moved m l = omega arith
-without-within is-fought m l = omega arith
+without_within is-tried m l = omega arith
+without_within is_supplied m l = omega arith
+without_within is_moved m l = omega arith
+without_within is_fought m l = omega arith

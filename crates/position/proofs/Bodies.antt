@@ -12,87 +12,87 @@ use borrow.Author.Tests.{ltb-true}
 use Rattle.position.specs.Layout.{
   byte,
   word,
-  deskBody,
-  extentAt,
-  chartAt,
-  terrainSize,
-  chartRows,
-  costField,
-  multipleField,
-  resultsAt,
-  resultsHead,
-  columnSize,
-  attackField,
-  defenceField,
-  codesField,
-  mapHead,
-  widthField,
-  heightField,
-  hexSize,
-  terrainField,
-  surfaceField,
-  flagsField,
-  countryField,
-  sidesField,
-  unitsHead,
+  desk_body,
+  extent_at,
+  chart_at,
+  terrain_size,
+  chart_rows,
+  cost_field,
+  multiple_field,
+  results_at,
+  results_head,
+  column_size,
+  attack_field,
+  defence_field,
+  codes_field,
+  map_head,
+  width_field,
+  height_field,
+  hex_size,
+  terrain_field,
+  surface_field,
+  flags_field,
+  country_field,
+  sides_field,
+  units_head,
   columns,
-  mapAt,
+  map_at,
   width,
   height,
   hexes,
-  unitsAt,
+  units_at,
   count,
   cell,
-  chartByte,
-  columnByte,
+  chart_byte,
+  column_byte,
   code,
-  hexByte,
-  dieFaces,
+  hex_byte,
+  die_faces,
 }
 use Rattle.position.specs.Board.{chart, results, ground}
 use Rattle.position.proofs.Cells.{inside, cell_in, cell_out}
-use Rattle.position.proofs.Counts.{Counts, word_of, hexes-same}
+use Rattle.position.proofs.Counts.{Counts, word_of, hexes_same}
 
 pub record Bodies (p q : List ℕ) : Type 0 where
-  pub contents : (i : ℕ) → i < extentAt deskBody → byte q i ≡ byte p i
-  pub same : (i : ℕ) → chartAt ≤ i → i < unitsAt p + unitsHead → byte q i ≡ byte p i
+  pub contents : (i : ℕ) → i < extent_at desk_body → byte q i ≡ byte p i
+  pub same : (i : ℕ) → chart_at ≤ i → i < units_at p + units_head → byte q i ≡ byte p i
 
 module _ {p q : List ℕ} (f : Bodies p q) where
-  columns-same : columns q ≡ columns p
-  unfolding columns unitsAt mapAt
-  columns-same = f.same resultsAt (omega arith) (omega arith)
+  columns_same : columns q ≡ columns p
+  unfolding columns units_at map_at
+  columns_same = f.same results_at (omega arith) (omega arith)
 
-  map-starts : mapAt q ≡ mapAt p
-  unfolding mapAt
-  map-starts = omega (arith, columns-same)
+  map_starts : map_at q ≡ map_at p
+  unfolding map_at
+  map_starts = omega (arith, columns_same)
 
   width_same : width q ≡ width p
-  unfolding width unitsAt mapAt
-  width_same = ap (λ (i : ℕ). byte q (i + widthField)) map-starts ∙ f.same (mapAt p + widthField) (omega arith) (omega arith)
+  unfolding width units_at map_at
+  width_same = ap (λ (i : ℕ). byte q (i + width_field)) map_starts ∙ f.same (map_at p + width_field) (omega arith) (omega arith)
 
-  height-same : height q ≡ height p
-  unfolding height unitsAt mapAt
-  height-same = ap (λ (i : ℕ). byte q (i + heightField)) map-starts ∙ f.same (mapAt p + heightField) (omega arith) (omega arith)
+  height_same : height q ≡ height p
+  unfolding height units_at map_at
+  height_same = ap (λ (i : ℕ). byte q (i + height_field)) map_starts ∙ f.same (map_at p + height_field) (omega arith) (omega arith)
 
-  units-start : unitsAt q ≡ unitsAt p
-  unfolding unitsAt hexes
-  units-start = ap₂ (λ (i n : ℕ). i + mapHead + hexSize * n) map-starts (ap₂ ◌*◌ width_same height-same)
+  units_start : units_at q ≡ units_at p
+  unfolding units_at hexes
+  units_start = ap₂ (λ (i n : ℕ). i + map_head + hex_size * n) map_starts (ap₂ ◌*◌ width_same height_same)
 
-  pub bodies-counts : Counts p q
-  unfolding count unitsAt mapAt
-  bodies-counts =
+  pub bodies_counts : Counts p q
+  unfolding count units_at map_at
+  bodies_counts =
       record {
-        columns = columns-same;
+        columns = columns_same;
         width = width_same;
-        height = height-same;
+        height = height_same;
         count =
-            ap (word q) units-start
-            ∙ word_of p q (unitsAt p) (f.same (unitsAt p) (omega arith) (omega arith)) (f.same (unitsAt p + 1) (omega arith) (omega arith));
+            ap (word q) units_start
+            ∙ word_of p q (units_at p) (f.same (units_at p) (omega arith) (omega arith)) (f.same (units_at p + 1) (omega arith) (omega arith));
       }
 
   -- the cells of a table that ends before the units' records
   cell_same :
-      (start size n : ℕ) → chartAt ≤ start → start + size * n ≤ unitsAt p + unitsHead → (g : ℕ) → g < size
+      (start size n : ℕ) → chart_at ≤ start → start + size * n ≤ units_at p + units_head → (g : ℕ) → g < size
       → (k : ℕ) → cell q start size n k g ≡ cell p start size n k g
   cell_same start size n b l g m k = at (dec_lt k n)
     where
@@ -103,58 +103,58 @@ module _ {p q : List ℕ} (f : Bodies p q) where
           ∙ sym (cell_in p start size n k g h)
       at (no h) = cell_out q start size n k g (omega arith) ∙ sym (cell_out p start size n k g (omega arith))
 
-  chartByte-same : (g : ℕ) → g < terrainSize → (t : ℕ) → chartByte q t g ≡ chartByte p t g
-  unfolding unitsAt mapAt
-  chartByte-same g l t = cell_same chartAt terrainSize chartRows (omega arith) (omega arith) g l t
+  chart_byte_same : (g : ℕ) → g < terrain_size → (t : ℕ) → chart_byte q t g ≡ chart_byte p t g
+  unfolding units_at map_at
+  chart_byte_same g l t = cell_same chart_at terrain_size chart_rows (omega arith) (omega arith) g l t
 
-  pub chart-same : chart q ≡ chart p
-  chart-same =
+  pub chart_same : chart q ≡ chart p
+  chart_same =
       λ i.
       record {
-        cost = fun_ext (chartByte-same costField (omega arith)) i;
-        multiple = fun_ext (chartByte-same multipleField (omega arith)) i;
+        cost = fun_ext (chart_byte_same cost_field (omega arith)) i;
+        multiple = fun_ext (chart_byte_same multiple_field (omega arith)) i;
       }
 
-  columnByte-same : (g : ℕ) → g < columnSize → (c : ℕ) → columnByte q c g ≡ columnByte p c g
-  unfolding columnByte unitsAt mapAt
-  columnByte-same g l c =
-      ap (λ (n : ℕ). cell q (resultsAt + resultsHead) columnSize n c g) columns-same
-      ∙ cell_same (resultsAt + resultsHead) columnSize (columns p) (omega arith) (omega arith) g l c
+  column_byte_same : (g : ℕ) → g < column_size → (c : ℕ) → column_byte q c g ≡ column_byte p c g
+  unfolding column_byte units_at map_at
+  column_byte_same g l c =
+      ap (λ (n : ℕ). cell q (results_at + results_head) column_size n c g) columns_same
+      ∙ cell_same (results_at + results_head) column_size (columns p) (omega arith) (omega arith) g l c
 
   code_same : (c die : ℕ) → code q c die ≡ code p c die
   unfolding code
-  code_same c die = ap (λ x. cond (ltb 0 die) x 0) (at (ltb die (suc dieFaces)) refl)
+  code_same c die = ap (λ x. cond (ltb 0 die) x 0) (at (ltb die (suc die_faces)) refl)
     where
-      at : (t : Bool) → ltb die (suc dieFaces) ≡ t → cond t (columnByte q c (codesField + die)) 0 ≡ cond t (columnByte p c (codesField + die)) 0
-      at true e = let l = ltb-true die (suc dieFaces) e in columnByte-same (codesField + die) (omega arith) c
+      at : (t : Bool) → ltb die (suc die_faces) ≡ t → cond t (column_byte q c (codes_field + die)) 0 ≡ cond t (column_byte p c (codes_field + die)) 0
+      at true e = let l = ltb-true die (suc die_faces) e in column_byte_same (codes_field + die) (omega arith) c
       at false e = refl
 
   pub results_same : results q ≡ results p
   results_same =
       λ i.
       record {
-        columns = columns-same i;
-        attack = fun_ext (columnByte-same attackField (omega arith)) i;
-        defence = fun_ext (columnByte-same defenceField (omega arith)) i;
+        columns = columns_same i;
+        attack = fun_ext (column_byte_same attack_field (omega arith)) i;
+        defence = fun_ext (column_byte_same defence_field (omega arith)) i;
         code = fun_ext (λ c. fun_ext (code_same c)) i;
       }
 
-  hexByte-same : (g : ℕ) → g < hexSize → (h : ℕ) → hexByte q h g ≡ hexByte p h g
-  unfolding hexByte unitsAt mapAt
-  hexByte-same g l h =
-      ap₂ (λ (a n : ℕ). cell q (a + mapHead) hexSize n h g) map-starts (hexes-same bodies-counts)
-      ∙ cell_same (mapAt p + mapHead) hexSize (hexes p) (omega arith) (omega arith) g l h
+  hex_byte_same : (g : ℕ) → g < hex_size → (h : ℕ) → hex_byte q h g ≡ hex_byte p h g
+  unfolding hex_byte units_at map_at
+  hex_byte_same g l h =
+      ap₂ (λ (a n : ℕ). cell q (a + map_head) hex_size n h g) map_starts (hexes_same bodies_counts)
+      ∙ cell_same (map_at p + map_head) hex_size (hexes p) (omega arith) (omega arith) g l h
 
-  pub ground-same : ground q ≡ ground p
-  ground-same =
+  pub ground_same : ground q ≡ ground p
+  ground_same =
       λ i.
       record {
         width = width_same i;
-        height = height-same i;
-        hexes = hexes-same bodies-counts i;
-        terrain = fun_ext (hexByte-same terrainField (omega arith)) i;
-        surface = fun_ext (hexByte-same surfaceField (omega arith)) i;
-        flags = fun_ext (hexByte-same flagsField (omega arith)) i;
-        country = fun_ext (hexByte-same countryField (omega arith)) i;
-        sides = fun_ext (hexByte-same sidesField (omega arith)) i;
+        height = height_same i;
+        hexes = hexes_same bodies_counts i;
+        terrain = fun_ext (hex_byte_same terrain_field (omega arith)) i;
+        surface = fun_ext (hex_byte_same surface_field (omega arith)) i;
+        flags = fun_ext (hex_byte_same flags_field (omega arith)) i;
+        country = fun_ext (hex_byte_same country_field (omega arith)) i;
+        sides = fun_ext (hex_byte_same sides_field (omega arith)) i;
       }

@@ -33,10 +33,10 @@ read_at p size k f c e g =
     record { is = c.is ∙ ap₂ (λ (a b : ℕ). cell p a size b k f) e g; small = c.small }
 
 -- bytes that are all 0, by another name of how many there are
-pub byte-empty : (n j : ℕ) → byte (replicate n 0) j ≡ 0
-byte-empty zero j = refl
-byte-empty (suc n) zero = refl
-byte-empty (suc n) (suc j) = byte-empty n j
+pub byte_empty : (n j : ℕ) → byte (replicate n 0) j ≡ 0
+byte_empty zero j = refl
+byte_empty (suc n) zero = refl
+byte_empty (suc n) (suc j) = byte_empty n j
 
-pub all-clear : {m : List ℕ} (l : List ℕ) (k : ℕ) → m ≡ replicate (length l) 0 → length l ≡ k → m ≡ replicate k 0
-all-clear l k e f = e ∙ ap (λ (n : ℕ). replicate n 0) f
+pub all_clear : {m : List ℕ} (l : List ℕ) (k : ℕ) → m ≡ replicate (length l) 0 → length l ≡ k → m ≡ replicate k 0
+all_clear l k e f = e ∙ ap (λ (n : ℕ). replicate n 0) f

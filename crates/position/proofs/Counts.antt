@@ -8,24 +8,24 @@ use lib.ListN.{length}
 use Rattle.position.specs.Layout.{
   byte,
   word,
-  deskBody,
-  chartBody,
-  resultsBody,
+  desk_body,
+  chart_body,
+  results_body,
   map_body,
-  unitsBody,
-  entrySize,
-  extentAt,
+  units_body,
+  entry_size,
+  extent_at,
   offset,
   extent,
   columns,
-  mapAt,
+  map_at,
   width,
   height,
   hexes,
-  unitsAt,
+  units_at,
   count,
-  deskLength,
-  deskAt,
+  desk_length,
+  desk_at,
   unit_at,
 }
 use Rattle.position.specs.Shape.{Entry, Shaped}
@@ -36,11 +36,11 @@ pub record Counts (p q : List ℕ) : Type 0 where
   pub height : height q ≡ height p
   pub count : count q ≡ count p
 
-pub counts-refl : (p : List ℕ) → Counts p p
-counts-refl p = record { columns = refl; width = refl; height = refl; count = refl }
+pub counts_refl : (p : List ℕ) → Counts p p
+counts_refl p = record { columns = refl; width = refl; height = refl; count = refl }
 
-pub counts-trans : {p q r : List ℕ} → Counts p q → Counts q r → Counts p r
-counts-trans f g =
+pub counts_trans : {p q r : List ℕ} → Counts p q → Counts q r → Counts p r
+counts_trans f g =
     record {
       columns = g.columns ∙ f.columns;
       width = g.width ∙ f.width;
@@ -54,52 +54,52 @@ unfolding word
 word_of p q i d e = ap₂ (λ (a b : ℕ). a + 256 * b) d e
 
 module _ {p q : List ℕ} (f : Counts p q) where
-  pub mapAt-same : mapAt q ≡ mapAt p
-  unfolding mapAt
-  mapAt-same = omega (arith, f.columns)
+  pub map_at_same : map_at q ≡ map_at p
+  unfolding map_at
+  map_at_same = omega (arith, f.columns)
 
-  pub hexes-same : hexes q ≡ hexes p
+  pub hexes_same : hexes q ≡ hexes p
   unfolding hexes
-  hexes-same = ap₂ ◌*◌ f.width f.height
+  hexes_same = ap₂ ◌*◌ f.width f.height
 
-  pub unitsAt-same : unitsAt q ≡ unitsAt p
-  unfolding unitsAt
-  unitsAt-same = omega (arith, mapAt-same, hexes-same)
+  pub units_at_same : units_at q ≡ units_at p
+  unfolding units_at
+  units_at_same = omega (arith, map_at_same, hexes_same)
 
-  pub deskAt-same : deskAt q ≡ deskAt p
-  unfolding deskAt
-  deskAt-same = omega (arith, unitsAt-same, f.count)
+  pub desk_at_same : desk_at q ≡ desk_at p
+  unfolding desk_at
+  desk_at_same = omega (arith, units_at_same, f.count)
 
-  pub unitAt-same : (u : ℕ) → unit_at q u ≡ unit_at p u
+  pub unit_at_same : (u : ℕ) → unit_at q u ≡ unit_at p u
   unfolding unit_at
-  unitAt-same u = omega (arith, unitsAt-same)
+  unit_at_same u = omega (arith, units_at_same)
 
   -- where the contents say the same, but for the desk's length
-  module _ (contents : (i : ℕ) → i < extentAt deskBody → byte q i ≡ byte p i) where
-    word_same : (i : ℕ) → i + 1 < extentAt deskBody → word q i ≡ word p i
+  module _ (contents : (i : ℕ) → i < extent_at desk_body → byte q i ≡ byte p i) where
+    word_same : (i : ℕ) → i + 1 < extent_at desk_body → word q i ≡ word p i
     word_same i m = word_of p q i (contents i (omega arith)) (contents (i + 1) m)
 
-    entry-same : (k : ℕ) → k < deskBody → {at at' long long' : ℕ} → at' ≡ at → long' ≡ long → Entry p k at long → Entry q k at' long'
+    entry_same : (k : ℕ) → k < desk_body → {at at' long long' : ℕ} → at' ≡ at → long' ≡ long → Entry p k at long → Entry q k at' long'
     unfolding offset extent
-    entry-same k l e g n =
+    entry_same k l e g n =
         record {
-          offset = word_same (entrySize * k) (omega arith) ∙ n.offset ∙ sym e;
-          extent = word_same (extentAt k) (omega arith) ∙ n.extent ∙ sym g;
+          offset = word_same (entry_size * k) (omega arith) ∙ n.offset ∙ sym e;
+          extent = word_same (extent_at k) (omega arith) ∙ n.extent ∙ sym g;
         }
 
     -- the bodies lie as they should, if the desk's length is said and kept
-    pub shaped-same : extent q deskBody ≡ deskLength q → length q ≡ deskAt q + deskLength q → Shaped p → Shaped q
+    pub shaped_same : extent q desk_body ≡ desk_length q → length q ≡ desk_at q + desk_length q → Shaped p → Shaped q
     unfolding offset
-    shaped-same d w s =
+    shaped_same d w s =
         record {
-          chart = entry-same chartBody (omega arith) refl refl s.chart;
-          results = entry-same resultsBody (omega arith) refl (omega (arith, f.columns)) s.results;
+          chart = entry_same chart_body (omega arith) refl refl s.chart;
+          results = entry_same results_body (omega arith) refl (omega (arith, f.columns)) s.results;
           columns = omega (arith, f.columns, s.columns);
-          map = entry-same map_body (omega arith) mapAt-same (omega (arith, hexes-same)) s.map;
+          map = entry_same map_body (omega arith) map_at_same (omega (arith, hexes_same)) s.map;
           width = omega (arith, f.width, s.width);
           height = omega (arith, f.height, s.height);
-          units = entry-same unitsBody (omega arith) unitsAt-same (omega (arith, f.count)) s.units;
+          units = entry_same units_body (omega arith) units_at_same (omega (arith, f.count)) s.units;
           count = omega (arith, f.count, s.count);
-          desk = record { offset = word_same (entrySize * deskBody) (omega arith) ∙ s.desk.offset ∙ sym deskAt-same; extent = d };
+          desk = record { offset = word_same (entry_size * desk_body) (omega arith) ∙ s.desk.offset ∙ sym desk_at_same; extent = d };
           whole = w;
         }

@@ -8,25 +8,25 @@ use native.Mathlib.Omega.{arith}
 use native.Mathlib.Nat.{mul-le-mul}
 use lib.Dec.{eqb}
 use Rattle.position.specs.Layout.{
-  deskBody,
-  resultsAt,
-  resultsHead,
-  columnSize,
-  widthField,
-  heightField,
-  playersField,
+  desk_body,
+  results_at,
+  results_head,
+  column_size,
+  width_field,
+  height_field,
+  players_field,
   forces,
   byte,
   word,
   extent,
   columns,
-  mapAt,
+  map_at,
   width,
   height,
   hexes,
-  unitsAt,
+  units_at,
   count,
-  playersNamed,
+  players_named,
 }
 use Rattle.position.specs.Shape.{In, Entry, Shaped}
 use Rattle.position.specs.Laid.{Laid}
@@ -43,13 +43,13 @@ bytes_product {a} {b} l m =
     let y : b ≤ 255 = omega arith in
     mul-le-mul x y
 
-pub hexes-most : {p : List ℕ} → Shaped p → hexes p ≤ 4096
+pub hexes_most : {p : List ℕ} → Shaped p → hexes p ≤ 4096
 unfolding hexes
-hexes-most s = area s.width s.height
+hexes_most s = area s.width s.height
 
-pub hexes-least : {p : List ℕ} → Shaped p → 1 ≤ hexes p
+pub hexes_least : {p : List ℕ} → Shaped p → 1 ≤ hexes p
 unfolding hexes
-hexes-least s = let e : 1 * 1 ≤ _ = mul-le-mul s.width.low s.height.low in e
+hexes_least s = let e : 1 * 1 ≤ _ = mul-le-mul s.width.low s.height.low in e
 
 -- the same of a view: what a checked position's counts are
 pub record Sizes (v : View) : Type 0 where
@@ -67,37 +67,37 @@ sizes l =
       columns = carry (sym w.columns) s.columns;
       width = carry (sym w.width) s.width;
       height = carry (sym w.height) s.height;
-      hexes = carry (sym w.hexes) (record { low = hexes-least s; high = hexes-most s });
+      hexes = carry (sym w.hexes) (record { low = hexes_least s; high = hexes_most s });
       count = l.fits.count;
     }
 
 -- the counts, read where the code looks for them
 module _ (p : List ℕ) {cols : ℕ} (e : cols ≡ columns p) where
-  pub width_is : byte p (resultsAt + resultsHead + columnSize * cols + widthField) ≡ width p
-  unfolding width mapAt
-  width_is = ap (λ (n : ℕ). byte p (resultsAt + resultsHead + columnSize * n + widthField)) e
+  pub width_is : byte p (results_at + results_head + column_size * cols + width_field) ≡ width p
+  unfolding width map_at
+  width_is = ap (λ (n : ℕ). byte p (results_at + results_head + column_size * n + width_field)) e
 
-  pub height-is : byte p (resultsAt + resultsHead + columnSize * cols + heightField) ≡ height p
-  unfolding height mapAt
-  height-is = ap (λ (n : ℕ). byte p (resultsAt + resultsHead + columnSize * n + heightField)) e
+  pub height_is : byte p (results_at + results_head + column_size * cols + height_field) ≡ height p
+  unfolding height map_at
+  height_is = ap (λ (n : ℕ). byte p (results_at + results_head + column_size * n + height_field)) e
 
 module _ (p : List ℕ) where
-  pub hexes-is : {w h : ℕ} → w ≡ width p → h ≡ height p → w * h ≡ hexes p
+  pub hexes_is : {w h : ℕ} → w ≡ width p → h ≡ height p → w * h ≡ hexes p
   unfolding hexes
-  hexes-is e f = ap₂ ◌*◌ e f
+  hexes_is e f = ap₂ ◌*◌ e f
 
-  pub count-is : {at : ℕ} → at ≡ unitsAt p → word p at ≡ count p
+  pub count_is : {at : ℕ} → at ≡ units_at p → word p at ≡ count p
   unfolding count
-  count-is e = ap (word p) e
+  count_is e = ap (word p) e
 
-  pub named-most : {n : ℕ} → n ≡ playersNamed p → n ≤ forces
-  unfolding playersNamed
-  named-most e = omega (arith, e, cond-most (eqb (extent p deskBody) (playersField + forces)))
+  pub named_most : {n : ℕ} → n ≡ players_named p → n ≤ forces
+  unfolding players_named
+  named_most e = omega (arith, e, cond_most (eqb (extent p desk_body) (players_field + forces)))
     where
-      cond-most : (t : Bool) → cond t forces 0 ≤ forces
-      cond-most true = omega arith
-      cond-most false = omega arith
+      cond_most : (t : Bool) → cond t forces 0 ≤ forces
+      cond_most true = omega arith
+      cond_most false = omega arith
 
 -- an entry, by other names of where its body begins and how long it is
-pub entry-is : {p : List ℕ} {k a b l m : ℕ} → a ≡ b → l ≡ m → Entry p k a l → Entry p k b m
-entry-is e f x = record { offset = omega arith; extent = omega arith }
+pub entry_is : {p : List ℕ} {k a b l m : ℕ} → a ≡ b → l ≡ m → Entry p k a l → Entry p k b m
+entry_is e f x = record { offset = omega arith; extent = omega arith }

@@ -21,12 +21,12 @@ some_more : {t : ℕ → Bool} {n : ℕ} → Some t n → Some t (suc n)
 some_more s = record { at = s.at; below = omega arith; passes = s.passes }
 
 -- no test's answer is both
-pub not-both : {A : Type 0} (b : Bool) → b ≡ true → b ≡ false → A
-not-both b p q = let z : ◌≡◌ {A = ℕ} 0 1 = cc in absurd (omega arith)
+pub not_both : {A : Type 0} (b : Bool) → b ≡ true → b ≡ false → A
+not_both b p q = let z : ◌≡◌ {A = ℕ} 0 1 = cc in absurd (omega arith)
 
 -- the parts of a test
 pub neither : (x y : Bool) → (x || y) ≡ false → (x ≡ false) × (y ≡ false)
-neither true y e = not-both true refl e
+neither true y e = not_both true refl e
 neither false y e = (refl, e)
 
 -- two numbers are the same or not
@@ -52,11 +52,11 @@ module _ (t : ℕ → Bool) (n : ℕ) where
   miss e = simp e
 
   -- one number more, which passes or does not
-  pub tally-hit : t n ≡ true → tally t (n + 1) ≡ tally t n + 1
-  tally-hit e = ap (tally t) (add-one n) ∙ hit e
+  pub tally_hit : t n ≡ true → tally t (n + 1) ≡ tally t n + 1
+  tally_hit e = ap (tally t) (add-one n) ∙ hit e
 
-  pub tally-miss : t n ≡ false → tally t (n + 1) ≡ tally t n
-  tally-miss e = ap (tally t) (add-one n) ∙ miss e
+  pub tally_miss : t n ≡ false → tally t (n + 1) ≡ tally t n
+  tally_miss e = ap (tally t) (add-one n) ∙ miss e
 
   here : t n ≡ true → any t (suc n) ≡ true
   unfolding any
@@ -66,89 +66,89 @@ module _ (t : ℕ → Bool) (n : ℕ) where
   unfolding any
   past e = simp e
 
-  pub any-hit : t n ≡ true → any t (n + 1) ≡ true
-  any-hit e = ap (any t) (add-one n) ∙ here e
+  pub any_hit : t n ≡ true → any t (n + 1) ≡ true
+  any_hit e = ap (any t) (add-one n) ∙ here e
 
-  pub any-miss : t n ≡ false → any t (n + 1) ≡ any t n
-  any-miss e = ap (any t) (add-one n) ∙ past e
+  pub any_miss : t n ≡ false → any t (n + 1) ≡ any t n
+  any_miss e = ap (any t) (add-one n) ∙ past e
 
   pub any_step : any t (n + 1) ≡ (t n || any t n)
   unfolding any
   any_step = rw add-one
 
 module _ (t : ℕ → Bool) where
-  pub tally-zero : tally t 0 ≡ 0
+  pub tally_zero : tally t 0 ≡ 0
   unfolding tally
-  tally-zero = refl
+  tally_zero = refl
 
-  pub any-zero : any t 0 ≡ false
+  pub any_zero : any t 0 ≡ false
   unfolding any
-  any-zero = refl
+  any_zero = refl
 
-  pub tally-most : (n : ℕ) → tally t n ≤ n
-  tally-most zero = omega (arith, tally-zero)
-  tally-most (suc n) =
-      let h = tally-most n in
+  pub tally_most : (n : ℕ) → tally t n ≤ n
+  tally_most zero = omega (arith, tally_zero)
+  tally_most (suc n) =
+      let h = tally_most n in
       either (t n) (λ e. omega (arith, hit t n e)) (λ e. omega (arith, miss t n e))
 
   -- counting on never counts less
-  pub tally-grows : (m n : ℕ) → m ≤ n → tally t m ≤ tally t n
-  tally-grows m zero l = let e : m ≡ 0 = omega arith in omega (arith, ap (tally t) e)
-  tally-grows m (suc n) l =
+  pub tally_grows : (m n : ℕ) → m ≤ n → tally t m ≤ tally t n
+  tally_grows m zero l = let e : m ≡ 0 = omega arith in omega (arith, ap (tally t) e)
+  tally_grows m (suc n) l =
       same_or m (suc n) (λ e. omega (arith, ap (tally t) e))
       (λ d.
-      let h = tally-grows m n (omega arith) in
+      let h = tally_grows m n (omega arith) in
       either (t n) (λ e. omega (arith, hit t n e)) (λ e. omega (arith, miss t n e)))
 
   -- where some pass, there is one; where none passes, each fails
-  pub tally-some : (n : ℕ) → 1 ≤ tally t n → Some t n
-  tally-some zero l = absurd (omega (arith, tally-zero))
-  tally-some (suc n) l =
+  pub tally_some : (n : ℕ) → 1 ≤ tally t n → Some t n
+  tally_some zero l = absurd (omega (arith, tally_zero))
+  tally_some (suc n) l =
       either (t n)
       (λ e. record { at = n; below = omega arith; passes = e })
-      (λ e. some_more (tally-some n (omega (arith, miss t n e))))
+      (λ e. some_more (tally_some n (omega (arith, miss t n e))))
 
-  pub tally-pos : (n k : ℕ) → k < n → t k ≡ true → 1 ≤ tally t n
-  tally-pos zero k l e = absurd (omega arith)
-  tally-pos (suc n) k l e =
+  pub tally_pos : (n k : ℕ) → k < n → t k ≡ true → 1 ≤ tally t n
+  tally_pos zero k l e = absurd (omega arith)
+  tally_pos (suc n) k l e =
       either (t n)
       (λ p. omega (arith, hit t n p))
-      (λ p. same_or k n (λ q. not-both (t n) (ap t (sym q) ∙ e) p) (λ h. omega (arith, miss t n p, tally-pos n k (omega arith) e)))
+      (λ p. same_or k n (λ q. not_both (t n) (ap t (sym q) ∙ e) p) (λ h. omega (arith, miss t n p, tally_pos n k (omega arith) e)))
 
   pub any_some : (n : ℕ) → any t n ≡ true → Some t n
-  any_some zero e = not-both (any t 0) e any-zero
+  any_some zero e = not_both (any t 0) e any_zero
   any_some (suc n) e =
       either (t n)
       (λ p. record { at = n; below = omega arith; passes = p })
       (λ p. some_more (any_some n (sym (past t n p) ∙ e)))
 
-  pub any-true : (n k : ℕ) → k < n → t k ≡ true → any t n ≡ true
-  any-true zero k l e = absurd (omega arith)
-  any-true (suc n) k l e =
+  pub any_true : (n k : ℕ) → k < n → t k ≡ true → any t n ≡ true
+  any_true zero k l e = absurd (omega arith)
+  any_true (suc n) k l e =
       either (t n)
       (λ p. here t n p)
-      (λ p. same_or k n (λ q. not-both (t n) (ap t (sym q) ∙ e) p) (λ h. past t n p ∙ any-true n k (omega arith) e))
+      (λ p. same_or k n (λ q. not_both (t n) (ap t (sym q) ∙ e) p) (λ h. past t n p ∙ any_true n k (omega arith) e))
 
   pub any_false : (n k : ℕ) → any t n ≡ false → k < n → t k ≡ false
-  any_false n k z l = either (t k) (λ e. not-both (any t n) (any-true n k l e) z) (λ e. e)
+  any_false n k z l = either (t k) (λ e. not_both (any t n) (any_true n k l e) z) (λ e. e)
 
-  pub any-never : (n : ℕ) → ((k : ℕ) → k < n → t k ≡ false) → any t n ≡ false
-  any-never n f = either (any t n) (λ e. let s = any_some n e in not-both (t s.at) s.passes (f s.at s.below)) (λ e. e)
+  pub any_never : (n : ℕ) → ((k : ℕ) → k < n → t k ≡ false) → any t n ≡ false
+  any_never n f = either (any t n) (λ e. let s = any_some n e in not_both (t s.at) s.passes (f s.at s.below)) (λ e. e)
 
 -- the test that passes more counts more
-pub tally-le : (t s : ℕ → Bool) (n : ℕ) → ((k : ℕ) → k < n → t k ≡ true → s k ≡ true) → tally t n ≤ tally s n
-tally-le t s zero f = omega (arith, tally-zero t)
-tally-le t s (suc n) f =
-    let h = tally-le t s n (λ k l. f k (omega arith)) in
+pub tally_le : (t s : ℕ → Bool) (n : ℕ) → ((k : ℕ) → k < n → t k ≡ true → s k ≡ true) → tally t n ≤ tally s n
+tally_le t s zero f = omega (arith, tally_zero t)
+tally_le t s (suc n) f =
+    let h = tally_le t s n (λ k l. f k (omega arith)) in
     either (t n)
     (λ e. omega (arith, hit t n e, hit s n (f n (omega arith) e)))
     (λ e. either (s n) (λ q. omega (arith, miss t n e, hit s n q)) (λ q. omega (arith, miss t n e, miss s n q)))
 
 -- tests that agree count alike
-pub tally-same : (t s : ℕ → Bool) (n : ℕ) → ((k : ℕ) → k < n → t k ≡ s k) → tally t n ≡ tally s n
-tally-same t s n f =
-    let a = tally-le t s n (λ k l e. sym (f k l) ∙ e) in
-    let b = tally-le s t n (λ k l e. f k l ∙ e) in
+pub tally_same : (t s : ℕ → Bool) (n : ℕ) → ((k : ℕ) → k < n → t k ≡ s k) → tally t n ≡ tally s n
+tally_same t s n f =
+    let a = tally_le t s n (λ k l e. sym (f k l) ∙ e) in
+    let b = tally_le s t n (λ k l e. f k l ∙ e) in
     omega arith
 
 -- and are passed by some or by none
@@ -162,50 +162,50 @@ unfoldable pub equals : (ℕ → ℕ) → ℕ → ℕ → Bool
 equals f x k = eqb (f k) x
 
 module _ (f : ℕ → ℕ) (x k : ℕ) where
-  pub equals-yes : f k ≡ x → equals f x k ≡ true
+  pub equals_yes : f k ≡ x → equals f x k ≡ true
   unfolding equals
-  equals-yes e = eq-eqb (f k) x e
+  equals_yes e = eq-eqb (f k) x e
 
-  pub equals-no : (f k ≡ x → ⊥) → equals f x k ≡ false
+  pub equals_no : (f k ≡ x → ⊥) → equals f x k ≡ false
   unfolding equals
-  equals-no e = ne_eqb (f k) x e
+  equals_no e = ne_eqb (f k) x e
 
-  pub equals-is : equals f x k ≡ true → f k ≡ x
+  pub equals_is : equals f x k ≡ true → f k ≡ x
   unfolding equals
-  equals-is e = eqb-true (f k) x e
+  equals_is e = eqb-true (f k) x e
 
 -- the same test, that number u fails
 unfoldable pub but : (ℕ → Bool) → ℕ → ℕ → Bool
 but t u w = t w && not (eqb w u)
 
 module _ (t : ℕ → Bool) (u : ℕ) where
-  pub but-other : (w : ℕ) → (w ≡ u → ⊥) → but t u w ≡ t w
+  pub but_other : (w : ℕ) → (w ≡ u → ⊥) → but t u w ≡ t w
   unfolding but
-  but-other w h = simp (ne_eqb w u h, and-true)
+  but_other w h = simp (ne_eqb w u h, and-true)
 
-  pub but-self : (w : ℕ) → w ≡ u → but t u w ≡ false
+  pub but_self : (w : ℕ) → w ≡ u → but t u w ≡ false
   unfolding but
-  but-self w e = simp (eq-eqb w u e, and-false)
+  but_self w e = simp (eq-eqb w u e, and-false)
 
-  pub but-fails : (w : ℕ) → t w ≡ false → but t u w ≡ false
+  pub but_fails : (w : ℕ) → t w ≡ false → but t u w ≡ false
   unfolding but
-  but-fails w e = simp e
+  but_fails w e = simp e
 
   -- it counts one less, where u passes
   before : (n : ℕ) → n ≤ u → tally t n ≡ tally (but t u) n
-  before n l = tally-same t (but t u) n (λ k m. sym (but-other k (omega arith)))
+  before n l = tally_same t (but t u) n (λ k m. sym (but_other k (omega arith)))
 
-  pub tally-but-miss : (n : ℕ) → t u ≡ false → tally t n ≡ tally (but t u) n
-  tally-but-miss n e = tally-same t (but t u) n (λ k m. same_or k u (λ q. ap t q ∙ e ∙ sym (but-self k q)) (λ h. sym (but-other k h)))
+  pub tally_but_miss : (n : ℕ) → t u ≡ false → tally t n ≡ tally (but t u) n
+  tally_but_miss n e = tally_same t (but t u) n (λ k m. same_or k u (λ q. ap t q ∙ e ∙ sym (but_self k q)) (λ h. sym (but_other k h)))
 
-  pub tally-but-hit : (n : ℕ) → u < n → t u ≡ true → tally t n ≡ tally (but t u) n + 1
-  tally-but-hit zero l e = absurd (omega arith)
-  tally-but-hit (suc n) l e =
+  pub tally_but_hit : (n : ℕ) → u < n → t u ≡ true → tally t n ≡ tally (but t u) n + 1
+  tally_but_hit zero l e = absurd (omega arith)
+  tally_but_hit (suc n) l e =
       same_or n u
-      (λ q. omega (arith, hit t n (ap t q ∙ e), miss (but t u) n (but-self n q), before n (omega arith)))
+      (λ q. omega (arith, hit t n (ap t q ∙ e), miss (but t u) n (but_self n q), before n (omega arith)))
       (λ h.
-      let i = tally-but-hit n (omega arith) e in
-      let o = but-other n h in
+      let i = tally_but_hit n (omega arith) e in
+      let o = but_other n h in
       either (t n)
       (λ p. omega (arith, hit t n p, hit (but t u) n (o ∙ p)))
       (λ p. omega (arith, miss t n p, miss (but t u) n (o ∙ p))))

@@ -27,8 +27,8 @@ abbrev pub fought : ℕ
 fought = 8
 
 -- marks are below this: "unnamed bits are 0"
-abbrev pub marksEnd : ℕ
-marksEnd = 16
+abbrev pub marks_end : ℕ
+marks_end = 16
 
 -- "flags (1 port + 2 urban + 4 supply)"
 abbrev pub port : ℕ

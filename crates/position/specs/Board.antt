@@ -59,7 +59,7 @@ pub record Battle : Type 0 where
 
 pub record Desk : Type 0 where
   pub clock : Clock
-  pub lastTurn : ℕ
+  pub last_turn : ℕ
   pub battle : Battle
   pub route : ℕ → ℕ → ℕ
   pub player : ℕ → ℕ
@@ -75,7 +75,7 @@ abbrev pub chart : List ℕ → Chart
 chart p = record { cost = Layout.cost p; multiple = Layout.multiple p }
 
 abbrev pub results : List ℕ → Results
-results p = record { columns = Layout.columns p; attack = Layout.attackOdds p; defence = Layout.defenceOdds p; code = Layout.code p }
+results p = record { columns = Layout.columns p; attack = Layout.attack_odds p; defence = Layout.defence_odds p; code = Layout.code p }
 
 abbrev pub ground : List ℕ → Map
 ground p =
@@ -105,7 +105,7 @@ abbrev pub desk : List ℕ → Desk
 desk p =
     record {
       clock = record { turn = Layout.turn p; force = Layout.phasing p; phase = Layout.phase p };
-      lastTurn = Layout.lastTurn p;
+      last_turn = Layout.last_turn p;
       battle = record { stage = Layout.stage p; owed = Layout.owed p; need = Layout.need p };
       route = Layout.route p;
       player = Layout.player p;
@@ -115,8 +115,8 @@ abbrev pub board : List ℕ → Board
 board p = record { chart = chart p; results = results p; map = ground p; units = units p; desk = desk p }
 
 -- the force of a unit
-unfoldable pub forceOf : Board → ℕ → ℕ
-forceOf b u = Kind.force (b.units.counter.nationality u)
+unfoldable pub force_of : Board → ℕ → ℕ
+force_of b u = Kind.force (b.units.counter.nationality u)
 
 -- "forces of one player are neither Friendly nor Enemy": Enemy is a force of another player
 unfoldable pub enemy : Board → ℕ → ℕ → Bool

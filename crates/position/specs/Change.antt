@@ -4,7 +4,7 @@ use Rattle.std.specs.Prelude.{ℕ, List, [], ◌∷◌, cond, ltb}
 use Rattle.position.specs.Bits.{with, tried, faced}
 use Rattle.position.specs.Role as Role
 use Rattle.position.specs.Layout as Layout
-use Rattle.position.specs.Layout.{setHex, setMarks, setRole, setClock, setStage, setRoute, clearRoutes, routeCount}
+use Rattle.position.specs.Layout.{set_hex, set_marks, set_role, set_clock, set_stage, set_route, clear_routes, route_count}
 use Rattle.position.specs.Board.{nowhere}
 
 pub data Change : Type 0 where
@@ -26,14 +26,14 @@ pub data Change : Type 0 where
   unrouted : Change
 
 unfoldable pub make : List ℕ → Change → List ℕ
-make p (placed u h) = cond (ltb h (Layout.hexes p)) (setHex p u h) p
-make p (destroyed u) = setRole (setMarks (setHex p u nowhere) u (faced (Layout.marks p u) 0)) u Role.none
-make p (marked u m) = setMarks p u (faced (Layout.marks p u) m)
-make p (assigned u r) = setRole p u r
-make p (timed t f ph) = setClock p t f ph
-make p (staged s n x) = setStage p s n x
-make p (routed r a b c d) = setRoute p r a b c d
-make p unrouted = clearRoutes p routeCount
+make p (placed u h) = cond (ltb h (Layout.hexes p)) (set_hex p u h) p
+make p (destroyed u) = set_role (set_marks (set_hex p u nowhere) u (faced (Layout.marks p u) 0)) u Role.none
+make p (marked u m) = set_marks p u (faced (Layout.marks p u) m)
+make p (assigned u r) = set_role p u r
+make p (timed t f ph) = set_clock p t f ph
+make p (staged s n x) = set_stage p s n x
+make p (routed r a b c d) = set_route p r a b c d
+make p unrouted = clear_routes p route_count
 
 -- one change after another
 unfoldable pub makes : List ℕ → List Change → List ℕ
@@ -42,7 +42,7 @@ makes p (x ∷ xs) = makes (make p x) xs
 
 -- unit u turned over: its strength is seen from now on
 unfoldable pub turned : List ℕ → ℕ → List ℕ
-turned p u = setMarks p u (with tried (Layout.marks p u))
+turned p u = set_marks p u (with tried (Layout.marks p u))
 
 -- whose strength unit u has after a change: its own
 unfoldable pub source : Change → ℕ → ℕ

@@ -3,7 +3,7 @@
 use Rattle.std.specs.Prelude.{ℕ, zero, suc, cond, ◌&&◌, List, [], ◌∷◌, ltb, eqb}
 use Rattle.position.specs.Bits.{with, tried, faced}
 use Rattle.position.specs.Role as Role
-use Rattle.position.specs.Layout.{routeCount}
+use Rattle.position.specs.Layout.{route_count}
 use Rattle.position.specs.Board.{Board, Units, State, Desk, nowhere}
 use Rattle.position.specs.Change.{Change}
 use Rattle.position.specs.Change.Change.{placed, destroyed, marked, assigned, timed, staged, routed, unrouted}
@@ -13,29 +13,29 @@ unfoldable pub upd : ℕ → (ℕ → ℕ) → ℕ → ℕ → ℕ → ℕ
 upd n f u x k = cond (ltb u n && eqb k u) x (f k)
 
 -- the units with another state, and the desk with another clock, battle or routes
-abbrev pub withState : Units → State → Units
-withState s t = record { count = s.count; counter = s.counter; state = t }
+abbrev pub with_state : Units → State → Units
+with_state s t = record { count = s.count; counter = s.counter; state = t }
 
-abbrev pub withHex : Units → ℕ → ℕ → Units
-withHex s u h =
+abbrev pub with_hex : Units → ℕ → ℕ → Units
+with_hex s u h =
     let t = s.state in
-    withState s (record { hex = upd s.count t.hex u h; shown = t.shown; marks = t.marks; role = t.role })
+    with_state s (record { hex = upd s.count t.hex u h; shown = t.shown; marks = t.marks; role = t.role })
 
-abbrev pub withMarks : Units → ℕ → ℕ → Units
-withMarks s u m =
+abbrev pub with_marks : Units → ℕ → ℕ → Units
+with_marks s u m =
     let t = s.state in
-    withState s (record { hex = t.hex; shown = t.shown; marks = upd s.count t.marks u m; role = t.role })
+    with_state s (record { hex = t.hex; shown = t.shown; marks = upd s.count t.marks u m; role = t.role })
 
-abbrev pub withRole : Units → ℕ → ℕ → Units
-withRole s u r =
+abbrev pub with_role : Units → ℕ → ℕ → Units
+with_role s u r =
     let t = s.state in
-    withState s (record { hex = t.hex; shown = t.shown; marks = t.marks; role = upd s.count t.role u r })
+    with_state s (record { hex = t.hex; shown = t.shown; marks = t.marks; role = upd s.count t.role u r })
 
 -- unit u turned over, which shows its strength x
-abbrev pub withShown : Units → ℕ → ℕ → Units
-withShown s u x =
+abbrev pub with_shown : Units → ℕ → ℕ → Units
+with_shown s u x =
     let t = s.state in
-    withState s
+    with_state s
     (record {
       hex = t.hex;
       shown = upd s.count t.shown u x;
@@ -43,28 +43,28 @@ withShown s u x =
       role = t.role;
     })
 
-abbrev pub withClock : Desk → ℕ → ℕ → ℕ → Desk
-withClock d t f ph =
+abbrev pub with_clock : Desk → ℕ → ℕ → ℕ → Desk
+with_clock d t f ph =
     record {
       clock = record { turn = t; force = f; phase = ph };
-      lastTurn = d.lastTurn;
+      last_turn = d.last_turn;
       battle = d.battle;
       route = d.route;
       player = d.player;
     }
 
-abbrev pub withStage : Desk → ℕ → ℕ → ℕ → Desk
-withStage d s n x =
+abbrev pub with_stage : Desk → ℕ → ℕ → ℕ → Desk
+with_stage d s n x =
     record {
       clock = d.clock;
-      lastTurn = d.lastTurn;
+      last_turn = d.last_turn;
       battle = record { stage = s; owed = n; need = x };
       route = d.route;
       player = d.player;
     }
 
-abbrev pub withRoutes : Desk → (ℕ → ℕ → ℕ) → Desk
-withRoutes d f = record { clock = d.clock; lastTurn = d.lastTurn; battle = d.battle; route = f; player = d.player }
+abbrev pub with_routes : Desk → (ℕ → ℕ → ℕ) → Desk
+with_routes d f = record { clock = d.clock; last_turn = d.last_turn; battle = d.battle; route = f; player = d.player }
 
 -- number j of the four
 abbrev pub of_four : ℕ → ℕ → ℕ → ℕ → ℕ → ℕ
@@ -76,32 +76,32 @@ of_four (suc (suc (suc (suc j)))) a b c d = nowhere
 
 -- the routes f, but route r is the four numbers
 unfoldable pub reroute : (ℕ → ℕ → ℕ) → ℕ → ℕ → ℕ → ℕ → ℕ → ℕ → ℕ → ℕ
-reroute f r a b c d i j = cond (ltb r routeCount && eqb i r) (of_four j a b c d) (f i j)
+reroute f r a b c d i j = cond (ltb r route_count && eqb i r) (of_four j a b c d) (f i j)
 
 unfoldable pub unfilled : ℕ → ℕ → ℕ
 unfilled i j = nowhere
 
-abbrev pub withUnits : Board → Units → Board
-withUnits b s = record { chart = b.chart; results = b.results; map = b.map; units = s; desk = b.desk }
+abbrev pub with_units : Board → Units → Board
+with_units b s = record { chart = b.chart; results = b.results; map = b.map; units = s; desk = b.desk }
 
-abbrev pub withDesk : Board → Desk → Board
-withDesk b d = record { chart = b.chart; results = b.results; map = b.map; units = b.units; desk = d }
+abbrev pub with_desk : Board → Desk → Board
+with_desk b d = record { chart = b.chart; results = b.results; map = b.map; units = b.units; desk = d }
 
 unfoldable pub change : Board → Change → Board
-change b (placed u h) = cond (ltb h b.map.hexes) (withUnits b (withHex b.units u h)) b
+change b (placed u h) = cond (ltb h b.map.hexes) (with_units b (with_hex b.units u h)) b
 change b (destroyed u) =
-    withUnits b (withRole (withMarks (withHex b.units u nowhere) u (faced (b.units.state.marks u) 0)) u Role.none)
-change b (marked u m) = withUnits b (withMarks b.units u (faced (b.units.state.marks u) m))
-change b (assigned u r) = withUnits b (withRole b.units u r)
-change b (timed t f ph) = withDesk b (withClock b.desk t f ph)
-change b (staged s n x) = withDesk b (withStage b.desk s n x)
-change b (routed r w x y z) = withDesk b (withRoutes b.desk (reroute b.desk.route r w x y z))
-change b unrouted = withDesk b (withRoutes b.desk unfilled)
+    with_units b (with_role (with_marks (with_hex b.units u nowhere) u (faced (b.units.state.marks u) 0)) u Role.none)
+change b (marked u m) = with_units b (with_marks b.units u (faced (b.units.state.marks u) m))
+change b (assigned u r) = with_units b (with_role b.units u r)
+change b (timed t f ph) = with_desk b (with_clock b.desk t f ph)
+change b (staged s n x) = with_desk b (with_stage b.desk s n x)
+change b (routed r w x y z) = with_desk b (with_routes b.desk (reroute b.desk.route r w x y z))
+change b unrouted = with_desk b (with_routes b.desk unfilled)
 
 unfoldable pub changes : Board → List Change → Board
 changes b [] = b
 changes b (x ∷ xs) = changes (change b x) xs
 
 -- unit u turned over, which shows its strength x
-unfoldable pub turnedUp : Board → ℕ → ℕ → Board
-turnedUp b u x = withUnits b (withShown b.units u x)
+unfoldable pub turned_up : Board → ℕ → ℕ → Board
+turned_up b u x = with_units b (with_shown b.units u x)

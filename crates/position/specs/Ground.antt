@@ -3,13 +3,13 @@
 use Rattle.std.specs.Prelude.{ℕ, zero, suc, ◌-◌, ◌/◌, ◌%◌, Bool, false, not, ◌&&◌, cond, ltb, leb, eqb}
 use Rattle.grid.specs.declared.Beside.{Beside}
 use Rattle.grid.specs.declared.Beside.TheVariants.{At, Off}
-use Rattle.grid.specs.Map.{neighbourOf}
+use Rattle.grid.specs.Map.{neighbour_of}
 use Rattle.position.specs.Tally.{any}
 use Rattle.position.specs.Board.{Board, Map}
 
 -- the neighbour of a hex on this map
 abbrev pub beside : Map → ℕ → ℕ → Beside
-beside m h d = neighbourOf m.width m.height h d
+beside m h d = neighbour_of m.width m.height h d
 
 -- "sides N + 4 x NE + 16 x SE (0 plain, 1 river, 2 major river, 3 blocked ..)": those are the directions 0, 1 and 2
 unfoldable pub stored : Map → ℕ → ℕ → ℕ
@@ -26,18 +26,18 @@ stored_at m Off d = 0
 unfoldable pub side : Map → ℕ → ℕ → ℕ
 side m h d = cond (ltb d 3) (stored m h d) (stored_at m (beside m h d) d)
 
-abbrev pub riverSide : ℕ
-riverSide = 1
+abbrev pub river_side : ℕ
+river_side = 1
 
-abbrev pub majorRiverSide : ℕ
-majorRiverSide = 2
+abbrev pub major_river_side : ℕ
+major_river_side = 2
 
-abbrev pub blockedSide : ℕ
-blockedSide = 3
+abbrev pub blocked_side : ℕ
+blocked_side = 3
 
 -- where a step over an unblocked side leads
 unfoldable pub next : Map → ℕ → ℕ → Beside
-next m h d = cond (eqb (side m h d) blockedSide) Off (beside m h d)
+next m h d = cond (eqb (side m h d) blocked_side) Off (beside m h d)
 
 unfoldable pub is_at : Beside → ℕ → Bool
 is_at (At n) x = eqb n x

@@ -18,8 +18,8 @@ militia = 3
 abbrev pub special : ℕ
 special = 4
 
-abbrev pub supplyKind : ℕ
-supplyKind = 5
+abbrev pub supply_kind : ℕ
+supply_kind = 5
 
 abbrev pub kinds : ℕ
 kinds = 6
@@ -58,34 +58,34 @@ by_kind (suc (suc (suc (suc (suc zero))))) ar me inf mi sp su none = su
 by_kind (suc (suc (suc (suc (suc (suc k)))))) ar me inf mi sp su none = none
 
 -- "A unit type carries its own fixed answers: whether it casts a zone (0, 1, 2, 4),"
-unfoldable pub castsZone : ℕ → Bool
-castsZone k = by_kind k true true true false true false false
+unfoldable pub casts_zone : ℕ → Bool
+casts_zone k = by_kind k true true true false true false false
 
 -- "may attack (all but 5),"
-unfoldable pub mayAttack : ℕ → Bool
-mayAttack k = by_kind k true true true true true false false
+unfoldable pub may_attack : ℕ → Bool
+may_attack k = by_kind k true true true true true false false
 
 -- "may move by land (all but 5),"
-unfoldable pub movesByLand : ℕ → Bool
-movesByLand k = by_kind k true true true true true false false
+unfoldable pub moves_by_land : ℕ → Bool
+moves_by_land k = by_kind k true true true true true false false
 
 -- "and moves in phase 2 (0, 1)."
-unfoldable pub movesInPhase2 : ℕ → Bool
-movesInPhase2 k = by_kind k true true false false false false false
+unfoldable pub moves_in_phase2 : ℕ → Bool
+moves_in_phase2 k = by_kind k true true false false false false false
 
 -- "Types 4 and 5 are always tried."
-unfoldable pub alwaysTried : ℕ → Bool
-alwaysTried k = by_kind k false false false false true true false
+unfoldable pub always_tried : ℕ → Bool
+always_tried k = by_kind k false false false false true true false
 
 -- "3 and 4 form force 3": every other nationality is a force of its own
 unfoldable pub force : ℕ → ℕ
 force n = cond (eqb n canada) home n
 
 -- the nationalities that a type may have: "militia (force 3 only)", "special infantry (P.A.L. only)", "supply unit (nationality 0..2 ..)"
-unfoldable pub mayBelong : ℕ → ℕ → Bool
-mayBelong k n =
+unfoldable pub may_belong : ℕ → ℕ → Bool
+may_belong k n =
     by_kind k (leb n canada) (leb n canada) (leb n canada) (eqb (force n) home) (eqb n pal) (leb n pal) false
 
 -- the allowance that a type may have: 0..30, and "supply unit (.. allowance 0)"
-unfoldable pub mayAllow : ℕ → ℕ → Bool
-mayAllow k a = by_kind k (leb a 30) (leb a 30) (leb a 30) (leb a 30) (leb a 30) (eqb a 0) false
+unfoldable pub may_allow : ℕ → ℕ → Bool
+may_allow k a = by_kind k (leb a 30) (leb a 30) (leb a 30) (leb a 30) (leb a 30) (eqb a 0) false

@@ -28,7 +28,7 @@ pub record Sized (p : List ℕ) (v : View) : Type 0 where
   pub columns : In 1 (Layout.columns p) 12
   pub width : In 1 (Layout.width p) 64
   pub height : In 1 (Layout.height p) 64
-  pub count : Layout.count p ≤ Layout.unitsMost
-  pub whole : length p ≡ Layout.deskAt p + Layout.deskLength p
+  pub count : Layout.count p ≤ Layout.units_most
+  pub whole : length p ≡ Layout.desk_at p + Layout.desk_length p
   pub view : ViewOf p v
   pub fits : Fits (length p) v

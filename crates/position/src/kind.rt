@@ -1,6 +1,6 @@
 // Unit types and nationalities: the one place that knows what each may do.
 ghost use Rattle.std.specs.Prelude.{◌≡◌};
-ghost use Rattle.position.specs.Kind.{castsZone, mayAttack, movesByLand, movesInPhase2, alwaysTried, force, mayBelong, mayAllow};
+ghost use Rattle.position.specs.Kind.{casts_zone, may_attack, moves_by_land, moves_in_phase2, always_tried, force, may_belong, may_allow};
 
 // The nationalities that rules name, and the force of US and Canada.
 pub const PAL: usize = 2;
@@ -28,7 +28,7 @@ impl Kind {
     pub const SUPPLY: usize = 5;
 
     pub fn casts_zone(self) -> bool
-        ensures { result ≡ castsZone self.0 }
+        ensures { result ≡ casts_zone self.0 }
     {
         let k = self.0;
         if k == Kind::SPECIAL {
@@ -38,25 +38,25 @@ impl Kind {
     }
 
     pub fn may_attack(self) -> bool
-        ensures { result ≡ mayAttack self.0 }
+        ensures { result ≡ may_attack self.0 }
     {
         self.0 <= Kind::SPECIAL
     }
 
     pub fn moves_by_land(self) -> bool
-        ensures { result ≡ movesByLand self.0 }
+        ensures { result ≡ moves_by_land self.0 }
     {
         self.0 <= Kind::SPECIAL
     }
 
     pub fn moves_in_phase_2(self) -> bool
-        ensures { result ≡ movesInPhase2 self.0 }
+        ensures { result ≡ moves_in_phase2 self.0 }
     {
         self.0 <= Kind::MECHANISED
     }
 
     pub fn always_tried(self) -> bool
-        ensures { result ≡ alwaysTried self.0 }
+        ensures { result ≡ always_tried self.0 }
     {
         let k = self.0;
         if k == Kind::SPECIAL {
@@ -67,7 +67,7 @@ impl Kind {
 
     // Whether a unit of this type may have the nationality.
     pub fn may_belong(self, nationality: usize) -> bool
-        ensures { result ≡ mayBelong self.0 nationality }
+        ensures { result ≡ may_belong self.0 nationality }
     {
         let k = self.0;
         if k == Kind::MILITIA {
@@ -87,7 +87,7 @@ impl Kind {
 
     // Whether a unit of this type may have the allowance.
     pub fn may_allow(self, allowance: usize) -> bool
-        ensures { result ≡ mayAllow self.0 allowance }
+        ensures { result ≡ may_allow self.0 allowance }
     {
         let k = self.0;
         if k == Kind::SUPPLY {

@@ -1,7 +1,7 @@
 // Where each number of a position stands: the one file of the code that knows the format.
 ghost use Rattle.std.specs.Prelude.{◌≡◌, ◌+◌, ◌*◌, ◌<◌, ◌≤◌, length};
-ghost use Rattle.position.specs.Layout.{terrainSize, columnSize, hexSize, unitSize, playersField, chartAt};
-ghost use Rattle.position.specs.Layout.{word, cell, playersNamed, chartByte, columnByte, hexByte, unitByte, deskByte, setUnit, setDesk};
+ghost use Rattle.position.specs.Layout.{terrain_size, column_size, hex_size, unit_size, players_field, chart_at};
+ghost use Rattle.position.specs.Layout.{word, cell, players_named, chart_byte, column_byte, hex_byte, unit_byte, desk_byte, set_unit, set_desk};
 ghost use Rattle.position.specs.Laid.{Laid, Read};
 
 use crate::View;
@@ -144,8 +144,8 @@ pub fn word(p: &[u8], at: usize) -> usize
 
 // How many players the desk names: its length in the contents tells.
 pub fn players_named(p: &[u8]) -> usize
-    requires { chartAt ≤ length p.now }
-    ensures { result ≡ playersNamed p.now }
+    requires { chart_at ≤ length p.now }
+    ensures { result ≡ players_named p.now }
 {
     if word(p, DESK_EXTENT) == PLAYERS + FORCES {
         return FORCES;
@@ -165,22 +165,22 @@ fn cell(p: &[u8], start: usize, size: usize, n: usize, k: usize, f: usize) -> us
 }
 
 pub fn chart_byte(p: &[u8], v: View, t: usize, f: usize) -> usize
-    requires { Laid p.now v × (f < terrainSize) }
-    ensures { Read (chartByte p.now t f) 256 result }
+    requires { Laid p.now v × (f < terrain_size) }
+    ensures { Read (chart_byte p.now t f) 256 result }
 {
     cell(p, CHART, TERRAIN_SIZE, CHART_ROWS, t, f)
 }
 
 pub fn column_byte(p: &[u8], v: View, c: usize, f: usize) -> usize
-    requires { Laid p.now v × (f < columnSize) }
-    ensures { Read (columnByte p.now c f) 256 result }
+    requires { Laid p.now v × (f < column_size) }
+    ensures { Read (column_byte p.now c f) 256 result }
 {
     cell(p, RESULTS + RESULTS_HEAD, COLUMN_SIZE, v.columns, c, f)
 }
 
 pub fn hex_byte(p: &[u8], v: View, h: usize, f: usize) -> usize
-    requires { Laid p.now v × (f < hexSize) }
-    ensures { Read (hexByte p.now h f) 256 result }
+    requires { Laid p.now v × (f < hex_size) }
+    ensures { Read (hex_byte p.now h f) 256 result }
 {
     cell(
         p,
@@ -194,23 +194,23 @@ pub fn hex_byte(p: &[u8], v: View, h: usize, f: usize) -> usize
 
 // The same of a hex that is known to be on the map.
 pub fn map_byte(p: &[u8], v: View, h: usize, f: usize) -> usize
-    requires { Laid p.now v × (f < hexSize) × (h < v.hexes) }
-    ensures { Read (hexByte p.now h f) 256 result }
+    requires { Laid p.now v × (f < hex_size) × (h < v.hexes) }
+    ensures { Read (hex_byte p.now h f) 256 result }
 {
     let hexes = RESULTS + RESULTS_HEAD + COLUMN_SIZE * v.columns + MAP_HEAD;
     wide(p[hexes + HEX_SIZE * h + f])
 }
 
 pub fn unit_byte(p: &[u8], v: View, u: usize, f: usize) -> usize
-    requires { Laid p.now v × (f < unitSize) }
-    ensures { Read (unitByte p.now u f) 256 result }
+    requires { Laid p.now v × (f < unit_size) }
+    ensures { Read (unit_byte p.now u f) 256 result }
 {
     cell(p, v.units + UNITS_HEAD, UNIT_SIZE, v.count, u, f)
 }
 
 pub fn desk_byte(p: &[u8], v: View, f: usize) -> usize
-    requires { Laid p.now v × (f < playersField + v.players) }
-    ensures { Read (deskByte p.now f) 256 result }
+    requires { Laid p.now v × (f < players_field + v.players) }
+    ensures { Read (desk_byte p.now f) 256 result }
 {
     let at = v.desk + f;
     wide(p[at])
@@ -218,8 +218,8 @@ pub fn desk_byte(p: &[u8], v: View, f: usize) -> usize
 
 // Byte `f` of unit `u` becomes `x`; nothing changes where there is no such unit.
 pub fn set_unit(p: &mut [u8], v: View, u: usize, f: usize, x: usize)
-    requires { Laid p.old v × (f < unitSize) × (x < 256) }
-    ensures { p.new ≡ setUnit p.old u f x }
+    requires { Laid p.old v × (f < unit_size) × (x < 256) }
+    ensures { p.new ≡ set_unit p.old u f x }
 {
     let count = v.count;
     if u < count {
@@ -230,8 +230,8 @@ pub fn set_unit(p: &mut [u8], v: View, u: usize, f: usize, x: usize)
 
 // Byte `f` of the desk becomes `x`.
 pub fn set_desk(p: &mut [u8], v: View, f: usize, x: usize)
-    requires { Laid p.old v × (f < playersField) × (x < 256) }
-    ensures { p.new ≡ setDesk p.old f x }
+    requires { Laid p.old v × (f < players_field) × (x < 256) }
+    ensures { p.new ≡ set_desk p.old f x }
 {
     let at = v.desk + f;
     p[at] = x as u8;

@@ -3,8 +3,8 @@ ghost use Rattle.std.specs.Prelude.{◌<◌};
 ghost use Rattle.position.specs.Layout.{
   cost,
   multiple,
-  attackOdds,
-  defenceOdds,
+  attack_odds,
+  defence_odds,
   code,
   terrain,
   surface,
@@ -19,7 +19,7 @@ ghost use Rattle.position.specs.Layout.{
   marks,
   role,
   turn,
-  lastTurn,
+  last_turn,
   phasing,
   phase,
   stage,
@@ -50,14 +50,14 @@ pub fn multiple(p: &[u8], v: View, t: usize) -> usize
 // The odds of a column of the results, counted from 0: a to d.
 pub fn attack_odds(p: &[u8], v: View, c: usize) -> usize
     requires { Laid p.now v }
-    ensures { Read (attackOdds p.now c) 256 result }
+    ensures { Read (attack_odds p.now c) 256 result }
 {
     layout::column_byte(p, v, c, layout::ATTACK)
 }
 
 pub fn defence_odds(p: &[u8], v: View, c: usize) -> usize
     requires { Laid p.now v }
-    ensures { Read (defenceOdds p.now c) 256 result }
+    ensures { Read (defence_odds p.now c) 256 result }
 {
     layout::column_byte(p, v, c, layout::DEFENCE)
 }
@@ -185,7 +185,7 @@ pub fn turn(p: &[u8], v: View) -> usize
 
 pub fn last_turn(p: &[u8], v: View) -> usize
     requires { Laid p.now v }
-    ensures { Read (lastTurn p.now) 256 result }
+    ensures { Read (last_turn p.now) 256 result }
 {
     layout::desk_byte(p, v, layout::LAST_TURN)
 }

@@ -20,26 +20,26 @@ use Rattle.position.specs.Bits.{has}
 use Rattle.position.specs.Layout.{byte}
 use Rattle.position.specs.Board.{Board, Map}
 use Rattle.position.specs.Ground.{next}
-use Rattle.position.proofs.Tallies.{same_or, either, any-zero, any_step}
+use Rattle.position.proofs.Tallies.{same_or, either, any_zero, any_step}
 use Rattle.field.specs.Scene.{scene}
-use Rattle.field.specs.Zone.{standsOn}
-use Rattle.paint.specs.Paint.{Mark, inZone, byAny, spare, bit, Shows, Adds, only}
-use Rattle.paint.proofs.Bytes.{byte-set, byte-other}
+use Rattle.field.specs.Zone.{stands_on}
+use Rattle.paint.specs.Paint.{Mark, in_zone, by_any, spare, bit, Shows, Adds, only}
+use Rattle.paint.proofs.Bytes.{byte_set, byte_other}
 use Rattle.paint.proofs.Adding.{also}
-use Rattle.paint.proofs.Units.{marked-zone, marked-held, marked-spare}
+use Rattle.paint.proofs.Units.{marked_zone, marked_held, marked_spare}
 use Rattle.chains.specs.declared.Stand.{Stand}
 use Rattle.chains.specs.declared.Stand.TheVariants.{Shut, Free, Loose}
 use Rattle.chains.specs.Stand.{firm, stand}
-use Rattle.chains.specs.Chain.{leadsTo}
-use Rattle.plot.specs.Plot.{standOf, sideBit}
+use Rattle.chains.specs.Chain.{leads_to}
+use Rattle.plot.specs.Plot.{stand_of, side_bit}
 use Rattle.pushes.specs.Drawn.{
-  standNumber,
+  stand_number,
   opens,
-  openBits,
+  open_bits,
   byte_of,
-  firmOn,
-  barsBy,
-  barsBelow,
+  firm_on,
+  bars_by,
+  bars_below,
   ShownAt,
   Shown,
   DrawnTo,
@@ -51,25 +51,25 @@ use Rattle.pushes.specs.Drawn.{
 -- a step that leads to a hex, and one that leads to none
 module _ (m : Map) (x d : ℕ) {r : Beside} (q : r ≡ next m x d) where
   pub opens_at : {z : ℕ} → r ≡ At z → opens m x d ≡ true
-  unfolding opens leadsTo
+  unfolding opens leads_to
   opens_at e = rw (sym q ∙ e) refl
 
-  pub opens-off : r ≡ Off → opens m x d ≡ false
-  unfolding opens leadsTo
-  opens-off e = rw (sym q ∙ e) refl
+  pub opens_off : r ≡ Off → opens m x d ≡ false
+  unfolding opens leads_to
+  opens_off e = rw (sym q ∙ e) refl
 
 -- an answer as a number
 abbrev num : Bool → ℕ
 num true = 1
 num false = 0
 
-num-most : (t : Bool) → num t ≤ 1
-num-most true = omega arith
-num-most false = omega arith
+num_most : (t : Bool) → num t ≤ 1
+num_most true = omega arith
+num_most false = omega arith
 
-num-is : (t : Bool) → eqb (num t) 1 ≡ t
-num-is true = refl
-num-is false = refl
+num_is : (t : Bool) → eqb (num t) 1 ≡ t
+num_is true = refl
+num_is false = refl
 
 num_of : (t : Bool) (k : ℕ) → cond t k 0 ≡ num t * k
 num_of true k = sym (one-mul k)
@@ -77,39 +77,39 @@ num_of false k = sym (zero-mul k)
 
 -- the bits of one direction more
 module _ (m : Map) (x : ℕ) where
-  pub bits_none : openBits m x 0 ≡ 0
-  unfolding openBits
+  pub bits_none : open_bits m x 0 ≡ 0
+  unfolding open_bits
   bits_none = refl
 
   module _ (d : ℕ) where
-    more : openBits m x (d + 1) ≡ cond (opens m x d) (sideBit d) 0 + openBits m x d
-    unfolding openBits
-    more = ap (openBits m x) (add-one d)
+    more : open_bits m x (d + 1) ≡ cond (opens m x d) (side_bit d) 0 + open_bits m x d
+    unfolding open_bits
+    more = ap (open_bits m x) (add-one d)
 
     -- as a product
-    added : (k : ℕ) → sideBit d ≡ k → openBits m x (d + 1) ≡ num (opens m x d) * k + openBits m x d
+    added : (k : ℕ) → side_bit d ≡ k → open_bits m x (d + 1) ≡ num (opens m x d) * k + open_bits m x d
     added k e =
-        more ∙ ap (λ (n : ℕ). n + openBits m x d) (num_of (opens m x d) (sideBit d) ∙ ap (λ (n : ℕ). num (opens m x d) * n) e)
+        more ∙ ap (λ (n : ℕ). n + open_bits m x d) (num_of (opens m x d) (side_bit d) ∙ ap (λ (n : ℕ). num (opens m x d) * n) e)
 
-    pub bits-open : opens m x d ≡ true → openBits m x (d + 1) ≡ openBits m x d + sideBit d
-    bits-open e = let c : cond (opens m x d) (sideBit d) 0 ≡ sideBit d = rw e refl in omega (arith, more, c)
+    pub bits_open : opens m x d ≡ true → open_bits m x (d + 1) ≡ open_bits m x d + side_bit d
+    bits_open e = let c : cond (opens m x d) (side_bit d) 0 ≡ side_bit d = rw e refl in omega (arith, more, c)
 
-    pub bits-shut : opens m x d ≡ false → openBits m x (d + 1) ≡ openBits m x d
-    bits-shut e = let c : cond (opens m x d) (sideBit d) 0 ≡ 0 = rw e refl in omega (arith, more, c)
+    pub bits_shut : opens m x d ≡ false → open_bits m x (d + 1) ≡ open_bits m x d
+    bits_shut e = let c : cond (opens m x d) (side_bit d) 0 ≡ 0 = rw e refl in omega (arith, more, c)
 
-    grown : openBits m x (d + 1) ≤ openBits m x d + sideBit d
-    grown = either (opens m x d) (λ e. omega (arith, bits-open e)) (λ e. omega (arith, bits-shut e))
+    grown : open_bits m x (d + 1) ≤ open_bits m x d + side_bit d
+    grown = either (opens m x d) (λ e. omega (arith, bits_open e)) (λ e. omega (arith, bits_shut e))
 
   -- they are less than the next bit
-  pub bits-low : (d : ℕ) → d ≤ 6 → openBits m x d + 4 ≤ sideBit d
-  bits-low zero l = omega (arith, bits_none)
-  bits-low (suc zero) l = omega (arith, grown 0, bits-low zero (omega arith))
-  bits-low (suc (suc zero)) l = omega (arith, grown 1, bits-low (suc zero) (omega arith))
-  bits-low (suc (suc (suc zero))) l = omega (arith, grown 2, bits-low (suc (suc zero)) (omega arith))
-  bits-low (suc (suc (suc (suc zero)))) l = omega (arith, grown 3, bits-low (suc (suc (suc zero))) (omega arith))
-  bits-low (suc (suc (suc (suc (suc zero))))) l = omega (arith, grown 4, bits-low (suc (suc (suc (suc zero)))) (omega arith))
-  bits-low (suc (suc (suc (suc (suc (suc zero)))))) l = omega (arith, grown 5, bits-low (suc (suc (suc (suc (suc zero))))) (omega arith))
-  bits-low (suc (suc (suc (suc (suc (suc (suc d))))))) l = absurd (omega arith)
+  pub bits_low : (d : ℕ) → d ≤ 6 → open_bits m x d + 4 ≤ side_bit d
+  bits_low zero l = omega (arith, bits_none)
+  bits_low (suc zero) l = omega (arith, grown 0, bits_low zero (omega arith))
+  bits_low (suc (suc zero)) l = omega (arith, grown 1, bits_low (suc zero) (omega arith))
+  bits_low (suc (suc (suc zero))) l = omega (arith, grown 2, bits_low (suc (suc zero)) (omega arith))
+  bits_low (suc (suc (suc (suc zero)))) l = omega (arith, grown 3, bits_low (suc (suc (suc zero))) (omega arith))
+  bits_low (suc (suc (suc (suc (suc zero))))) l = omega (arith, grown 4, bits_low (suc (suc (suc (suc zero)))) (omega arith))
+  bits_low (suc (suc (suc (suc (suc (suc zero)))))) l = omega (arith, grown 5, bits_low (suc (suc (suc (suc (suc zero))))) (omega arith))
+  bits_low (suc (suc (suc (suc (suc (suc (suc d))))))) l = absurd (omega arith)
 
 -- what a sum of six bits over a number up to 3 is made of
 record Parts (n k a b c d e f : ℕ) : Type 0 where
@@ -138,7 +138,7 @@ parts n k a b c d e f lk la lb lc ld le lf q =
 -- a byte has the bits of the open directions, above what it says of its place
 module _ (m : Map) (x k : ℕ) (l : k ≤ 3) where
   made :
-      openBits m x 6 ≡
+      open_bits m x 6 ≡
       num (opens m x 5) * 128
       + (num (opens m x 4) * 64
       + (num (opens m x 3) * 32 + (num (opens m x 2) * 16 + (num (opens m x 1) * 8 + (num (opens m x 0) * 4 + 0)))))
@@ -155,124 +155,124 @@ module _ (m : Map) (x k : ℕ) (l : k ≤ 3) where
       )
 
   split :
-      Parts (openBits m x 6 + k) k (num (opens m x 0)) (num (opens m x 1)) (num (opens m x 2)) (num (opens m x 3)) (num (opens m x 4))
+      Parts (open_bits m x 6 + k) k (num (opens m x 0)) (num (opens m x 1)) (num (opens m x 2)) (num (opens m x 3)) (num (opens m x 4))
       (num (opens m x 5))
   split =
-      parts (openBits m x 6 + k) k (num (opens m x 0)) (num (opens m x 1)) (num (opens m x 2)) (num (opens m x 3)) (num (opens m x 4))
-      (num (opens m x 5)) l (num-most (opens m x 0)) (num-most (opens m x 1)) (num-most (opens m x 2)) (num-most (opens m x 3))
-      (num-most (opens m x 4)) (num-most (opens m x 5)) (ap (λ (n : ℕ). n + k) made)
+      parts (open_bits m x 6 + k) k (num (opens m x 0)) (num (opens m x 1)) (num (opens m x 2)) (num (opens m x 3)) (num (opens m x 4))
+      (num (opens m x 5)) l (num_most (opens m x 0)) (num_most (opens m x 1)) (num_most (opens m x 2)) (num_most (opens m x 3))
+      (num_most (opens m x 4)) (num_most (opens m x 5)) (ap (λ (n : ℕ). n + k) made)
 
-  asked : (n d : ℕ) → (openBits m x 6 + k) / n % 2 ≡ num (opens m x d) → has n (openBits m x 6 + k) ≡ opens m x d
+  asked : (n d : ℕ) → (open_bits m x 6 + k) / n % 2 ≡ num (opens m x d) → has n (open_bits m x 6 + k) ≡ opens m x d
   unfolding has
-  asked n d e = ap (λ (b : ℕ). eqb b 1) e ∙ num-is (opens m x d)
+  asked n d e = ap (λ (b : ℕ). eqb b 1) e ∙ num_is (opens m x d)
 
-  has-open : (d : ℕ) → d < 6 → has (sideBit d) (openBits m x 6 + k) ≡ opens m x d
-  has-open zero q = asked 4 0 split.first
-  has-open (suc zero) q = asked 8 1 split.second
-  has-open (suc (suc zero)) q = asked 16 2 split.third
-  has-open (suc (suc (suc zero))) q = asked 32 3 split.fourth
-  has-open (suc (suc (suc (suc zero)))) q = asked 64 4 split.fifth
-  has-open (suc (suc (suc (suc (suc zero))))) q = asked 128 5 split.sixth
-  has-open (suc (suc (suc (suc (suc (suc d)))))) q = absurd (omega arith)
+  has_open : (d : ℕ) → d < 6 → has (side_bit d) (open_bits m x 6 + k) ≡ opens m x d
+  has_open zero q = asked 4 0 split.first
+  has_open (suc zero) q = asked 8 1 split.second
+  has_open (suc (suc zero)) q = asked 16 2 split.third
+  has_open (suc (suc (suc zero))) q = asked 32 3 split.fourth
+  has_open (suc (suc (suc (suc zero)))) q = asked 64 4 split.fifth
+  has_open (suc (suc (suc (suc (suc zero))))) q = asked 128 5 split.sixth
+  has_open (suc (suc (suc (suc (suc (suc d)))))) q = absurd (omega arith)
 
-  rest-is : (openBits m x 6 + k) % 4 ≡ k
-  rest-is = split.low
+  rest_is : (open_bits m x 6 + k) % 4 ≡ k
+  rest_is = split.low
 
 -- and what it says of its place is the stand whose number was added
-by_number : (n : ℕ) (s : Stand) → n % 4 ≡ standNumber s → standOf n ≡ s
-unfolding standOf
+by_number : (n : ℕ) (s : Stand) → n % 4 ≡ stand_number s → stand_of n ≡ s
+unfolding stand_of
 by_number n Shut e = rw e refl
 by_number n Free e = rw e refl
 by_number n Loose e = rw e refl
 
-number-most : (s : Stand) → standNumber s ≤ 3
-number-most Shut = omega arith
-number-most Free = omega arith
-number-most Loose = omega arith
+number_most : (s : Stand) → stand_number s ≤ 3
+number_most Shut = omega arith
+number_most Free = omega arith
+number_most Loose = omega arith
 
-pub stand-back : (m : Map) (x : ℕ) (s : Stand) → standOf (openBits m x 6 + standNumber s) ≡ s
-stand-back m x s = by_number (openBits m x 6 + standNumber s) s (rest-is m x (standNumber s) (number-most s))
+pub stand_back : (m : Map) (x : ℕ) (s : Stand) → stand_of (open_bits m x 6 + stand_number s) ≡ s
+stand_back m x s = by_number (open_bits m x 6 + stand_number s) s (rest_is m x (stand_number s) (number_most s))
 
-pub has-back : (m : Map) (x : ℕ) (s : Stand) (d : ℕ) → d < 6 → has (sideBit d) (openBits m x 6 + standNumber s) ≡ opens m x d
-has-back m x s d l = has-open m x (standNumber s) (number-most s) d l
+pub has_back : (m : Map) (x : ℕ) (s : Stand) (d : ℕ) → d < 6 → has (side_bit d) (open_bits m x 6 + stand_number s) ≡ opens m x d
+has_back m x s d l = has_open m x (stand_number s) (number_most s) d l
 
 -- what unit u adds to the marks: nothing, or the spare one on its hex
 module _ (b : Board) (f u : ℕ) where
-  pub bars-none : firm b f u ≡ false → (k : Mark) (h : ℕ) → barsBy b f u k h ≡ false
-  unfolding barsBy firmOn
-  bars-none e k h = simp (e, and-false)
+  pub bars_none : firm b f u ≡ false → (k : Mark) (h : ℕ) → bars_by b f u k h ≡ false
+  unfolding bars_by firm_on
+  bars_none e k h = simp (e, and-false)
 
-  pub bars-off : (k : Mark) (h : ℕ) → (b.units.state.hex u ≡ h → ⊥) → barsBy b f u k h ≡ false
-  unfolding barsBy firmOn standsOn
-  bars-off k h n = simp (ne_eqb (b.units.state.hex u) h n, and-false)
+  pub bars_off : (k : Mark) (h : ℕ) → (b.units.state.hex u ≡ h → ⊥) → bars_by b f u k h ≡ false
+  unfolding bars_by firm_on stands_on
+  bars_off k h n = simp (ne_eqb (b.units.state.hex u) h n, and-false)
 
-  pub bars-here : {n : ℕ} → n ≡ b.units.state.hex u → firm b f u ≡ true → (k : Mark) (h : ℕ) → only 32 n k h ≡ barsBy b f u k h
-  unfolding only barsBy firmOn standsOn
-  bars-here {n} e q k h = rw e (simp (q, and-true))
+  pub bars_here : {n : ℕ} → n ≡ b.units.state.hex u → firm b f u ≡ true → (k : Mark) (h : ℕ) → only 32 n k h ≡ bars_by b f u k h
+  unfolding only bars_by firm_on stands_on
+  bars_here {n} e q k h = rw e (simp (q, and-true))
 
 -- one unit after the other
 module _ (b : Board) (f : ℕ) where
-  pub below_none : (k : Mark) (h : ℕ) → barsBelow b f 0 k h ≡ false
-  unfolding barsBelow
-  below_none k h = simp (any-zero (firmOn b f h), and-false)
+  pub below_none : (k : Mark) (h : ℕ) → bars_below b f 0 k h ≡ false
+  unfolding bars_below
+  below_none k h = simp (any_zero (firm_on b f h), and-false)
 
-  pub below_step : (u : ℕ) (k : Mark) (h : ℕ) → also (barsBelow b f u) (barsBy b f u) k h ≡ barsBelow b f (u + 1) k h
-  unfolding also barsBelow barsBy
+  pub below_step : (u : ℕ) (k : Mark) (h : ℕ) → also (bars_below b f u) (bars_by b f u) k h ≡ bars_below b f (u + 1) k h
+  unfolding also bars_below bars_by
   below_step u k h =
-      either (eqb (bit k) 32) (λ e. simp e (sym (any_step (firmOn b f h) u))) (λ e. simp e)
+      either (eqb (bit k) 32) (λ e. simp e (sym (any_step (firm_on b f h) u))) (λ e. simp e)
 
 -- all of them, over what was painted, show the region
 pub shown :
     {b : Board} {f c : ℕ} {at : Region} {l m : List ℕ} → c ≡ b.units.count → Shows (scene b) f at l
-    → Adds b.map.width b.map.height at (barsBelow b f c) l m → Shown b f at m
-unfolding barsBelow
+    → Adds b.map.width b.map.height at (bars_below b f c) l m → Shown b f at m
+unfolding bars_below
 shown {b} {f} {c} e s a =
     record {
       each = λ h i.
           let k = s.each h i in
           record {
-            zone = a.each inZone h i ∙ marked-zone k;
-            held = a.each byAny h i ∙ marked-held k;
+            zone = a.each in_zone h i ∙ marked_zone k;
+            held = a.each by_any h i ∙ marked_held k;
             barred =
                 a.each spare h i
-                ∙ ap (λ (x : Bool). any (firmOn b f h) c || x) (marked-spare k)
-                ∙ or-false (any (firmOn b f h) c)
-                ∙ ap (any (firmOn b f h)) e;
+                ∙ ap (λ (x : Bool). any (firm_on b f h) c || x) (marked_spare k)
+                ∙ or-false (any (firm_on b f h) c)
+                ∙ ap (any (firm_on b f h)) e;
           };
     }
 
 -- the hex of a place, or that it has none
 module _ {w h i : ℕ} {at : Region} {r : Beside} (k : HexOf w h at i r) where
-  pub hex-here : {x : ℕ} → r ≡ At x → Inside w h at x × (place_of w at x ≡ i)
-  hex-here e = subst (HexOf w h at i) e k
+  pub hex_here : {x : ℕ} → r ≡ At x → Inside w h at x × (place_of w at x ≡ i)
+  hex_here e = subst (HexOf w h at i) e k
 
-  pub hex-nowhere : r ≡ Off → (x : ℕ) → Inside w h at x → place_of w at x ≡ i → ⊥
-  hex-nowhere e = subst (HexOf w h at i) e k
+  pub hex_nowhere : r ≡ Off → (x : ℕ) → Inside w h at x → place_of w at x ≡ i → ⊥
+  hex_nowhere e = subst (HexOf w h at i) e k
 
 -- the byte of a hex
-pub byte-of : (b : Board) (f start x : ℕ) → byte_of b f start x ≡ openBits b.map x 6 + standNumber (stand b f start x)
+pub byte-of : (b : Board) (f start x : ℕ) → byte_of b f start x ≡ open_bits b.map x 6 + stand_number (stand b f start x)
 unfolding byte_of
 byte-of b f start x = refl
 
 -- along a pass over the places
 module _ {b : Board} {f start : ℕ} {at : Region} where
-  pub drawing-none : {l : List ℕ} → length l ≡ 182 → Shown b f at l → DrawnTo b f start at 0 l
-  drawing-none n s = record { long = n; done = λ x i q. absurd (omega arith); left = λ x i q. s.each x i }
+  pub drawing_none : {l : List ℕ} → length l ≡ 182 → Shown b f at l → DrawnTo b f start at 0 l
+  drawing_none n s = record { long = n; done = λ x i q. absurd (omega arith); left = λ x i q. s.each x i }
 
   module _ {i : ℕ} {l : List ℕ} (d : DrawnTo b f start at i l) where
-    pub shown-in : ShownIn b f at i (byte l i)
-    shown-in x j e = subst (λ (n : ℕ). ShownAt b f x (byte l n)) e (d.left x j (omega (arith, e)))
+    pub shown_in : ShownIn b f at i (byte l i)
+    shown_in x j e = subst (λ (n : ℕ). ShownAt b f x (byte l n)) e (d.left x j (omega (arith, e)))
 
-    pub drawing-more : (r : ℕ) → i < 182 → ByteIn b f start at i r → DrawnTo b f start at (i + 1) (set l i r)
-    drawing-more r q e =
+    pub drawing_more : (r : ℕ) → i < 182 → ByteIn b f start at i r → DrawnTo b f start at (i + 1) (set l i r)
+    drawing_more r q e =
         let w = b.map.width in
         record {
           long = length-set l i r ∙ d.long;
           done = λ x j k. same_or (place_of w at x) i
-              (λ z. ap (byte (set l i r)) z ∙ byte-set l i r (omega (arith, d.long)) ∙ e x j z)
-              (λ z. byte-other l i r (place_of w at x) z ∙ d.done x j (omega arith));
+              (λ z. ap (byte (set l i r)) z ∙ byte_set l i r (omega (arith, d.long)) ∙ e x j z)
+              (λ z. byte_other l i r (place_of w at x) z ∙ d.done x j (omega arith));
           left = λ x j k.
-              subst (ShownAt b f x) (sym (byte-other l i r (place_of w at x) (λ z. omega (arith, z)))) (d.left x j (omega arith));
+              subst (ShownAt b f x) (sym (byte_other l i r (place_of w at x) (λ z. omega (arith, z)))) (d.left x j (omega arith));
         }
 
     pub drawn : 182 ≤ i → Round b.map.width b.map.height start 6 at → Drawn b f start at l

@@ -10,49 +10,49 @@ use Rattle.position.specs.Layout.{byte}
 use Rattle.position.specs.Board.{Board, Map}
 use Rattle.position.specs.Ground.{next}
 use Rattle.field.specs.Scene.{scene}
-use Rattle.field.specs.Zone.{standsOn, vacant, enemyZone}
-use Rattle.paint.specs.Paint.{Mark, bit, zoneMark, heldMark, spareMark}
+use Rattle.field.specs.Zone.{stands_on, vacant, enemy_zone}
+use Rattle.paint.specs.Paint.{Mark, bit, zone_mark, held_mark, spare_mark}
 use Rattle.chains.specs.declared.Stand.{Stand}
 use Rattle.chains.specs.declared.Stand.TheVariants.{Shut, Free, Loose}
 use Rattle.chains.specs.Stand.{firm, stand}
-use Rattle.chains.specs.Chain.{leadsTo}
-use Rattle.plot.specs.Plot.{places, sideBit}
+use Rattle.chains.specs.Chain.{leads_to}
+use Rattle.plot.specs.Plot.{places, side_bit}
 
 -- the number of a stand
-abbrev pub standNumber : Stand → ℕ
-standNumber Shut = 0
-standNumber Free = 1
-standNumber Loose = 2
+abbrev pub stand_number : Stand → ℕ
+stand_number Shut = 0
+stand_number Free = 1
+stand_number Loose = 2
 
 -- a step from hex x in direction d leads to a hex
 unfoldable pub opens : Map → ℕ → ℕ → Bool
-opens m x d = leadsTo (λ z. true) (next m x d)
+opens m x d = leads_to (λ z. true) (next m x d)
 
 -- the bits of the directions before d in which one does
-unfoldable pub openBits : Map → ℕ → ℕ → ℕ
-openBits m x zero = 0
-openBits m x (suc d) = cond (opens m x d) (sideBit d) 0 + openBits m x d
+unfoldable pub open_bits : Map → ℕ → ℕ → ℕ
+open_bits m x zero = 0
+open_bits m x (suc d) = cond (opens m x d) (side_bit d) 0 + open_bits m x d
 
 -- the byte of hex x, drawn for a group of force f in hex `start`
 unfoldable pub byte_of : Board → ℕ → ℕ → ℕ → ℕ
-byte_of b f start x = openBits b.map x 6 + standNumber (stand b f start x)
+byte_of b f start x = open_bits b.map x 6 + stand_number (stand b f start x)
 
 -- unit u stands on hex h, and its stack can't be pushed by force f
-unfoldable pub firmOn : Board → ℕ → ℕ → ℕ → Bool
-firmOn b f h u = standsOn (scene b) h u && firm b f u
+unfoldable pub firm_on : Board → ℕ → ℕ → ℕ → Bool
+firm_on b f h u = stands_on (scene b) h u && firm b f u
 
 -- the spare mark on the hex of unit u, if that is so; and on those of the units before it
-unfoldable pub barsBy : Board → ℕ → ℕ → Mark → ℕ → Bool
-barsBy b f u k h = eqb (bit k) spareMark && firmOn b f h u
+unfoldable pub bars_by : Board → ℕ → ℕ → Mark → ℕ → Bool
+bars_by b f u k h = eqb (bit k) spare_mark && firm_on b f h u
 
-unfoldable pub barsBelow : Board → ℕ → ℕ → Mark → ℕ → Bool
-barsBelow b f u k h = eqb (bit k) spareMark && any (firmOn b f h) u
+unfoldable pub bars_below : Board → ℕ → ℕ → Mark → ℕ → Bool
+bars_below b f u k h = eqb (bit k) spare_mark && any (firm_on b f h) u
 
 -- what the marks m say of hex h
 pub record ShownAt (b : Board) (f h m : ℕ) : Type 0 where
-  pub zone : has zoneMark m ≡ enemyZone (scene b) f h
-  pub held : has heldMark m ≡ not (vacant (scene b) h)
-  pub barred : has spareMark m ≡ any (firmOn b f h) b.units.count
+  pub zone : has zone_mark m ≡ enemy_zone (scene b) f h
+  pub held : has held_mark m ≡ not (vacant (scene b) h)
+  pub barred : has spare_mark m ≡ any (firm_on b f h) b.units.count
 
 -- the buffer l shows the region so
 pub record Shown (b : Board) (f : ℕ) (at : Region) (l : List ℕ) : Type 0 where

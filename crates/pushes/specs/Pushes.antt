@@ -3,10 +3,10 @@
 -- Assumes nothing.
 use Rattle.std.specs.Prelude.{ℕ, cond, ◌&&◌, List, eqb, length}
 use Rattle.position.specs.Board.{Board}
-use Rattle.chains.specs.Follows.{legalPushes}
-use Rattle.chains.specs.Serves.{pushesServe}
-use Rattle.plot.specs.Search.{servesIn}
-use Rattle.plot.specs.Follow.{followsIn}
+use Rattle.chains.specs.Follows.{legal_pushes}
+use Rattle.chains.specs.Serves.{pushes_serve}
+use Rattle.plot.specs.Search.{serves_in}
+use Rattle.plot.specs.Follow.{follows_in}
 use Rattle.pushes.specs.declared.Served.{Served}
 use Rattle.pushes.specs.declared.Served.TheVariants.{None, Wrong, Right}
 
@@ -14,11 +14,11 @@ use Rattle.pushes.specs.declared.Served.TheVariants.{None, Wrong, Right}
 -- must be legal together"
 unfoldable pub served : Board → ℕ → ℕ → ℕ → List ℕ → List ℕ → Served
 served b f start n route pushes =
-    cond (pushesServe b f start n) (cond (legalPushes b f start n route pushes) Right Wrong) None
+    cond (pushes_serve b f start n) (cond (legal_pushes b f start n route pushes) Right Wrong) None
 
 -- the same asked of a plot l, on which each hex has its place and the group starts from the place `home`
-unfoldable pub servedIn : (ℕ → ℕ) → ℕ → List ℕ → ℕ → List ℕ → List ℕ → Served
-servedIn place home l n route pushes =
-    cond (servesIn home l n 0 home)
-    (cond (eqb (length route) n && followsIn place home l 0 home route 0 pushes) Right Wrong)
+unfoldable pub served_in : (ℕ → ℕ) → ℕ → List ℕ → ℕ → List ℕ → List ℕ → Served
+served_in place home l n route pushes =
+    cond (serves_in home l n 0 home)
+    (cond (eqb (length route) n && follows_in place home l 0 home route 0 pushes) Right Wrong)
     None

@@ -6,7 +6,7 @@ ghost use Rattle.position.specs.Laid.{Laid};
 ghost use Rattle.paint.specs.Room.{Room};
 ghost use Rattle.paint.specs.Paint.{Adds};
 ghost use Rattle.chains.specs.declared.Stand.{Stand};
-ghost use Rattle.pushes.specs.Drawn.{standNumber, openBits, barsBy, barsBelow, Shown, ShownIn, ByteIn, Drawn};
+ghost use Rattle.pushes.specs.Drawn.{stand_number, open_bits, bars_by, bars_below, Shown, ShownIn, ByteIn, Drawn};
 
 use crate::stands;
 use chains::Stand;
@@ -18,7 +18,7 @@ use survey::{near, region};
 
 // The number of a stand.
 fn stand_number(s: Stand) -> usize
-    ensures { (result ≡ standNumber s) × (result ≤ 2) }
+    ensures { (result ≡ stand_number s) × (result ≤ 2) }
 {
     match s {
         Stand::Shut => 0,
@@ -30,7 +30,7 @@ fn stand_number(s: Stand) -> usize
 // The bits of the directions in which a step from hex `x` leads to a hex.
 fn open_bits(p: &[u8], v: View, x: usize) -> usize
     requires { Laid p.now v }
-    ensures { (result ≡ openBits (board p.now).map x 6) × (result ≤ 252) }
+    ensures { (result ≡ open_bits (board p.now).map x 6) × (result ≤ 252) }
 {
     let mut m = 0;
     for d in 0..6 {
@@ -44,7 +44,7 @@ fn open_bits(p: &[u8], v: View, x: usize) -> usize
 // Marks the hex of unit `u`, if its stack can't be pushed by force `f`.
 fn bar(p: &[u8], v: View, at: Region, f: usize, u: usize, room: &mut [u8])
     requires { Laid p.now v × Room at room.old }
-    ensures { Adds v.width v.height at (barsBy (board p.now) f u) room.old room.new }
+    ensures { Adds v.width v.height at (bars_by (board p.now) f u) room.old room.new }
 {
     if !stands::firm(p, v, f, u) {
         return;
@@ -61,7 +61,7 @@ fn bar(p: &[u8], v: View, at: Region, f: usize, u: usize, room: &mut [u8])
 // Marks those of all such units.
 fn bar_all(p: &[u8], v: View, at: Region, f: usize, room: &mut [u8])
     requires { Laid p.now v × Room at room.old }
-    ensures { Adds v.width v.height at (barsBelow (board p.now) f v.count) room.old room.new }
+    ensures { Adds v.width v.height at (bars_below (board p.now) f v.count) room.old room.new }
 {
     let count = v.count;
     for u in 0..count {

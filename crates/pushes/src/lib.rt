@@ -6,7 +6,7 @@ ghost use Rattle.std.specs.Prelude.{◌≡◌, ◌<◌, ◌≤◌, length};
 ghost use Rattle.survey.specs.Region.{RegionOk, place_in};
 ghost use Rattle.position.specs.Board.{board};
 ghost use Rattle.position.specs.Laid.{Laid};
-ghost use Rattle.pushes.specs.Pushes.{served, servedIn};
+ghost use Rattle.pushes.specs.Pushes.{served, served_in};
 
 use position::View;
 use survey::region::Region;
@@ -34,7 +34,7 @@ fn judge_by(
     pushes: &[u16],
 ) -> Served
     requires { (length plot.old ≡ 182) × RegionOk at × (home < 182) × (n ≤ 3) }
-    ensures { result ≡ servedIn (place_in v.width v.height at) home plot.old n route.now pushes.now }
+    ensures { result ≡ served_in (place_in v.width v.height at) home plot.old n route.now pushes.now }
 {
     if !search::begins(plot, home, n) {
         return Served::None;

@@ -7,9 +7,9 @@ ghost use Rattle.position.specs.Laid.{Laid, Read};
 ghost use Rattle.field.specs.Scene.{scene};
 ghost use Rattle.supply.specs.Traced.{Traced};
 ghost use Rattle.results.specs.Participants.{defenders};
-ghost use Rattle.battle.specs.Line.{strengthOf};
+ghost use Rattle.battle.specs.Line.{strength_of};
 ghost use Rattle.line.specs.Line.{places, Filled};
-ghost use Rattle.battle.specs.Mustered.{Enlists, Joins, Musters, Prints, Standing, AllStanding, nationAt, Arms, ArmsHome, ArmsAll, drawn, Names};
+ghost use Rattle.battle.specs.Mustered.{Enlists, Joins, Musters, Prints, Standing, AllStanding, nation_at, Arms, ArmsHome, ArmsAll, drawn, Names};
 
 use field::unit;
 use line::Fighter;
@@ -70,7 +70,7 @@ pub fn strengths(p: &[u8], v: View, who: &[u16; 21], n: usize, printed: &mut [u8
 // What unit `u`, with a printed strength, fights with, as what is traced of its nationality's supply says.
 fn armed(p: &[u8], v: View, u: usize, printed: usize, map: &[u8]) -> usize
     requires { Laid p.now v × (printed < 256) × Standing (board p.now) u × Traced (scene (board p.now)) ((board p.now).units.counter.nationality u) map.now }
-    ensures { Read (strengthOf (board p.now) u printed) 256 result }
+    ensures { Read (strength_of (board p.now) u printed) 256 result }
 {
     let h = read::hex(p, v, u);
     unit::working(p, v, u, 2 <= map[h], printed)
@@ -101,7 +101,7 @@ fn arm_by(
 // Whether one of the first `n` is of the nationality.
 fn takes_part(p: &[u8], v: View, nation: usize, who: &[u16; 21], n: usize) -> bool
     requires { Laid p.now v × (n ≤ places) }
-    ensures { result ≡ any (nationAt (board p.now) nation who.now) n }
+    ensures { result ≡ any (nation_at (board p.now) nation who.now) n }
 {
     let mut i = 0;
     while i < n {

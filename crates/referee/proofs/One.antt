@@ -5,6 +5,6 @@ use Rattle.ruling.proofs.Meets.{only}
 use Rattle.ruling.specs.Packed.{packed}
 use Rattle.referee.specs.Exported.{OneExport}
 
-pub one-export : OneExport
-one-export p l v r r' q q' m m' g h =
+pub one_export : OneExport
+one_export p l v r r' q q' m m' g h =
     let o = only g.met h.met in (g.packs ∙ (ap packed o.answer ∙ sym h.packs), o.position, o.lent)

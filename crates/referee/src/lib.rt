@@ -1,7 +1,7 @@
 // The C library: each call exported with plain numbers and slices of numbers. It keeps nothing between calls.
 ghost use Rattle.std.specs.Prelude.{[]};
 ghost use Rattle.rules.specs.Order.{verdict};
-ghost use Rattle.rules.specs.Order.Order.{supply, move, endPhase, attack, retreat, losses, advance, close};
+ghost use Rattle.rules.specs.Order.Order.{supply, move, end_phase, attack, retreat, losses, advance, close};
 ghost use Rattle.checking.specs.Why.{WhyOf};
 ghost use Rattle.referee.specs.Exported.{Exported};
 
@@ -21,7 +21,7 @@ pub extern "C" fn ia_move(pos: &mut [u8], unit: u32, path: &[u16]) -> u64
 
 #[unsafe(no_mangle)]
 pub extern "C" fn ia_end_phase(pos: &mut [u8], scratch: &mut [u8]) -> u64
-    ensures { Exported pos.old scratch.old (verdict pos.old endPhase scratch.old) result pos.new scratch.new }
+    ensures { Exported pos.old scratch.old (verdict pos.old end_phase scratch.old) result pos.new scratch.new }
 {
     packing::pack_answer(rules::end_phase(pos, scratch))
 }

@@ -9,46 +9,46 @@ use Rattle.position.specs.Shape.{In}
 use Rattle.position.specs.Stage as Stage
 use Rattle.position.proofs.Tallies.{either, same_or}
 use Rattle.results.specs.declared.Upshot.{Upshot}
-use Rattle.results.specs.Results.{comesTo, lost, need_of, upshot}
+use Rattle.results.specs.Results.{comes_to, lost, need_of, upshot}
 use Rattle.results.specs.Settled.{Fitting}
 
 -- the rows of the table of codes
 module _ (code : ℕ) where
-  pub upshot-d : code ≤ 3 → upshot code ≡ comesTo 2 1 1 code
+  pub upshot_d : code ≤ 3 → upshot code ≡ comes_to 2 1 1 code
   unfolding upshot
-  upshot-d l = simp (le-leb code 3 l)
+  upshot_d l = simp (le-leb code 3 l)
 
   module _ (k : 3 < code) where
-    pub upshot-a : code ≤ 6 → upshot code ≡ comesTo 1 2 1 (code - 3)
+    pub upshot_a : code ≤ 6 → upshot code ≡ comes_to 1 2 1 (code - 3)
     unfolding upshot
-    upshot-a l = simp (lt-leb code 3 k, le-leb code 6 l)
+    upshot_a l = simp (lt-leb code 3 k, le-leb code 6 l)
 
     module _ (m : 6 < code) where
-      pub upshot-ae : code ≡ 7 → upshot code ≡ comesTo lost 2 3 0
+      pub upshot_ae : code ≡ 7 → upshot code ≡ comes_to lost 2 3 0
       unfolding upshot
-      upshot-ae e = simp (lt-leb code 3 k, lt-leb code 6 m, eq-eqb code 7 e)
+      upshot_ae e = simp (lt-leb code 3 k, lt-leb code 6 m, eq-eqb code 7 e)
 
       module _ (d : code ≡ 7 → ⊥) where
-        pub upshot-de : code ≡ 8 → upshot code ≡ comesTo 2 lost 3 0
+        pub upshot_de : code ≡ 8 → upshot code ≡ comes_to 2 lost 3 0
         unfolding upshot
-        upshot-de e = simp (lt-leb code 3 k, lt-leb code 6 m, ne_eqb code 7 d, eq-eqb code 8 e)
+        upshot_de e = simp (lt-leb code 3 k, lt-leb code 6 m, ne_eqb code 7 d, eq-eqb code 8 e)
 
         module _ (f : code ≡ 8 → ⊥) where
-          pub upshot-dx : code ≡ 9 → upshot code ≡ comesTo 1 lost 2 0
+          pub upshot_dx : code ≡ 9 → upshot code ≡ comes_to 1 lost 2 0
           unfolding upshot
-          upshot-dx e = simp (lt-leb code 3 k, lt-leb code 6 m, ne_eqb code 7 d, ne_eqb code 8 f, eq-eqb code 9 e)
+          upshot_dx e = simp (lt-leb code 3 k, lt-leb code 6 m, ne_eqb code 7 d, ne_eqb code 8 f, eq-eqb code 9 e)
 
-          pub upshot-ax : (code ≡ 9 → ⊥) → upshot code ≡ comesTo lost 1 2 0
+          pub upshot_ax : (code ≡ 9 → ⊥) → upshot code ≡ comes_to lost 1 2 0
           unfolding upshot
-          upshot-ax g = simp (lt-leb code 3 k, lt-leb code 6 m, ne_eqb code 7 d, ne_eqb code 8 f, ne_eqb code 9 g)
+          upshot_ax g = simp (lt-leb code 3 k, lt-leb code 6 m, ne_eqb code 7 d, ne_eqb code 8 f, ne_eqb code 9 g)
 
 -- a table of six rows, gone through
 pub each_row :
     (P : Upshot → Type 0) (code : ℕ)
-    → (code ≤ 3 → P (comesTo 2 1 1 code))
-    → (3 < code → code ≤ 6 → P (comesTo 1 2 1 (code - 3)))
-    → P (comesTo lost 2 3 0) → P (comesTo 2 lost 3 0)
-    → P (comesTo 1 lost 2 0) → P (comesTo lost 1 2 0)
+    → (code ≤ 3 → P (comes_to 2 1 1 code))
+    → (3 < code → code ≤ 6 → P (comes_to 1 2 1 (code - 3)))
+    → P (comes_to lost 2 3 0) → P (comes_to 2 lost 3 0)
+    → P (comes_to 1 lost 2 0) → P (comes_to lost 1 2 0)
     → P (upshot code)
 unfolding upshot
 each_row P code d a ae de dx ax =
@@ -65,8 +65,8 @@ each_row P code d a ae de dx ax =
     (λ h. simp (e, f, g, h) de)
     (λ h. either (eqb code 9) (λ i. simp (e, f, g, h, i) dx) (λ i. simp (e, f, g, h, i) ax)))))
 
-pub upshot-fits : (code : ℕ) → code < 256 → Fitting (upshot code)
-upshot-fits code l =
+pub upshot_fits : (code : ℕ) → code < 256 → Fitting (upshot code)
+upshot_fits code l =
     each_row Fitting code
     (λ k. record { attackers = omega arith; defenders = omega arith; stage = omega arith; owed = l })
     (λ k m. record { attackers = omega arith; defenders = omega arith; stage = omega arith; owed = omega arith })
@@ -77,18 +77,18 @@ upshot-fits code l =
 
 -- no exchange, the attackers destroyed, the defenders destroyed
 module _ (o : Upshot) (attack defence : ℕ) where
-  pub need-none : (o.stage ≡ Stage.losses → ⊥) → need_of o attack defence ≡ 0
+  pub need_none : (o.stage ≡ Stage.losses → ⊥) → need_of o attack defence ≡ 0
   unfolding need_of
-  need-none d = simp (ne_eqb o.stage Stage.losses d)
+  need_none d = simp (ne_eqb o.stage Stage.losses d)
 
   module _ (e : o.stage ≡ Stage.losses) where
-    pub need-attackers : o.attackers ≡ lost → need_of o attack defence ≡ attack
+    pub need_attackers : o.attackers ≡ lost → need_of o attack defence ≡ attack
     unfolding need_of
-    need-attackers f = simp (eq-eqb o.stage Stage.losses e, eq-eqb o.attackers lost f)
+    need_attackers f = simp (eq-eqb o.stage Stage.losses e, eq-eqb o.attackers lost f)
 
-    pub need-defenders : (o.attackers ≡ lost → ⊥) → need_of o attack defence ≡ defence
+    pub need_defenders : (o.attackers ≡ lost → ⊥) → need_of o attack defence ≡ defence
     unfolding need_of
-    need-defenders d = simp (eq-eqb o.stage Stage.losses e, ne_eqb o.attackers lost d)
+    need_defenders d = simp (eq-eqb o.stage Stage.losses e, ne_eqb o.attackers lost d)
 
 -- Of roles 0 to 2 the sides have two: 1 and 2 where the losers retreat, 0 and 1 in an exchange, 0 and 2 where one side is gone.
 pub record Sensible (o : Upshot) : Type 0 where
@@ -102,7 +102,7 @@ pub record Sensible (o : Upshot) : Type 0 where
   pub owed : o.stage ≡ Stage.retreats → In 1 o.owed 3
   pub free : (o.stage ≡ Stage.retreats → ⊥) → o.owed ≡ 0
 
-retreating : (a d n : ℕ) → a ≤ 2 → d ≤ 2 → a + d ≡ 3 → In 1 n 3 → Sensible (comesTo a d 1 n)
+retreating : (a d n : ℕ) → a ≤ 2 → d ≤ 2 → a + d ≡ 3 → In 1 n 3 → Sensible (comes_to a d 1 n)
 retreating a d n i j e k =
     record {
       attackers = i;
@@ -116,7 +116,7 @@ retreating a d n i j e k =
       free = λ q. absurd (q refl);
     }
 
-exchanging : (a d : ℕ) → a + d ≡ 1 → Sensible (comesTo a d 2 0)
+exchanging : (a d : ℕ) → a + d ≡ 1 → Sensible (comes_to a d 2 0)
 exchanging a d e =
     record {
       attackers = omega arith;
@@ -130,7 +130,7 @@ exchanging a d e =
       free = λ q. refl;
     }
 
-advancing : (a d : ℕ) → a + d ≡ 2 → (a ≡ d → ⊥) → Sensible (comesTo a d 3 0)
+advancing : (a d : ℕ) → a + d ≡ 2 → (a ≡ d → ⊥) → Sensible (comes_to a d 3 0)
 advancing a d e n =
     record {
       attackers = omega arith;
@@ -161,9 +161,9 @@ pub record NeedOk (o : Upshot) (need : ℕ) : Type 0 where
 
 -- the destroyed side's total is there
 module _ (o : Upshot) (attack defence : ℕ) where
-  pub need-ok : In 1 attack 1080 → In 1 defence 1080 → NeedOk o (need_of o attack defence)
-  need-ok a d =
+  pub need_ok : In 1 attack 1080 → In 1 defence 1080 → NeedOk o (need_of o attack defence)
+  need_ok a d =
       record {
-        exact = λ e. same_or o.attackers 0 (λ z. rw (need-attackers o attack defence e z) a) (λ n. rw (need-defenders o attack defence e n) d);
-        none = need-none o attack defence;
+        exact = λ e. same_or o.attackers 0 (λ z. rw (need_attackers o attack defence e z) a) (λ n. rw (need_defenders o attack defence e n) d);
+        none = need_none o attack defence;
       }

@@ -7,7 +7,7 @@ use Rattle.position.specs.Board.{Board, board, nowhere}
 use Rattle.position.specs.Change.{make, makes}
 use Rattle.position.specs.Change.Change.{routed}
 use Rattle.results.specs.declared.Upshot.{Upshot}
-use Rattle.results.specs.Results.{foughtBy}
+use Rattle.results.specs.Results.{fought_by}
 
 -- board c has the marks of board b, but for tried and fought
 pub record Likened (b c : Board) : Type 0 where
@@ -15,7 +15,7 @@ pub record Likened (b c : Board) : Type 0 where
 
 -- the units us get fought, by the marks that they had on a board b that this call began with
 pub record MarksAll (p us q : List ℕ) : Type 0 where
-  pub made : (b : Board) → Likened b (board p) → q ≡ makes p (foughtBy b us)
+  pub made : (b : Board) → Likened b (board p) → q ≡ makes p (fought_by b us)
 
 -- hex h is written as route r and r counted on, unless it was written before
 pub record RoutesOnce (p : List ℕ) (before : Bool) (r h : ℕ) (next : ℕ) (q : List ℕ) : Type 0 where

@@ -1,6 +1,6 @@
 // What a result code does to the two sides and to the desk.
 ghost use Rattle.std.specs.Prelude.{◌≡◌};
-ghost use Rattle.results.specs.Results.{comesTo, upshot, need_of};
+ghost use Rattle.results.specs.Results.{comes_to, upshot, need_of};
 
 use crate::Upshot;
 use position::{role, stage};
@@ -21,7 +21,7 @@ const DX: usize = 9;
 
 // What becomes of the sides, the stage that follows, and the length of the retreats.
 fn fate(attackers: usize, defenders: usize, stage: usize, owed: usize) -> Upshot
-    ensures { result ≡ comesTo attackers defenders stage owed }
+    ensures { result ≡ comes_to attackers defenders stage owed }
 {
     Upshot {
         attackers,

@@ -4,10 +4,10 @@ ghost use Rattle.position.specs.Board.{board};
 ghost use Rattle.position.specs.Layout.{hex};
 ghost use Rattle.position.specs.Change.{make, makes};
 ghost use Rattle.position.specs.Laid.{Laid};
-ghost use Rattle.ruling.specs.Verdict.{turnedAll};
+ghost use Rattle.ruling.specs.Verdict.{turned_all};
 ghost use Rattle.field.specs.Listed.{named};
 ghost use Rattle.results.specs.Participants.{participants};
-ghost use Rattle.results.specs.Results.{suffers, onceEach, routesWritten, routedFrom, battleChanges};
+ghost use Rattle.results.specs.Results.{suffers, once_each, routes_written, routed_from, battle_changes};
 ghost use Rattle.results.specs.Settled.{MarksAll, RoutesOnce, Fitting};
 
 use crate::Upshot;
@@ -17,7 +17,7 @@ use position::{View, bits, layout, read};
 // Every unit of the list is turned over.
 fn turn_all(p: &mut [u8], v: View, us: &[u16])
     requires { Laid p.old v }
-    ensures { p.new ≡ turnedAll p.old us.now }
+    ensures { p.new ≡ turned_all p.old us.now }
 {
     for i in 0..us.len() {
         write::turn_over(p, v, us[i] as usize);
@@ -97,7 +97,7 @@ fn route_once(p: &mut [u8], v: View, units: &[u16], i: usize, r: usize) -> usize
 // The hexes of the units are written as routes, by first naming, once each.
 fn route_hexes(p: &mut [u8], v: View, units: &[u16])
     requires { Laid p.old v × (length units.now ≤ 18) }
-    ensures { p.new ≡ makes p.old (routedFrom 0 (onceEach [] (map (hex p.old) units.now))) }
+    ensures { p.new ≡ makes p.old (routed_from 0 (once_each [] (map (hex p.old) units.now))) }
 {
     let mut r = 0;
     for i in 0..units.len() {
@@ -108,7 +108,7 @@ fn route_hexes(p: &mut [u8], v: View, units: &[u16])
 // The routes that a destroyed side leaves.
 fn write_routes(p: &mut [u8], v: View, target: usize, units: &[u16], o: Upshot)
     requires { Laid p.old v × (length units.now ≤ 18) × (target < 65536) }
-    ensures { p.new ≡ makes p.old (routedFrom 0 (routesWritten (board p.old) target units.now o)) }
+    ensures { p.new ≡ makes p.old (routed_from 0 (routes_written (board p.old) target units.now o)) }
 {
     let attackers = o.attackers;
     if attackers == LOST {
@@ -140,7 +140,7 @@ pub fn settle(
     need: usize,
 )
     requires { Laid p.old v × (length units.now ≤ 18) × (target < 65536) × (all.now ≡ participants (board p.old) target units.now) × Fitting o × (need < 65536) }
-    ensures { p.new ≡ makes (turnedAll p.old all.now) (battleChanges (board p.old) target units.now o need) }
+    ensures { p.new ≡ makes (turned_all p.old all.now) (battle_changes (board p.old) target units.now o need) }
 {
     turn_all(p, v, all);
     mark_all(p, v, all);

@@ -8,76 +8,76 @@ use native.Mathlib.Omega.{arith}
 use lib.ListN.{length}
 use lib.Dec.{eqb}
 use borrow.Author.Tests.{eq-eqb, ne_eqb}
-use Rattle.grid.proofs.Walks.{same-zero}
+use Rattle.grid.proofs.Walks.{same_zero}
 use Rattle.position.specs.Board.{Board}
 use Rattle.position.specs.Ground.{standable}
-use Rattle.position.specs.Kind.{supplyKind}
+use Rattle.position.specs.Kind.{supply_kind}
 use Rattle.position.specs.Tally.{any}
-use Rattle.position.proofs.Sides.{next-on}
-use Rattle.position.proofs.Tallies.{any-never, any-true, both_yes, either, not-both, same_or}
-use Rattle.field.specs.Scene.{forceIn, scene}
-use Rattle.field.specs.Zone.{enemyZone, holds, ownOn, supplyUnitOn}
-use Rattle.field.proofs.Zones.{force-in, stands_here, stands-off}
+use Rattle.position.proofs.Sides.{next_on}
+use Rattle.position.proofs.Tallies.{any_never, any_true, both_yes, either, not_both, same_or}
+use Rattle.field.specs.Scene.{force_in, scene}
+use Rattle.field.specs.Zone.{enemy_zone, holds, own_on, supply_unit_on}
+use Rattle.field.proofs.Zones.{force_in_lem, stands_here, stands_off}
 use Rattle.routes.specs.Bears.{bears, refuge}
 use Rattle.routes.specs.Outlook.{Nobody, friends}
 use Rattle.routes.specs.Run.{Run, Step}
 use Rattle.routes.specs.Run as run
-use Rattle.routes.specs.Search.{firstRoute, found}
+use Rattle.routes.specs.Search.{first_route, found}
 use Rattle.routes.proofs.First.{found_right}
 use Rattle.chains.specs.declared.Stand.TheVariants.{Free}
 use Rattle.chains.specs.Chain.{Stands}
-use Rattle.chains.specs.Series.{Onto, Series, landOf, shove, stay, walk}
-use Rattle.chains.specs.Serves.{pushesServe}
+use Rattle.chains.specs.Series.{Onto, Series, land_of, shove, stay, walk}
+use Rattle.chains.specs.Serves.{pushes_serve}
 use Rattle.chains.specs.Stand.{stand}
-use Rattle.chains.proofs.Serves.{serves-right}
-use Rattle.shoves.specs.Group.{groupForce}
-use Rattle.shoves.proofs.Standing.{IsLoose, apart-here, apart-stands, free-is, free-vacant, light-is, loose-is}
-use Rattle.retreat.specs.Retreat.{hasRoute, hasSeries}
+use Rattle.chains.proofs.Serves.{serves_right}
+use Rattle.shoves.specs.Group.{group_force}
+use Rattle.shoves.proofs.Standing.{IsLoose, apart_here, apart_stands, free_is, free_vacant, light_is, loose_is}
+use Rattle.retreat.specs.Retreat.{has_route, has_series}
 
 -- a stack that can be pushed stands only where friends do
 module _ (b : Board) (f start x : ℕ) (other : x ≡ start → ⊥) (l : IsLoose b f start x) where
   held : holds (scene b) f x ≡ true
-  unfolding holds ownOn
+  unfolding holds own_on
   held =
-      let here = apart-stands b start x l.unit l.there in
-      let own = (light-is b f l.unit (l.light l.unit l.counted l.there)).own in
-      any-true (ownOn (scene b) f x) b.units.count l.unit l.counted
-      (simp (stands_here (scene b) x l.unit here, eq-eqb (forceIn (scene b) l.unit) f (sym (force-in b l.unit) ∙ own)))
+      let here = apart_stands b start x l.unit l.there in
+      let own = (light_is b f l.unit (l.light l.unit l.counted l.there)).own in
+      any_true (own_on (scene b) f x) b.units.count l.unit l.counted
+      (simp (stands_here (scene b) x l.unit here, eq-eqb (force_in (scene b) l.unit) f (sym (force_in_lem b l.unit) ∙ own)))
 
-  no-depot : any (supplyUnitOn (scene b) f x) b.units.count ≡ false
-  unfolding supplyUnitOn ownOn
-  no-depot =
-      any-never (supplyUnitOn (scene b) f x) b.units.count
+  no_depot : any (supply_unit_on (scene b) f x) b.units.count ≡ false
+  unfolding supply_unit_on own_on
+  no_depot =
+      any_never (supply_unit_on (scene b) f x) b.units.count
       (λ w c.
       same_or (b.units.state.hex w) x
       (λ e.
-      let k = (light-is b f w (l.light w c (apart-here b start x w other e))).kind in
-      either (eqb (forceIn (scene b) w) f)
-      (λ z. simp (stands_here (scene b) x w e, z, ne_eqb (b.units.counter.kind w) supplyKind k))
+      let k = (light_is b f w (l.light w c (apart_here b start x w other e))).kind in
+      either (eqb (force_in (scene b) w) f)
+      (λ z. simp (stands_here (scene b) x w e, z, ne_eqb (b.units.counter.kind w) supply_kind k))
       (λ z. simp (stands_here (scene b) x w e, z)))
-      (λ e. simp (stands-off (scene b) x w e)))
+      (λ e. simp (stands_off (scene b) x w e)))
 
-  pub loose-friends : friends b f x ≡ true
+  pub loose_friends : friends b f x ≡ true
   unfolding friends bears
-  loose-friends =
-      simp (held, no-depot, (both_yes (standable b x) (not (enemyZone (scene b) f x)) l.bear).1)
+  loose_friends =
+      simp (held, no_depot, (both_yes (standable b x) (not (enemy_zone (scene b) f x)) l.bear).1)
 
 module _ (b : Board) (f start : ℕ) (nobody : Nobody b f start) where
   -- a step of a series enters a vacant hex
   into : (x : ℕ) → (x ≡ start → ⊥) → stand b f start x ≡ Free → refuge b f x ≡ true
   unfolding refuge
-  into x other e = let i = free-is b f start x e in simp (free-vacant b f start x other i, i.bear)
+  into x other e = let i = free_is b f start x e in simp (free_vacant b f start x other i, i.bear)
 
   -- at a distance it is not the start
-  away : (i a d x : ℕ) → Onto (landOf b start) (suc i) a d x → x ≡ start → ⊥
-  unfolding landOf
-  away i a d x o e = omega (arith, same-zero b.map.width start, (rw e at o).away)
+  away : (i a d x : ℕ) → Onto (land_of b start) (suc i) a d x → x ≡ start → ⊥
+  unfolding land_of
+  away i a d x o e = omega (arith, same_zero b.map.width start, (rw e at o).away)
 
   -- so a series is a run: it enters no hex where a stack can be pushed
   runs :
       {s : Stands} {i a : ℕ} {route pushes : List ℕ} → ((x : ℕ) → s x ≡ stand b f start x) → i + length route ≤ 3
-      → Series (landOf b start) s i a route pushes → (last : ℕ) × Run b f start i a route last
-  unfolding landOf
+      → Series (land_of b start) s i a route pushes → (last : ℕ) × Run b f start i a route last
+  unfolding land_of
   runs q n stay = (_, run.stay)
   runs {i = i} {a = a} q n (walk {x = x} d o e k) =
       let r = runs q (omega arith) k in
@@ -87,23 +87,23 @@ module _ (b : Board) (f start : ℕ) (nobody : Nobody b f start) where
   runs {i = i} {a = a} q n (shove {x = x} d o e c k) =
       let z = away i a d x o in
       absurd
-      (not-both (friends b f x) (loose-friends b f start x z (loose-is b f start x (sym (q x) ∙ e)))
-      (nobody.near x (next-on b.map a d x o.leads) (omega (arith, o.away)) z))
+      (not_both (friends b f x) (loose_friends b f start x z (loose_is b f start x (sym (q x) ∙ e)))
+      (nobody.near x (next_on b.map a d x o.leads) (omega (arith, o.away)) z))
 
   -- so pushes serve nobody who has no vacant route
-  pub alone-none : (n : ℕ) → n ≤ 3 → found (firstRoute b f start n) ≡ false → pushesServe b f start n ≡ false
-  alone-none n l e =
-      either (pushesServe b f start n)
+  pub alone_none : (n : ℕ) → n ≤ 3 → found (first_route b f start n) ≡ false → pushes_serve b f start n ≡ false
+  alone_none n l e =
+      either (pushes_serve b f start n)
       (λ y.
-      let s = (serves-right b f start n).0 y in
+      let s = (serves_right b f start n).0 y in
       let r = runs (λ x. refl) (omega (arith, s.legal.long)) s.legal.series in
-      not-both (found (firstRoute b f start n))
+      not_both (found (first_route b f start n))
       ((found_right b f start n).1 (s.route, record { long = s.legal.long; last = r.0; run = r.1 }))
       e)
       (λ y. y)
 
 -- the group has no series of pushes then
 pub alone-series :
-    (b : Board) (h : ℕ) → b.desk.battle.owed ≤ 3 → Nobody b (groupForce b h) h → hasRoute b h ≡ false → hasSeries b h ≡ false
-unfolding hasRoute hasSeries
-alone-series b h l n e = alone-none b (groupForce b h) h n b.desk.battle.owed l e
+    (b : Board) (h : ℕ) → b.desk.battle.owed ≤ 3 → Nobody b (group_force b h) h → has_route b h ≡ false → has_series b h ≡ false
+unfolding has_route has_series
+alone-series b h l n e = alone_none b (group_force b h) h n b.desk.battle.owed l e

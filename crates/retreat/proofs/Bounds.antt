@@ -11,55 +11,55 @@ use lib.Dec.{leb, ltb, eqb}
 use borrow.Author.Tests.{ltb-false}
 use Rattle.position.specs.Tally.{any}
 use Rattle.position.specs.Board.{Board, board, nowhere}
-use Rattle.position.specs.Crowd.{owesAt}
+use Rattle.position.specs.Crowd.{owes_at}
 use Rattle.position.specs.Stage as Stage
-use Rattle.position.proofs.Shapes.{hexes-most}
+use Rattle.position.proofs.Shapes.{hexes_most}
 use Rattle.position.proofs.Tallies.{either}
 use Rattle.acceptance.specs.Accepted.{Accepted}
 use Rattle.ruling.specs.Packed.{Roomy}
-use Rattle.ruling.specs.Packed.Replies.{ofRetreat}
+use Rattle.ruling.specs.Packed.Replies.{of_retreat}
 use Rattle.ruling.specs.Secret.{Each}
-use Rattle.ruling.proofs.Bounded.{Bounded, bounded-past, bounded-ruled}
+use Rattle.ruling.proofs.Bounded.{Bounded, bounded_past, bounded_ruled}
 use Rattle.field.proofs.Bounds.{from-bounded, map-bounded}
-use Rattle.retreat.specs.Retreat.{doomed, end_of, notPart, notPushed, notVacant, retreatRule, retreatValues}
+use Rattle.retreat.specs.Retreat.{doomed, end_of, not_part, not_pushed, not_vacant, retreat_rule, retreat_values}
 
 -- a number of a list of hexes, or nowhere
-hex-small : {n : ℕ} → n ≤ 65536 → (xs : List ℕ) → Each (λ x. x < n) xs → (i : ℕ) → get_or xs i nowhere < 65536
-hex-small l [] h i = omega arith
-hex-small l (x ∷ xs) h zero = omega (arith, h.0)
-hex-small l (x ∷ xs) h (suc i) = hex-small l xs h.1 i
+hex_small : {n : ℕ} → n ≤ 65536 → (xs : List ℕ) → Each (λ x. x < n) xs → (i : ℕ) → get_or xs i nowhere < 65536
+hex_small l [] h i = omega arith
+hex_small l (x ∷ xs) h zero = omega (arith, h.0)
+hex_small l (x ∷ xs) h (suc i) = hex_small l xs h.1 i
 
 values-roomy :
     (b : Board) (h : ℕ) (route : List ℕ) → b.map.hexes ≤ 65536 → Each (λ x. x < b.map.hexes) route
-    → Roomy ofRetreat (retreatValues b h route)
-unfolding retreatValues end_of
+    → Roomy of_retreat (retreat_values b h route)
+unfolding retreat_values end_of
 values-roomy b h route l on =
-    either (doomed b h) (λ e. rw e (inl refl)) (λ e. rw e (inr (refl, hex-small l route on (b.desk.battle.owed - 1))))
+    either (doomed b h) (λ e. rw e (inl refl)) (λ e. rw e (inr (refl, hex_small l route on (b.desk.battle.owed - 1))))
 
 pub retreat-bounded :
-    {p l : List ℕ} → Accepted p → (h : ℕ) (route pushes : List ℕ) → Bounded ofRetreat p l (retreatRule (board p) h route pushes)
-unfolding retreatRule
+    {p l : List ℕ} → Accepted p → (h : ℕ) (route pushes : List ℕ) → Bounded of_retreat p l (retreat_rule (board p) h route pushes)
+unfolding retreat_rule
 retreat-bounded {p} a h route pushes =
     let b = board p in
-    bounded-past (ltb 3 (length route)) refl
+    bounded_past (ltb 3 (length route)) refl
     (λ short.
     let s = ltb-false 3 (length route) short in
-    bounded-past (ltb 9 (length pushes)) refl
+    bounded_past (ltb 9 (length pushes)) refl
     (λ few.
     let f = ltb-false 9 (length pushes) few in
-    bounded-past (leb b.map.hexes h) refl
+    bounded_past (leb b.map.hexes h) refl
     (λ _.
     map-bounded b route _ (omega (arith, s))
     (λ on.
     from-bounded b pushes _ (length route + 1) (omega (arith, s, f))
     (λ _.
-    bounded-past (not (eqb b.desk.battle.stage Stage.retreats)) refl
+    bounded_past (not (eqb b.desk.battle.stage Stage.retreats)) refl
     (λ _.
-    bounded-past (not (any (owesAt b h) b.units.count)) refl
+    bounded_past (not (any (owes_at b h) b.units.count)) refl
     (λ _.
-    bounded-past (notPart b h route pushes) refl
+    bounded_past (not_part b h route pushes) refl
     (λ _.
-    bounded-past (notVacant b h route pushes) refl
+    bounded_past (not_vacant b h route pushes) refl
     (λ _.
-    bounded-past (notPushed b h route pushes) refl
-    (λ _. bounded-ruled (values-roomy b h route (omega (arith, hexes-most a.shaped)) on)))))))))))
+    bounded_past (not_pushed b h route pushes) refl
+    (λ _. bounded_ruled (values-roomy b h route (omega (arith, hexes_most a.shaped)) on)))))))))))

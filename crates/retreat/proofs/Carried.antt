@@ -9,28 +9,28 @@ use borrow.Author.Tests.{eq-eqb, eqb-true, lt-ltb, ne_eqb}
 use Rattle.position.specs.Board.{Board, nowhere}
 use Rattle.position.specs.Change.Change.{placed}
 use Rattle.position.specs.Effect.{change, changes}
-use Rattle.position.proofs.Effects.{upd-there}
-use Rattle.position.proofs.Tallies.{either, not-both, same_or}
-use Rattle.acceptance.proofs.Carries.{changes-then}
-use Rattle.acceptance.proofs.Lawfuls.{standable-on}
-use Rattle.acceptance.proofs.Stills.{fixed-changes, fixed-refl}
+use Rattle.position.proofs.Effects.{upd_there}
+use Rattle.position.proofs.Tallies.{either, not_both, same_or}
+use Rattle.acceptance.proofs.Carries.{changes_then}
+use Rattle.acceptance.proofs.Lawfuls.{standable_on}
+use Rattle.acceptance.proofs.Stills.{fixed_changes, fixed_refl}
 use Rattle.field.specs.Listed.{named}
 use Rattle.field.specs.Scene.{scene}
-use Rattle.field.specs.Zone.{standsOn, vacant}
-use Rattle.field.proofs.Named.{named_here, named_more, sieve-names, unnamed-parts}
+use Rattle.field.specs.Zone.{stands_on, vacant}
+use Rattle.field.proofs.Named.{named_here, named_more, sieve_names, unnamed_parts}
 use Rattle.field.proofs.Zones.{stands_here}
 use Rattle.routes.specs.Bears.{bears}
 use Rattle.chains.specs.declared.Stand.TheVariants.{Loose}
 use Rattle.chains.specs.Stand.{stand}
 use Rattle.chains.specs.Chain.{Ways, Chain, rest, push}
 use Rattle.shoves.specs.Group.{stack}
-use Rattle.shoves.specs.Played.{onceCleared}
-use Rattle.shoves.specs.Shoves.{clears, shifts, stackTo}
-use Rattle.shoves.proofs.KeepChain.{bears-stands, clears-vacant, rests-free, yields-loose}
-use Rattle.shoves.proofs.Standing.{free-is, free-vacant, loose-held, loose-is}
-use Rattle.shoves.proofs.Sweeps.{own-shifts}
+use Rattle.shoves.specs.Played.{once_cleared}
+use Rattle.shoves.specs.Shoves.{clears, shifts, stack_to}
+use Rattle.shoves.proofs.KeepChain.{bears_stands, clears_vacant, rests_free, yields_loose}
+use Rattle.shoves.proofs.Standing.{free_is, free_vacant, loose_held, loose_is}
+use Rattle.shoves.proofs.Sweeps.{own_shifts}
 use Rattle.retreat.specs.Units.{carried}
-use Rattle.retreat.proofs.Dealt.{Lasts, dealt, missed, sieve-not}
+use Rattle.retreat.proofs.Dealt.{Lasts, dealt, missed, sieve_not}
 
 -- the stack of hex h goes to hex z: unit w goes if it stands in h, and is else where it was
 pub record Moved (b c : Board) (h z w : ℕ) : Type 0 where
@@ -42,57 +42,57 @@ pub record Moved (b c : Board) (h z w : ℕ) : Type 0 where
 abbrev pub Put : ℕ → ℕ → Board → Board → Type 0
 Put z w b c = (c.units.state.hex w ≡ z) × (c.units.state.marks w ≡ b.units.state.marks w)
 
-lasts-put : (z w : ℕ) → Lasts w (Put z w)
-lasts-put z w =
+lasts_put : (z w : ℕ) → Lasts w (Put z w)
+lasts_put z w =
     record {
       before = λ s x. (x.0, x.1 ∙ s.marks);
       after = λ x s. (s.hex ∙ x.0, s.marks ∙ x.1);
       again = λ x y. (y.0, y.1 ∙ x.1);
     }
 
-pub placed-put : (c : Board) (u z : ℕ) → u < c.units.count → z < c.map.hexes → Put z u c (change c (placed u z))
+pub placed_put : (c : Board) (u z : ℕ) → u < c.units.count → z < c.map.hexes → Put z u c (change c (placed u z))
 unfolding change
-placed-put c u z l m = simp (lt-ltb z c.map.hexes m) (upd-there c.units.count c.units.state.hex u z l, refl)
+placed_put c u z l m = simp (lt-ltb z c.map.hexes m) (upd_there c.units.count c.units.state.hex u z l, refl)
 
-pub stack-moved : (b : Board) (h z w : ℕ) → w < b.units.count → z < b.map.hexes → Moved b (changes b (stackTo b h z)) h z w
-unfolding stackTo stack standsOn changes shifts
-stack-moved b h z w l m =
-    let t = standsOn (scene b) h in
+pub stack_moved : (b : Board) (h z w : ℕ) → w < b.units.count → z < b.map.hexes → Moved b (changes b (stack_to b h z)) h z w
+unfolding stack_to stack stands_on changes shifts
+stack_moved b h z w l m =
+    let t = stands_on (scene b) h in
     let n = b.units.count in
     either (t w)
     (λ e.
     let y =
-    dealt (shifts z) (own-shifts z) w (lasts-put z w)
-    (λ c f. placed-put c w z (omega (arith, f.count)) (rw f.map m))
+    dealt (shifts z) (own_shifts z) w (lasts_put z w)
+    (λ c f. placed_put c w z (omega (arith, f.count)) (rw f.map m))
     (stack b h)
     b
-    (fixed-refl b)
-    (sieve-names t n w l e)
+    (fixed_refl b)
+    (sieve_names t n w l e)
     in
     record { here = λ _. y.0; else = λ i. absurd (i (eqb-true (b.units.state.hex w) h e)); marks = y.1 })
     (λ e.
-    let y = missed (shifts z) (own-shifts z) w (stack b h) b (sieve-not t n w e) in
-    record { here = λ i. not-both (t w) (stands_here (scene b) h w i) e; else = λ _. y.hex; marks = y.marks })
+    let y = missed (shifts z) (own_shifts z) w (stack b h) b (sieve_not t n w e) in
+    record { here = λ i. not_both (t w) (stands_here (scene b) h w i) e; else = λ _. y.hex; marks = y.marks })
 
 -- a vacant hex is cleared by nothing, and a held one after the next
 module _ (b : Board) (x : ℕ) where
-  pub carried-vacant : vacant (scene b) x ≡ true → (ps : List ℕ) (y : ℕ) → carried b x ps y ≡ y
+  pub carried_vacant : vacant (scene b) x ≡ true → (ps : List ℕ) (y : ℕ) → carried b x ps y ≡ y
   unfolding carried
-  carried-vacant e [] y = refl
-  carried-vacant e (z ∷ ps) y = simp e
+  carried_vacant e [] y = refl
+  carried_vacant e (z ∷ ps) y = simp e
 
   module _ (e : vacant (scene b) x ≡ false) (z : ℕ) (ps : List ℕ) where
     carried_here : (y : ℕ) → y ≡ x → carried b x (z ∷ ps) y ≡ z
     unfolding carried
     carried_here y i = simp (e, eq-eqb y x i)
 
-    carried-else : (y : ℕ) → (y ≡ x → ⊥) → carried b x (z ∷ ps) y ≡ carried b z ps y
+    carried_else : (y : ℕ) → (y ≡ x → ⊥) → carried b x (z ∷ ps) y ≡ carried b z ps y
     unfolding carried
-    carried-else y i = simp (e, ne_eqb y x i)
+    carried_else y i = simp (e, ne_eqb y x i)
 
-    once-held : onceCleared b x (z ∷ ps) ≡ (let c = onceCleared b z ps in changes c (stackTo c x z))
+    once_held : once_cleared b x (z ∷ ps) ≡ (let c = once_cleared b z ps in changes c (stack_to c x z))
     unfolding clears
-    once-held = simp e (changes-then (clears b z ps).done (stackTo (onceCleared b z ps) x z) b)
+    once_held = simp e (changes_then (clears b z ps).done (stack_to (once_cleared b z ps) x z) b)
 
 -- a chain carries nobody out of hex h or into it
 record Past (b : Board) (x : ℕ) (ps : List ℕ) (h : ℕ) : Type 0 where
@@ -105,32 +105,32 @@ module _ (b : Board) (f a : ℕ) where
       (x z : ℕ) (ps : List ℕ) (h : ℕ) → vacant (scene b) x ≡ false → (h ≡ x → ⊥) → (h ≡ z → ⊥) → Past b z ps h → Past b x (z ∷ ps) h
   past_more x z ps h e n m p =
       record {
-        stays = carried-else b x e z ps h n ∙ p.stays;
+        stays = carried_else b x e z ps h n ∙ p.stays;
         only =
             λ y i.
             same_or y x
             (λ q. absurd (m (sym i ∙ carried_here b x e z ps y q)))
-            (λ q. p.only y (sym (carried-else b x e z ps y q) ∙ i));
+            (λ q. p.only y (sym (carried_else b x e z ps y q) ∙ i));
       }
 
-  past-vacant : (x : ℕ) (ps : List ℕ) (h : ℕ) → vacant (scene b) x ≡ true → Past b x ps h
-  past-vacant x ps h v = record { stays = carried-vacant b x v ps h; only = λ y i. sym (carried-vacant b x v ps y) ∙ i }
+  past_vacant : (x : ℕ) (ps : List ℕ) (h : ℕ) → vacant (scene b) x ≡ true → Past b x ps h
+  past_vacant x ps h v = record { stays = carried_vacant b x v ps h; only = λ y i. sym (carried_vacant b x v ps y) ∙ i }
 
   -- "no hex comes twice": a hex of the chain that came before is passed
   chain-past :
       {next : Ways} {used zs : List ℕ} {left x last : ℕ} → Chain next (stand b f a) used left x zs last → named used a ≡ true
       → stand b f a x ≡ Loose → (others : List ℕ) (h : ℕ) → named used h ≡ true → (h ≡ x → ⊥) → Past b x (zs ++ others) h
   chain-past (rest {used} {left} {h = x} {z} d l e r) u i others h k n =
-      let q = rests-free (stand b f a) (x ∷ used) z r in
+      let q = rests_free (stand b f a) (x ∷ used) z r in
       let off : (y : ℕ) → named used y ≡ true → y ≡ z → ⊥ =
-      λ y j s. not-both (named (x ∷ used) z) (ap (named (x ∷ used)) (sym s) ∙ named_more x used y j) q.1
+      λ y j s. not_both (named (x ∷ used) z) (ap (named (x ∷ used)) (sym s) ∙ named_more x used y j) q.1
       in
-      past_more x z others h (loose-held b f a x (loose-is b f a x i)) n (off h k)
-      (past-vacant z others h (free-vacant b f a z (λ s. off a u (sym s)) (free-is b f a z q.0)))
+      past_more x z others h (loose_held b f a x (loose_is b f a x i)) n (off h k)
+      (past_vacant z others h (free_vacant b f a z (λ s. off a u (sym s)) (free_is b f a z q.0)))
   chain-past (push {used} {left} {h = x} {z} {last} {zs} d l e m r c) u i others h k n =
-      let q = yields-loose (stand b f a) (x ∷ used) z r in
-      let off : h ≡ z → ⊥ = λ s. not-both (named (x ∷ used) z) (ap (named (x ∷ used)) (sym s) ∙ named_more x used h k) q.1 in
-      past_more x z (zs ++ others) h (loose-held b f a x (loose-is b f a x i)) n off
+      let q = yields_loose (stand b f a) (x ∷ used) z r in
+      let off : h ≡ z → ⊥ = λ s. not_both (named (x ∷ used) z) (ap (named (x ∷ used)) (sym s) ∙ named_more x used h k) q.1 in
+      past_more x z (zs ++ others) h (loose_held b f a x (loose_is b f a x i)) n off
       (chain-past c (named_more x used a u) q.0 others h (named_more x used h k) off)
 
 -- board c, once hex x of board b is cleared by these pushes: each unit is where they carry it, and whoever is in the box stays there
@@ -139,10 +139,10 @@ pub record Shoved (b : Board) (x : ℕ) (ps : List ℕ) (c : Board) : Type 0 whe
   pub marks : (w : ℕ) → w < b.units.count → c.units.state.marks w ≡ b.units.state.marks w
   pub boxed : (w : ℕ) → w < b.units.count → b.units.state.hex w ≡ nowhere → c.units.state.hex w ≡ nowhere
 
-pub shoved-vacant : (b : Board) (x : ℕ) → vacant (scene b) x ≡ true → (ps : List ℕ) → Shoved b x ps b
-shoved-vacant b x v ps =
+pub shoved_vacant : (b : Board) (x : ℕ) → vacant (scene b) x ≡ true → (ps : List ℕ) → Shoved b x ps b
+shoved_vacant b x v ps =
     record {
-      hex = λ w l. sym (carried-vacant b x v ps (b.units.state.hex w));
+      hex = λ w l. sym (carried_vacant b x v ps (b.units.state.hex w));
       marks = λ w l. refl;
       boxed = λ w l e. e;
     }
@@ -150,14 +150,14 @@ shoved-vacant b x v ps =
 -- one push more: the stack of hex x follows into hex z
 shoved-more :
     (b : Board) (x z : ℕ) (ps : List ℕ) → vacant (scene b) x ≡ false → z < b.map.hexes → (x ≡ nowhere → ⊥) → Past b z ps x
-    → Shoved b z ps (onceCleared b z ps) → Shoved b x (z ∷ ps) (onceCleared b x (z ∷ ps))
+    → Shoved b z ps (once_cleared b z ps) → Shoved b x (z ∷ ps) (once_cleared b x (z ∷ ps))
 shoved-more b x z ps e m real p s =
-    let c = onceCleared b z ps in
-    let f = fixed-changes (clears b z ps).done b in
-    let moved : (w : ℕ) → w < b.units.count → Moved c (changes c (stackTo c x z)) x z w =
-    λ w l. stack-moved c x z w (omega (arith, f.count)) (rw f.map m)
+    let c = once_cleared b z ps in
+    let f = fixed_changes (clears b z ps).done b in
+    let moved : (w : ℕ) → w < b.units.count → Moved c (changes c (stack_to c x z)) x z w =
+    λ w l. stack_moved c x z w (omega (arith, f.count)) (rw f.map m)
     in
-    rw (once-held b x e z ps)
+    rw (once_held b x e z ps)
     (record {
       hex =
           λ w l.
@@ -167,33 +167,33 @@ shoved-more b x z ps e m real p s =
           (λ i.
           (moved w l).else (λ j. i (p.only y (sym (s.hex w l) ∙ j)))
           ∙ s.hex w l
-          ∙ sym (carried-else b x e z ps y i));
+          ∙ sym (carried_else b x e z ps y i));
       marks = λ w l. (moved w l).marks ∙ s.marks w l;
       boxed = λ w l i. let j = s.boxed w l i in (moved w l).else (λ k. real (sym k ∙ j)) ∙ j;
     })
 
 module _ (b : Board) (most : b.map.hexes ≤ nowhere) (f a : ℕ) where
-  on-map : (x : ℕ) → bears b f x ≡ true → x < b.map.hexes
-  on-map x e = standable-on b x (bears-stands b f x e)
+  on_map_lem : (x : ℕ) → bears b f x ≡ true → x < b.map.hexes
+  on_map_lem x e = standable_on b x (bears_stands b f x e)
 
   -- the whole chain
   pub chain-shoved :
       {next : Ways} {used zs : List ℕ} {left x last : ℕ} → Chain next (stand b f a) used left x zs last → named used a ≡ true
-      → stand b f a x ≡ Loose → (others : List ℕ) → Shoved b x (zs ++ others) (onceCleared b x (zs ++ others))
+      → stand b f a x ≡ Loose → (others : List ℕ) → Shoved b x (zs ++ others) (once_cleared b x (zs ++ others))
   unfolding changes
   chain-shoved (rest {used} {left} {h = x} {z} d l e r) u i others =
-      let q = rests-free (stand b f a) (x ∷ used) z r in
-      let free = free-is b f a z q.0 in
-      let off : z ≡ a → ⊥ = λ s. not-both (named (x ∷ used) z) (ap (named (x ∷ used)) s ∙ named_more x used a u) q.1 in
-      let v = free-vacant b f a z off free in
-      let loose = loose-is b f a x i in
-      let j = on-map x loose.bear in
-      shoved-more b x z others (loose-held b f a x loose) (on-map z free.bear) (λ k. omega (arith, j)) (past-vacant b f a z others x v)
-      (rw (clears-vacant b z v others) (shoved-vacant b z v others))
+      let q = rests_free (stand b f a) (x ∷ used) z r in
+      let free = free_is b f a z q.0 in
+      let off : z ≡ a → ⊥ = λ s. not_both (named (x ∷ used) z) (ap (named (x ∷ used)) s ∙ named_more x used a u) q.1 in
+      let v = free_vacant b f a z off free in
+      let loose = loose_is b f a x i in
+      let j = on_map_lem x loose.bear in
+      shoved-more b x z others (loose_held b f a x loose) (on_map_lem z free.bear) (λ k. omega (arith, j)) (past_vacant b f a z others x v)
+      (rw (clears_vacant b z v others) (shoved_vacant b z v others))
   chain-shoved (push {used} {left} {h = x} {z} {last} {zs} d l e m r c) u i others =
-      let q = yields-loose (stand b f a) (x ∷ used) z r in
-      let loose = loose-is b f a x i in
-      let j = on-map x loose.bear in
-      shoved-more b x z (zs ++ others) (loose-held b f a x loose) (on-map z (loose-is b f a z q.0).bear) (λ k. omega (arith, j))
-      (chain-past b f a c (named_more x used a u) q.0 others x (named_here x used x refl) (unnamed-parts x used z q.1).0)
+      let q = yields_loose (stand b f a) (x ∷ used) z r in
+      let loose = loose_is b f a x i in
+      let j = on_map_lem x loose.bear in
+      shoved-more b x z (zs ++ others) (loose_held b f a x loose) (on_map_lem z (loose_is b f a z q.0).bear) (λ k. omega (arith, j))
+      (chain-past b f a c (named_more x used a u) q.0 others x (named_here x used x refl) (unnamed_parts x used z q.1).0)
       (chain-shoved c (named_more x used a u) q.0 others)

@@ -8,9 +8,9 @@ use native.Mathlib.Omega.{arith}
 use borrow.Author.Tests.{eq-eqb, le-leb, le-ltb, lt-leb, lt-ltb, ne_eqb}
 use lib.Dec.{eqb, leb, ltb}
 use lib.ListN.{get_or-append, get_or, length}
-use Rattle.position.proofs.Tallies.{neither, same_or, tally-pos}
+use Rattle.position.proofs.Tallies.{neither, same_or, tally_pos}
 use Rattle.position.specs.Board.{Board, board}
-use Rattle.position.specs.Crowd.{owesAt}
+use Rattle.position.specs.Crowd.{owes_at}
 use Rattle.position.specs.Tally.{any}
 use Rattle.position.specs.Laid.{Laid}
 use Rattle.position.specs.Shape.{In}
@@ -20,60 +20,60 @@ use Rattle.acceptance.specs.Accepted.{Accepted}
 use Rattle.ruling.proofs.Meets.{pass, stop}
 use Rattle.ruling.specs.Judged.{Passes, Stops}
 use Rattle.ruling.specs.Verdict.{Met, Ruling, Verdict}
-use Rattle.ruling.specs.Verdict.Verdict.{refuseIf}
-use Rattle.field.proofs.Lists.{sieve-long}
-use Rattle.field.specs.Listed.{onMapAll, onMapFrom, sieve}
+use Rattle.ruling.specs.Verdict.Verdict.{refuse_if}
+use Rattle.field.proofs.Lists.{sieve_long}
+use Rattle.field.specs.Listed.{on_map_all, on_map_from, sieve}
 use Rattle.routes.specs.Legal.{legal}
 use Rattle.routes.specs.Outlook.{Nobody, OutlookOf}
-use Rattle.routes.specs.Part.{isRun}
-use Rattle.routes.specs.Search.{firstRoute, found}
+use Rattle.routes.specs.Part.{is_run}
+use Rattle.routes.specs.Search.{first_route, found}
 use Rattle.routes.specs.declared.Outlook.{Outlook}
 use Rattle.routes.specs.declared.Outlook.TheVariants.{Alone, Friends, Illegal, Legal}
 use Rattle.pushes.specs.Pushes.{served}
 use Rattle.pushes.specs.declared.Served.{Served}
-use Rattle.shoves.specs.Group.{group, groupForce}
-use Rattle.retreat.specs.Retreat.{RetreatNow, groupChecks, hasRoute, walksFrom}
+use Rattle.shoves.specs.Group.{group, group_force}
+use Rattle.retreat.specs.Retreat.{RetreatNow, group_checks, has_route, walks_from}
 
 -- each test by its cases
 module _ (b : Board) (h u : ℕ) where
-  pub walks-not : owesAt b h u ≡ false → walksFrom b h u ≡ false
-  unfolding walksFrom
-  walks-not e = simp e
+  pub walks_not : owes_at b h u ≡ false → walks_from b h u ≡ false
+  unfolding walks_from
+  walks_not e = simp e
 
-  pub walks-kind : owesAt b h u ≡ true → walksFrom b h u ≡ not (eqb (b.units.counter.kind u) 5)
-  unfolding walksFrom
-  walks-kind e = simp e
+  pub walks_kind : owes_at b h u ≡ true → walks_from b h u ≡ not (eqb (b.units.counter.kind u) 5)
+  unfolding walks_from
+  walks_kind e = simp e
 
 -- the first number that passes
 module _ (t : ℕ → Bool) where
-  pub sieve-none : (n : ℕ) → any t n ≡ false → sieve t n ≡ []
+  pub sieve_none : (n : ℕ) → any t n ≡ false → sieve t n ≡ []
   unfolding any sieve
-  sieve-none zero e = refl
-  sieve-none (suc n) e = let z = neither (t n) (any t n) e in simp (z.0, sieve-none n z.1)
+  sieve_none zero e = refl
+  sieve_none (suc n) e = let z = neither (t n) (any t n) e in simp (z.0, sieve_none n z.1)
 
-  pub sieve-first : (n u : ℕ) → any t u ≡ false → u < n → t u ≡ true → get_or (sieve t n) 0 0 ≡ u
+  pub sieve_first : (n u : ℕ) → any t u ≡ false → u < n → t u ≡ true → get_or (sieve t n) 0 0 ≡ u
   unfolding sieve
-  sieve-first zero u e l y = absurd (omega arith)
-  sieve-first (suc n) u e l y =
+  sieve_first zero u e l y = absurd (omega arith)
+  sieve_first (suc n) u e l y =
       same_or u n
       (λ q.
-      let z : sieve t n ≡ [] = sieve-none n (ap (any t) (sym q) ∙ e) in
+      let z : sieve t n ≡ [] = sieve_none n (ap (any t) (sym q) ∙ e) in
       let k : t n ≡ true = ap t (sym q) ∙ y in
       simp (z, k) (sym q))
       (λ q.
-      let k = tally-pos t n u (omega arith) y in
-      get_or-append (sieve t n) (cond (t n) (n ∷ []) []) 0 0 (omega (arith, sieve-long t n))
-      ∙ sieve-first n u e (omega arith) y)
+      let k = tally_pos t n u (omega arith) y in
+      get_or-append (sieve t n) (cond (t n) (n ∷ []) []) 0 0 (omega (arith, sieve_long t n))
+      ∙ sieve_first n u e (omega arith) y)
 
 module _ (b : Board) (h : ℕ) where
   pub first-owing :
-      (u : ℕ) → any (owesAt b h) u ≡ false → u < b.units.count → owesAt b h u ≡ true → u ≡ get_or (group b h) 0 0
+      (u : ℕ) → any (owes_at b h) u ≡ false → u < b.units.count → owes_at b h u ≡ true → u ≡ get_or (group b h) 0 0
   unfolding group
-  first-owing u e l y = sym (sieve-first (owesAt b h) b.units.count u e l y)
+  first-owing u e l y = sym (sieve_first (owes_at b h) b.units.count u e l y)
 
-  pub none-owing : any (owesAt b h) b.units.count ≡ false → 0 ≡ get_or (group b h) 0 0
+  pub none_owing : any (owes_at b h) b.units.count ≡ false → 0 ≡ get_or (group b h) 0 0
   unfolding group
-  none-owing e = sym (ap (λ (us : List ℕ). get_or us 0 0) (sieve-none (owesAt b h) b.units.count e))
+  none_owing e = sym (ap (λ (us : List ℕ). get_or us 0 0) (sieve_none (owes_at b h) b.units.count e))
 
 -- what the outlook is, of the numbers as they were read
 pub outlook-as :
@@ -89,7 +89,7 @@ opens (Friends run) = false
 opens (Alone run) = false
 
 pub outlook-opens :
-    (b : Board) (f h n : ℕ) (route : List ℕ) (r : Outlook) → OutlookOf b f h n route r → found (firstRoute b f h n) ≡ opens r
+    (b : Board) (f h n : ℕ) (route : List ℕ) (r : Outlook) → OutlookOf b f h n route r → found (first_route b f h n) ≡ opens r
 outlook-opens b f h n route Legal o = o.0
 outlook-opens b f h n route Illegal o = o.0
 outlook-opens b f h n route (Friends run) o = o.0
@@ -97,79 +97,79 @@ outlook-opens b f h n route (Alone run) o = o.0
 
 -- what is asked of a vacant route
 pub none_found :
-    (b : Board) (h : ℕ) → hasRoute b h ≡ false → found (firstRoute b (groupForce b h) h b.desk.battle.owed) ≡ false
-unfolding hasRoute
+    (b : Board) (h : ℕ) → has_route b h ≡ false → found (first_route b (group_force b h) h b.desk.battle.owed) ≡ false
+unfolding has_route
 none_found b h e = e
 
 -- and what each outlook says of the group
 module _ (b : Board) (h : ℕ) (route : List ℕ) where
   abbrev Says : Outlook → Type 0
-  Says r = OutlookOf b (groupForce b h) h b.desk.battle.owed route r
+  Says r = OutlookOf b (group_force b h) h b.desk.battle.owed route r
 
-  pub told-legal : Says Legal → (hasRoute b h ≡ true) × (legal b (groupForce b h) h b.desk.battle.owed route ≡ true)
-  unfolding hasRoute
-  told-legal o = o
+  pub told_legal : Says Legal → (has_route b h ≡ true) × (legal b (group_force b h) h b.desk.battle.owed route ≡ true)
+  unfolding has_route
+  told_legal o = o
 
-  pub told-illegal : Says Illegal → (hasRoute b h ≡ true) × (legal b (groupForce b h) h b.desk.battle.owed route ≡ false)
-  unfolding hasRoute
-  told-illegal o = o
+  pub told_illegal : Says Illegal → (has_route b h ≡ true) × (legal b (group_force b h) h b.desk.battle.owed route ≡ false)
+  unfolding has_route
+  told_illegal o = o
 
-  pub told-friends : {t : Bool} → Says (Friends t) → (hasRoute b h ≡ false) × (t ≡ isRun b (groupForce b h) h route)
-  unfolding hasRoute
-  told-friends o = o
+  pub told_friends : {t : Bool} → Says (Friends t) → (has_route b h ≡ false) × (t ≡ is_run b (group_force b h) h route)
+  unfolding has_route
+  told_friends o = o
 
   pub told-alone :
-      {t : Bool} → Says (Alone t) → (hasRoute b h ≡ false) × (t ≡ isRun b (groupForce b h) h route) × Nobody b (groupForce b h) h
-  unfolding hasRoute
+      {t : Bool} → Says (Alone t) → (has_route b h ≡ false) × (t ≡ is_run b (group_force b h) h route) × Nobody b (group_force b h) h
+  unfolding has_route
   told-alone o = o
 
 -- and what comes of pushes, of them
 pub served-as :
-    (b : Board) (h : ℕ) (route pushes : List ℕ) {f n : ℕ} {y : Served} → f ≡ groupForce b h → n ≡ b.desk.battle.owed
-    → y ≡ served b f h n route pushes → y ≡ served b (groupForce b h) h b.desk.battle.owed route pushes
+    (b : Board) (h : ℕ) (route pushes : List ℕ) {f n : ℕ} {y : Served} → f ≡ group_force b h → n ≡ b.desk.battle.owed
+    → y ≡ served b f h n route pushes → y ≡ served b (group_force b h) h b.desk.battle.owed route pushes
 served-as b h route pushes ef en ey = ey ∙ ap₂ (λ (f n : ℕ). served b f h n route pushes) ef en
 
 -- the questions of the group, in their order
 module _ (p : List ℕ) (b : Board) (h : ℕ) (route pushes : List ℕ) where
-  pub stops-long : 3 < length route → Stops p (groupChecks b h route pushes) 3 0
-  stops-long m l v = stop (lt-ltb 3 (length route) m)
+  pub stops_long : 3 < length route → Stops p (group_checks b h route pushes) 3 0
+  stops_long m l v = stop (lt-ltb 3 (length route) m)
 
   module _ (m : length route ≤ 3) where
-    pub stops-many : 9 < length pushes → Stops p (groupChecks b h route pushes) 3 0
-    stops-many n l v = pass (le-ltb 3 (length route) m) (stop (lt-ltb 9 (length pushes) n))
+    pub stops_many : 9 < length pushes → Stops p (group_checks b h route pushes) 3 0
+    stops_many n l v = pass (le-ltb 3 (length route) m) (stop (lt-ltb 9 (length pushes) n))
 
     module _ (n : length pushes ≤ 9) where
-      pub stops-hex : b.map.hexes ≤ h → Stops p (groupChecks b h route pushes) 3 0
-      stops-hex k l v =
+      pub stops_hex : b.map.hexes ≤ h → Stops p (group_checks b h route pushes) 3 0
+      stops_hex k l v =
           pass (le-ltb 3 (length route) m) (pass (le-ltb 9 (length pushes) n) (stop (le-leb b.map.hexes h k)))
 
       module _ (k : h < b.map.hexes) where
         numbers :
             {l : List ℕ} {v : Verdict} {a : Ruling} {q x : List ℕ} → Met p l v a q x
             → Met p l
-            (refuseIf (ltb 3 (length route)) 3 0 (refuseIf (ltb 9 (length pushes)) 3 0 (refuseIf (leb b.map.hexes h) 3 0 v)))
+            (refuse_if (ltb 3 (length route)) 3 0 (refuse_if (ltb 9 (length pushes)) 3 0 (refuse_if (leb b.map.hexes h) 3 0 v)))
             a q x
         numbers w = pass (le-ltb 3 (length route) m) (pass (le-ltb 9 (length pushes) n) (pass (lt-leb b.map.hexes h k) w))
 
-        pub stops-route : {n j : ℕ} → Stops p (onMapAll b route) n j → Stops p (groupChecks b h route pushes) n j
-        stops-route s l v = numbers (s l _)
+        pub stops_route : {n j : ℕ} → Stops p (on_map_all b route) n j → Stops p (group_checks b h route pushes) n j
+        stops_route s l v = numbers (s l _)
 
-        module _ (o : Passes p (onMapAll b route)) where
+        module _ (o : Passes p (on_map_all b route)) where
           pub stops-pushes :
-              {n j : ℕ} → Stops p (onMapFrom b pushes (length route + 1)) n j → Stops p (groupChecks b h route pushes) n j
+              {n j : ℕ} → Stops p (on_map_from b pushes (length route + 1)) n j → Stops p (group_checks b h route pushes) n j
           stops-pushes s l v = numbers (o l _ _ _ _ (s l _))
 
-          module _ (i : Passes p (onMapFrom b pushes (length route + 1))) where
-            pub stops-stage : (b.desk.battle.stage ≡ Stage.retreats → ⊥) → Stops p (groupChecks b h route pushes) 2 0
-            stops-stage e l v = numbers (o l _ _ _ _ (i l _ _ _ _ (stop (ap not (ne_eqb b.desk.battle.stage Stage.retreats e)))))
+          module _ (i : Passes p (on_map_from b pushes (length route + 1))) where
+            pub stops_stage : (b.desk.battle.stage ≡ Stage.retreats → ⊥) → Stops p (group_checks b h route pushes) 2 0
+            stops_stage e l v = numbers (o l _ _ _ _ (i l _ _ _ _ (stop (ap not (ne_eqb b.desk.battle.stage Stage.retreats e)))))
 
             module _ (e : b.desk.battle.stage ≡ Stage.retreats) where
-              pub stops-role : any (owesAt b h) b.units.count ≡ false → Stops p (groupChecks b h route pushes) 4 0
-              stops-role f l v =
+              pub stops_role : any (owes_at b h) b.units.count ≡ false → Stops p (group_checks b h route pushes) 4 0
+              stops_role f l v =
                   numbers (o l _ _ _ _ (i l _ _ _ _ (pass (ap not (eq-eqb b.desk.battle.stage Stage.retreats e)) (stop (ap not f)))))
 
               pub passes-group :
-                  any (owesAt b h) b.units.count ≡ true → Passes p (groupChecks b h route pushes) × RetreatNow b h
+                  any (owes_at b h) b.units.count ≡ true → Passes p (group_checks b h route pushes) × RetreatNow b h
               passes-group f = (
                 λ l v a q x w.
                     numbers (o l _ a q x (i l _ a q x (pass (ap not (eq-eqb b.desk.battle.stage Stage.retreats e)) (pass (ap not f) w)))),
@@ -177,8 +177,8 @@ module _ (p : List ℕ) (b : Board) (h : ℕ) (route pushes : List ℕ) where
               )
 
 -- "Stage 1: n is 1..3", and a hex is a 16-bit number
-pub owed-of : {p : List ℕ} {h : ℕ} → Accepted p → RetreatNow (board p) h → In 1 (board p).desk.battle.owed 3
-owed-of a o = (a.lawful.stage.during.retreats o.now).owed
+pub owed_of : {p : List ℕ} {h : ℕ} → Accepted p → RetreatNow (board p) h → In 1 (board p).desk.battle.owed 3
+owed_of a o = (a.lawful.stage.during.retreats o.now).owed
 
-pub small-hex : {p : List ℕ} {v : View} {h : ℕ} → Laid p v → RetreatNow (board p) h → h < 65536
-small-hex l o = omega (arith, o.there, l.view.hexes, l.fits.hexes)
+pub small_hex : {p : List ℕ} {v : View} {h : ℕ} → Laid p v → RetreatNow (board p) h → h < 65536
+small_hex l o = omega (arith, o.there, l.view.hexes, l.fits.hexes)

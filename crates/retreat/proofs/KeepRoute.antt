@@ -7,7 +7,7 @@ use mathlib.Core.List.{List, ◌∷◌}
 use native.Mathlib.Omega.{arith}
 use native.Mathlib.Numerals.{add-one}
 use lib.ListN.{get_or, length}
-use Rattle.position.specs.Layout.{routeCount}
+use Rattle.position.specs.Layout.{route_count}
 use Rattle.position.specs.Board.{Board, nowhere}
 use Rattle.position.specs.Ground.{joined, standable}
 use Rattle.position.specs.Crowd.{routes}
@@ -16,21 +16,21 @@ use Rattle.position.specs.Effect.{change, of_four}
 use Rattle.position.specs.Stage as Stage
 use Rattle.position.proofs.Tallies.{both_yes}
 use Rattle.acceptance.specs.Accepted.{Lawful, PlaceOk}
-use Rattle.acceptance.proofs.Carries.{fixed-change, standable-by}
-use Rattle.acceptance.proofs.Lawfuls.{standable-on}
-use Rattle.acceptance.proofs.Routings.{route-there, routes-filled}
-use Rattle.acceptance.proofs.Since.{Since, since-lawful, since-routed}
+use Rattle.acceptance.proofs.Carries.{fixed_change, standable_by}
+use Rattle.acceptance.proofs.Lawfuls.{standable_on}
+use Rattle.acceptance.proofs.Routings.{route_there, routes_filled}
+use Rattle.acceptance.proofs.Since.{Since, since_lawful, since-routed}
 use Rattle.field.specs.Listed.{Charted}
 use Rattle.field.specs.Scene.{scene}
-use Rattle.field.specs.Zone.{enemyZone, vacant}
+use Rattle.field.specs.Zone.{enemy_zone, vacant}
 use Rattle.routes.specs.Bears.{bears, refuge}
 use Rattle.routes.specs.Run.{Run, stay, go}
-use Rattle.routes.proofs.Steps.{next-joined}
-use Rattle.chains.specs.Stand.{isFree, isLoose}
+use Rattle.routes.proofs.Steps.{next_joined}
+use Rattle.chains.specs.Stand.{is_free, is_loose}
 use Rattle.chains.specs.Chain.{Stands}
-use Rattle.chains.specs.Series.{Series, stay, walk, shove, landOf}
+use Rattle.chains.specs.Series.{Series, stay, walk, shove, land_of}
 use Rattle.chains.proofs.Find.{Opens, free_open, loose_open, open_after}
-use Rattle.shoves.proofs.KeepChain.{chain-last}
+use Rattle.shoves.proofs.KeepChain.{chain_last}
 
 -- hex x may follow hex a in a route
 pub record Follows (b : Board) (a x : ℕ) : Type 0 where
@@ -39,28 +39,28 @@ pub record Follows (b : Board) (a x : ℕ) : Type 0 where
   pub stands : standable b x ≡ true
 
 -- a standable hex is on the map
-pub standable-where : (b : Board) (h : ℕ) → b.map.hexes ≤ nowhere → standable b h ≡ true → h ≡ nowhere → ⊥
-standable-where b h most s e = omega (arith, standable-on b h s)
+pub standable_where : (b : Board) (h : ℕ) → b.map.hexes ≤ nowhere → standable b h ≡ true → h ≡ nowhere → ⊥
+standable_where b h most s e = omega (arith, standable_on b h s)
 
 -- a refuge is vacant and standable
 module _ (b : Board) (f h : ℕ) (e : refuge b f h ≡ true) where
-  pub refuge-vacant : vacant (scene b) h ≡ true
+  pub refuge_vacant : vacant (scene b) h ≡ true
   unfolding refuge
-  refuge-vacant = (both_yes (vacant (scene b) h) (bears b f h) e).0
+  refuge_vacant = (both_yes (vacant (scene b) h) (bears b f h) e).0
 
-  refuge-bears : bears b f h ≡ true
+  refuge_bears : bears b f h ≡ true
   unfolding refuge
-  refuge-bears = (both_yes (vacant (scene b) h) (bears b f h) e).1
+  refuge_bears = (both_yes (vacant (scene b) h) (bears b f h) e).1
 
-  pub refuge-stands : standable b h ≡ true
+  pub refuge_stands : standable b h ≡ true
   unfolding bears
-  refuge-stands = (both_yes (standable b h) (not (enemyZone (scene b) f h)) refuge-bears).0
+  refuge_stands = (both_yes (standable b h) (not (enemy_zone (scene b) f h)) refuge_bears).0
 
 -- the hexes of a run are on the map
-pub run-charted : {b : Board} {f start i a last : ℕ} {route : List ℕ} → Run b f start i a route last → Charted b route
-run-charted stay j l = absurd (omega arith)
-run-charted {b} {f} (go {x = x} d s k) zero l = standable-on b x (refuge-stands b f x s.into)
-run-charted (go d s k) (suc j) l = run-charted k j (omega arith)
+pub run_charted : {b : Board} {f start i a last : ℕ} {route : List ℕ} → Run b f start i a route last → Charted b route
+run_charted stay j l = absurd (omega arith)
+run_charted {b} {f} (go {x = x} d s k) zero l = standable_on b x (refuge_stands b f x s.into)
+run_charted (go d s k) (suc j) l = run_charted k j (omega arith)
 
 -- they are refuges, and each may follow the one before
 module _ {b : Board} {f start : ℕ} (most : b.map.hexes ≤ nowhere) where
@@ -76,43 +76,43 @@ module _ {b : Board} {f start : ℕ} (most : b.map.hexes ≤ nowhere) where
       → (get_or route j nowhere ≡ nowhere → ⊥) → Follows b (get_or (a ∷ route) j nowhere) (get_or route j nowhere)
   run-follows n stay j m = absurd (m refl)
   run-follows n (go {a = a} {x = x} d s k) zero m =
-      record { front = n; step = next-joined b.map a x d s.leads; stands = refuge-stands b f x s.into }
+      record { front = n; step = next_joined b.map a x d s.leads; stands = refuge_stands b f x s.into }
   run-follows n (go {x = x} d s k) (suc j) m =
-      run-follows (standable-where b x most (refuge-stands b f x s.into)) k j m
+      run-follows (standable_where b x most (refuge_stands b f x s.into)) k j m
 
 -- so may each hex of a series: what is not shut to the group can be stood on
 abbrev Open : Board → Stands → Type 0
 Open b s = Opens (λ h. standable b h ≡ true) s
 
 module _ {b : Board} (start : ℕ) (most : b.map.hexes ≤ nowhere) where
-  pub series-follows :
-      {s : Stands} {i a : ℕ} {route pushes : List ℕ} → Open b s → (a ≡ nowhere → ⊥) → Series (landOf b start) s i a route pushes
+  pub series_follows :
+      {s : Stands} {i a : ℕ} {route pushes : List ℕ} → Open b s → (a ≡ nowhere → ⊥) → Series (land_of b start) s i a route pushes
       → (j : ℕ) → (get_or route j nowhere ≡ nowhere → ⊥) → Follows b (get_or (a ∷ route) j nowhere) (get_or route j nowhere)
-  unfolding landOf
-  series-follows o n stay j m = absurd (m refl)
-  series-follows {s} o n (walk {a = a} {x = x} d t y k) zero m =
-      record { front = n; step = next-joined b.map a x d t.leads; stands = o x (free_open (ap isFree y)) }
-  series-follows {s} o n (walk {x = x} d t y k) (suc j) m =
-      series-follows o (standable-where b x most (o x (free_open (ap isFree y)))) k j m
-  series-follows {s} o n (shove {a = a} {x = x} d t y c k) zero m =
-      record { front = n; step = next-joined b.map a x d t.leads; stands = o x (loose_open (ap isLoose y)) }
-  series-follows {s} o n (shove {x = x} {y = last} d t y c k) (suc j) m =
-      let i = o x (loose_open (ap isLoose y)) in
-      let k' = o last (free_open (ap isFree (chain-last c))) in
-      series-follows (open_after (λ h. standable b h ≡ true) s o x last i k') (standable-where b x most i) k j m
+  unfolding land_of
+  series_follows o n stay j m = absurd (m refl)
+  series_follows {s} o n (walk {a = a} {x = x} d t y k) zero m =
+      record { front = n; step = next_joined b.map a x d t.leads; stands = o x (free_open (ap is_free y)) }
+  series_follows {s} o n (walk {x = x} d t y k) (suc j) m =
+      series_follows o (standable_where b x most (o x (free_open (ap is_free y)))) k j m
+  series_follows {s} o n (shove {a = a} {x = x} d t y c k) zero m =
+      record { front = n; step = next_joined b.map a x d t.leads; stands = o x (loose_open (ap is_loose y)) }
+  series_follows {s} o n (shove {x = x} {y = last} d t y c k) (suc j) m =
+      let i = o x (loose_open (ap is_loose y)) in
+      let k' = o last (free_open (ap is_free (chain_last c))) in
+      series_follows (open_after (λ h. standable b h ≡ true) s o x last i k') (standable_where b x most i) k j m
 
 -- four numbers of which each may follow the one before
 module _
     (b : Board)
     (r w x y z : ℕ)
-    (l : r < routeCount)
+    (l : r < route_count)
     (s : standable b w ≡ true)
     (f : (j : ℕ) → (of_four (suc j) w x y z ≡ nowhere → ⊥) → Follows b (of_four j w x y z) (of_four (suc j) w x y z)) where
   abbrev written : Board
   written = change b (routed r w x y z)
 
   here : (j : ℕ) → written.desk.route r j ≡ of_four j w x y z
-  here = route-there b r w x y z l
+  here = route_there b r w x y z l
 
   next : (j : ℕ) → written.desk.route r (j + 1) ≡ of_four (suc j) w x y z
   next j = here (j + 1) ∙ ap (λ (k : ℕ). of_four k w x y z) (add-one j)
@@ -121,9 +121,9 @@ module _
   each_stands zero n = s
   each_stands (suc j) n = (f j n).stands
 
-  places-written : (j : ℕ) → PlaceOk written r j
-  places-written j =
-      let k = fixed-change b (routed r w x y z) in
+  places_written : (j : ℕ) → PlaceOk written r j
+  places_written j =
+      let k = fixed_change b (routed r w x y z) in
       record {
         link =
             record {
@@ -133,13 +133,13 @@ module _
         stands =
             λ n.
             ap (standable written) (here j)
-            ∙ standable-by k (of_four j w x y z)
+            ∙ standable_by k (of_four j w x y z)
             ∙ each_stands j (λ q. n (here j ∙ q));
       }
 
 -- "k plus filled routes is at most 6": while a hex owes there is room for a route
-pub routes-room : {b : Board} → Lawful b → b.desk.battle.stage ≡ Stage.retreats → routes b < routeCount
-routes-room l e = let o = l.stage.during.retreats e in omega (arith, o.some, o.room)
+pub routes_room_lem : {b : Board} → Lawful b → b.desk.battle.stage ≡ Stage.retreats → routes b < route_count
+routes_room_lem l e = let o = l.stage.during.retreats e in omega (arith, o.some, o.room)
 
 -- the next route is written
 pub since-written :
@@ -147,9 +147,9 @@ pub since-written :
     → ((x ≡ nowhere → ⊥) → Follows b w x) → ((y ≡ nowhere → ⊥) → Follows b x y) → ((z ≡ nowhere → ⊥) → Follows b y z)
     → Since b (change b (routed (routes b) w x y z))
 since-written {b} l most e w x y z s one two three =
-    since-routed most (since-lawful l) (routes b) w x y z (routes-room l e) (standable-where b w most s)
-    (λ i q. routes-filled l.routes i (omega arith))
-    (λ j _. places-written b (routes b) w x y z (routes-room l e) s each j)
+    since-routed most (since_lawful l) (routes b) w x y z (routes_room_lem l e) (standable_where b w most s)
+    (λ i q. routes_filled l.routes i (omega arith))
+    (λ j _. places_written b (routes b) w x y z (routes_room_lem l e) s each j)
   where
     each : (j : ℕ) → (of_four (suc j) w x y z ≡ nowhere → ⊥) → Follows b (of_four j w x y z) (of_four (suc j) w x y z)
     each zero n = one n

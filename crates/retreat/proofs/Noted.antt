@@ -5,88 +5,88 @@ use mathlib.Core.Path.{◌≡◌, refl, ap, fun_ext, ◌∙◌}
 use mathlib.Core.List.{List, [], ◌∷◌}
 use lib.Dec.{ltb}
 use Rattle.position.specs.Board.{Board, Desk}
-use Rattle.position.specs.Crowd.{owesAt}
+use Rattle.position.specs.Crowd.{owes_at}
 use Rattle.position.specs.Change.{Change}
 use Rattle.position.specs.Change.Change.{assigned, destroyed, marked, placed, routed, staged, timed, unrouted}
-use Rattle.position.specs.Effect.{change, changes, reroute, unfilled, withClock, withDesk, withRoutes, withStage}
+use Rattle.position.specs.Effect.{change, changes, reroute, unfilled, with_clock, with_desk, with_routes, with_stage}
 use Rattle.position.proofs.Tallies.{either}
 use Rattle.field.specs.Scene.{scene}
-use Rattle.field.specs.Zone.{standsOn, vacant}
+use Rattle.field.specs.Zone.{stands_on, vacant}
 use Rattle.shoves.specs.Group.{gather, group, stack}
-use Rattle.shoves.specs.Shoves.{clears, goesTo, groupTo, stackTo}
+use Rattle.shoves.specs.Shoves.{clears, goes_to, group_to, stack_to}
 use Rattle.retreat.specs.Retreat.{note_of}
-use Rattle.retreat.specs.Units.{broughtTo, carried}
+use Rattle.retreat.specs.Units.{brought_to, carried}
 
 -- changes of a board with another desk: the same board as without, but for its desk
-change-desk : (x : Change) (b : Board) (d : Desk) → (e : Desk) × (change (withDesk b d) x ≡ withDesk (change b x) e)
+change_desk : (x : Change) (b : Board) (d : Desk) → (e : Desk) × (change (with_desk b d) x ≡ with_desk (change b x) e)
 unfolding change
-change-desk (placed u h) b d = (d, either (ltb h b.map.hexes) (λ e. simp e) (λ e. simp e))
-change-desk (destroyed u) b d = (d, refl)
-change-desk (marked u m) b d = (d, refl)
-change-desk (assigned u r) b d = (d, refl)
-change-desk (timed t f ph) b d = (withClock d t f ph, refl)
-change-desk (staged s n x) b d = (withStage d s n x, refl)
-change-desk (routed r w x y z) b d = (withRoutes d (reroute d.route r w x y z), refl)
-change-desk unrouted b d = (withRoutes d unfilled, refl)
+change_desk (placed u h) b d = (d, either (ltb h b.map.hexes) (λ e. simp e) (λ e. simp e))
+change_desk (destroyed u) b d = (d, refl)
+change_desk (marked u m) b d = (d, refl)
+change_desk (assigned u r) b d = (d, refl)
+change_desk (timed t f ph) b d = (with_clock d t f ph, refl)
+change_desk (staged s n x) b d = (with_stage d s n x, refl)
+change_desk (routed r w x y z) b d = (with_routes d (reroute d.route r w x y z), refl)
+change_desk unrouted b d = (with_routes d unfilled, refl)
 
-changes-desk : (xs : List Change) (b : Board) (d : Desk) → (e : Desk) × (changes (withDesk b d) xs ≡ withDesk (changes b xs) e)
+changes_desk : (xs : List Change) (b : Board) (d : Desk) → (e : Desk) × (changes (with_desk b d) xs ≡ with_desk (changes b xs) e)
 unfolding changes
-changes-desk [] b d = (d, refl)
-changes-desk (x ∷ xs) b d =
-    let i = change-desk x b d in
-    let j = changes-desk xs (change b x) i.0 in
+changes_desk [] b d = (d, refl)
+changes_desk (x ∷ xs) b d =
+    let i = change_desk x b d in
+    let j = changes_desk xs (change b x) i.0 in
     (j.0, ap (λ (c : Board). changes c xs) i.1 ∙ j.1)
 
 -- who stands where, and who goes
 module _ (b : Board) (d : Desk) where
-  desk-vacant : (h : ℕ) → vacant (scene (withDesk b d)) h ≡ vacant (scene b) h
-  unfolding vacant standsOn
-  desk-vacant h = refl
+  desk_vacant : (h : ℕ) → vacant (scene (with_desk b d)) h ≡ vacant (scene b) h
+  unfolding vacant stands_on
+  desk_vacant h = refl
 
-  desk-stack : (h z : ℕ) → stackTo (withDesk b d) h z ≡ stackTo b h z
-  unfolding stackTo stack standsOn
-  desk-stack h z = refl
+  desk_stack : (h z : ℕ) → stack_to (with_desk b d) h z ≡ stack_to b h z
+  unfolding stack_to stack stands_on
+  desk_stack h z = refl
 
-  desk-group : (a x : ℕ) → groupTo (withDesk b d) a x ≡ groupTo b a x
-  unfolding groupTo group owesAt goesTo
-  desk-group a x = ap (λ (g : ℕ → List Change). gather g (group b a)) (fun_ext (λ u. refl))
+  desk_group : (a x : ℕ) → group_to (with_desk b d) a x ≡ group_to b a x
+  unfolding group_to group owes_at goes_to
+  desk_group a x = ap (λ (g : ℕ → List Change). gather g (group b a)) (fun_ext (λ u. refl))
 
 -- a hex is cleared alike, and carries alike
 module _ (b : Board) (d : Desk) where
-  clears-desk : (ps : List ℕ) (h : ℕ) → clears (withDesk b d) h ps ≡ clears b h ps
+  clears_desk : (ps : List ℕ) (h : ℕ) → clears (with_desk b d) h ps ≡ clears b h ps
   unfolding clears
-  clears-desk [] h = refl
-  clears-desk (z ∷ ps) h =
-      let i = changes-desk (clears b z ps).done b d in
-      rw (desk-vacant b d h, clears-desk ps z, i.1, desk-stack (changes b (clears b z ps).done) i.0 h z) refl
+  clears_desk [] h = refl
+  clears_desk (z ∷ ps) h =
+      let i = changes_desk (clears b z ps).done b d in
+      rw (desk_vacant b d h, clears_desk ps z, i.1, desk_stack (changes b (clears b z ps).done) i.0 h z) refl
 
-  carried-desk : (ps : List ℕ) (x y : ℕ) → carried (withDesk b d) x ps y ≡ carried b x ps y
+  carried_desk : (ps : List ℕ) (x y : ℕ) → carried (with_desk b d) x ps y ≡ carried b x ps y
   unfolding carried
-  carried-desk [] x y = refl
-  carried-desk (z ∷ ps) x y = rw (desk-vacant b d x, carried-desk ps z y) refl
+  carried_desk [] x y = refl
+  carried_desk (z ∷ ps) x y = rw (desk_vacant b d x, carried_desk ps z y) refl
 
 brought-desk :
     (route : List ℕ) (b : Board) (d : Desk) (a : ℕ) (ps : List ℕ) (y : ℕ)
-    → broughtTo (withDesk b d) a route ps y ≡ broughtTo b a route ps y
-unfolding broughtTo
+    → brought_to (with_desk b d) a route ps y ≡ brought_to b a route ps y
+unfolding brought_to
 brought-desk [] b d a ps y = refl
 brought-desk (x ∷ route) b d a ps y =
     let r = clears b x ps in
     let c = changes b r.done in
-    let i = changes-desk r.done b d in
-    let xs = groupTo c a x in
-    let j = changes-desk xs c i.0 in
-    rw (clears-desk b d ps x, carried-desk b d ps x y, i.1, desk-group c i.0 a x, j.1)
+    let i = changes_desk r.done b d in
+    let xs = group_to c a x in
+    let j = changes_desk xs c i.0 in
+    rw (clears_desk b d ps x, carried_desk b d ps x y, i.1, desk_group c i.0 a x, j.1)
     (brought-desk route (changes c xs) j.0 x r.left (carried b x ps y))
 
 -- so the note of a route does not matter
 pub brought-noted :
-    (b : Board) (h : ℕ) (noted route ps : List ℕ) (y : ℕ) → broughtTo (change b (note_of b h noted)) h route ps y ≡ broughtTo b h route ps y
+    (b : Board) (h : ℕ) (noted route ps : List ℕ) (y : ℕ) → brought_to (change b (note_of b h noted)) h route ps y ≡ brought_to b h route ps y
 unfolding change note_of
 brought-noted b h noted route ps y = brought-desk route b _ h ps y
 
 -- and without pushes everybody stays
-pub brought-none : (route : List ℕ) (b : Board) (a y : ℕ) → broughtTo b a route [] y ≡ y
-unfolding broughtTo clears carried
-brought-none [] b a y = refl
-brought-none (x ∷ route) b a y = brought-none route _ x y
+pub brought_none : (route : List ℕ) (b : Board) (a y : ℕ) → brought_to b a route [] y ≡ y
+unfolding brought_to clears carried
+brought_none [] b a y = refl
+brought_none (x ∷ route) b a y = brought_none route _ x y

@@ -4,34 +4,34 @@
 use Rattle.std.specs.Prelude.{ℕ, Bool, cond, ◌&&◌, List}
 use Rattle.position.specs.Board.{Board}
 use Rattle.routes.specs.Legal.{legal}
-use Rattle.chains.specs.Follows.{none, legalPushes}
+use Rattle.chains.specs.Follows.{none, legal_pushes}
 use Rattle.pushes.specs.declared.Served.{Served}
 use Rattle.pushes.specs.declared.Served.TheVariants.{None, Wrong, Right}
-use Rattle.shoves.specs.Group.{groupForce}
+use Rattle.shoves.specs.Group.{group_force}
 use Rattle.retreat.specs.declared.Fate.{Fate}
 use Rattle.retreat.specs.declared.Fate.TheVariants.{Lost, WrongRoute, WrongPushes, Walking, Pushing}
-use Rattle.retreat.specs.Retreat.{hasRoute, doomed, isPart}
+use Rattle.retreat.specs.Retreat.{has_route, doomed, is_part}
 
 -- where the group is destroyed: a part route and nothing else was sent, or what was sent is refused
-unfoldable pub lostFate : Bool → List ℕ → Fate
-lostFate part pushes = cond (part && none pushes) Lost WrongRoute
+unfoldable pub lost_fate : Bool → List ℕ → Fate
+lost_fate part pushes = cond (part && none pushes) Lost WrongRoute
 
 -- by route alone, where a vacant one exists
-unfoldable pub routeFate : Board → ℕ → List ℕ → List ℕ → Fate
-routeFate b h route pushes =
-    cond (legal b (groupForce b h) h b.desk.battle.owed route && none pushes) Walking WrongRoute
+unfoldable pub route_fate : Board → ℕ → List ℕ → List ℕ → Fate
+route_fate b h route pushes =
+    cond (legal b (group_force b h) h b.desk.battle.owed route && none pushes) Walking WrongRoute
 
 -- by pushes, where only they serve
-unfoldable pub pushFate : Board → ℕ → List ℕ → List ℕ → Fate
-pushFate b h route pushes = cond (legalPushes b (groupForce b h) h b.desk.battle.owed route pushes) Pushing WrongPushes
+unfoldable pub push_fate : Board → ℕ → List ℕ → List ℕ → Fate
+push_fate b h route pushes = cond (legal_pushes b (group_force b h) h b.desk.battle.owed route pushes) Pushing WrongPushes
 
 -- the fate that an answer about pushes comes to; `lost` is that of a group whom none serve
-abbrev pub servedFate : Fate → Served → Fate
-servedFate lost None = lost
-servedFate lost Wrong = WrongPushes
-servedFate lost Right = Pushing
+abbrev pub served_fate : Fate → Served → Fate
+served_fate lost None = lost
+served_fate lost Wrong = WrongPushes
+served_fate lost Right = Pushing
 
-unfoldable pub fateOf : Board → ℕ → List ℕ → List ℕ → Fate
-fateOf b h route pushes =
-    cond (doomed b h) (lostFate (isPart b h route) pushes)
-    (cond (hasRoute b h) (routeFate b h route pushes) (pushFate b h route pushes))
+unfoldable pub fate_of : Board → ℕ → List ℕ → List ℕ → Fate
+fate_of b h route pushes =
+    cond (doomed b h) (lost_fate (is_part b h route) pushes)
+    (cond (has_route b h) (route_fate b h route pushes) (push_fate b h route pushes))

@@ -2,10 +2,10 @@
 ghost use Rattle.std.specs.Prelude.{◌≡◌};
 ghost use Rattle.position.specs.Tally.{any};
 ghost use Rattle.position.specs.Board.{board};
-ghost use Rattle.position.specs.Crowd.{owesAt};
+ghost use Rattle.position.specs.Crowd.{owes_at};
 ghost use Rattle.position.specs.Laid.{Laid};
 ghost use Rattle.ruling.specs.Judged.{TestedOf};
-ghost use Rattle.retreat.specs.Retreat.{RetreatNow, groupChecks};
+ghost use Rattle.retreat.specs.Retreat.{RetreatNow, group_checks};
 
 use field::listed;
 use position::{View, read, stage};
@@ -15,7 +15,7 @@ use shoves::group;
 // Whether a unit owes in hex `h`.
 fn any_owes(p: &[u8], v: View, h: usize) -> bool
     requires { Laid p.now v }
-    ensures { result ≡ any (owesAt (board p.now) h) (board p.now).units.count }
+    ensures { result ≡ any (owes_at (board p.now) h) (board p.now).units.count }
 {
     let count = v.count;
     let mut u = 0;
@@ -31,7 +31,7 @@ fn any_owes(p: &[u8], v: View, h: usize) -> bool
 // The questions of a retreat before those of its route and pushes: 3, 2, 4. Places are counted on through both lists.
 pub fn judge_group(p: &[u8], v: View, h: usize, route: &[u16], pushes: &[u16]) -> Tested
     requires { Laid p.now v }
-    ensures { TestedOf p.now (groupChecks (board p.now) h route.now pushes.now) (RetreatNow (board p.now) h) result }
+    ensures { TestedOf p.now (group_checks (board p.now) h route.now pushes.now) (RetreatNow (board p.now) h) result }
 {
     if 3 < route.len() {
         return Tested::Stopped(3, 0);

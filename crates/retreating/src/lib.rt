@@ -4,8 +4,8 @@ ghost use Rattle.position.specs.Board.{board};
 ghost use Rattle.position.specs.Laid.{Laid};
 ghost use Rattle.acceptance.specs.Accepted.{Accepted};
 ghost use Rattle.ruling.specs.Verdict.{Met};
-ghost use Rattle.retreat.specs.Retreat.{retreatRule};
-ghost use Rattle.retreat.specs.Answers.{retreatedAs};
+ghost use Rattle.retreat.specs.Retreat.{retreat_rule};
+ghost use Rattle.retreat.specs.Answers.{retreated_as};
 
 mod asking;
 
@@ -16,7 +16,7 @@ use ruling::Tested;
 // The retreat on a checked position: the units that owe in `hex` go along `route`; friends in their road go where `pushes` says.
 pub fn retreat(p: &mut [u8], v: View, hex: usize, route: &[u16], pushes: &[u16]) -> Retreated
     requires { Laid p.old v × Accepted p.old }
-    ensures { Met p.old [] (retreatRule (board p.old) hex route.now pushes.now) (retreatedAs result) p.new [] }
+    ensures { Met p.old [] (retreat_rule (board p.old) hex route.now pushes.now) (retreated_as result) p.new [] }
 {
     if let Tested::Stopped(n, k) = asking::judge_group(p, v, hex, route, pushes) {
         return Retreated::Refused(n, k);

@@ -1,7 +1,7 @@
 // Each role is held by units of one force, and the two by different ones: the functions answer 0 if so, else at which unit not.
 ghost use Rattle.std.specs.Prelude.{◌≡◌, ℕ, ◌<◌};
 ghost use Rattle.position.specs.Layout.{count, role};
-ghost use Rattle.position.specs.Board.{board, forceOf};
+ghost use Rattle.position.specs.Board.{board, force_of};
 ghost use Rattle.position.specs.Laid.{Laid, Says};
 ghost use Rattle.flaw.specs.Flaw.{Breaks, Flaw, OfOneForce};
 ghost use Rattle.flaw.specs.Tells.{Tells};
@@ -29,7 +29,7 @@ fn holder(p: &[u8], v: View, r: usize) -> usize
 // Whether unit `u`, if it has role `r`, is of force `f`.
 fn is_of(p: &[u8], v: View, r: usize, f: usize, u: usize) -> bool
     requires { Laid p.now v }
-    ensures { Says result (role p.now u ≡ r → forceOf (board p.now) u ≡ f) }
+    ensures { Says result (role p.now u ≡ r → force_of (board p.now) u ≡ f) }
 {
     if read::role(p, v, u) != r {
         return true;
@@ -43,8 +43,8 @@ fn is_of(p: &[u8], v: View, r: usize, f: usize, u: usize) -> bool
 // Every unit of role `r` is of force `f`; `line` is the line that one of another force breaks.
 fn all_of(p: &[u8], v: View, r: usize, f: usize, line: usize) -> usize
     requires laid { Laid p.now v }
-    requires by_index { (u : ℕ) → u < count p.now → role p.now u ≡ r → (forceOf (board p.now) u ≡ f → ⊥) → Breaks p.now u line }
-    ensures { Tells (Flaw p.now) result ((u : ℕ) → u < count p.now → role p.now u ≡ r → forceOf (board p.now) u ≡ f) }
+    requires by_index { (u : ℕ) → u < count p.now → role p.now u ≡ r → (force_of (board p.now) u ≡ f → ⊥) → Breaks p.now u line }
+    ensures { Tells (Flaw p.now) result ((u : ℕ) → u < count p.now → role p.now u ≡ r → force_of (board p.now) u ≡ f) }
 {
     let count = v.count;
     for u in 0..count {

@@ -11,7 +11,7 @@ use Rattle.grid.specs.declared.Beside.TheVariants.{At, Off}
 use Rattle.position.specs.Board.{Board}
 use Rattle.routes.specs.declared.Found.{Found}
 use Rattle.routes.specs.declared.Found.TheVariants.{Route, Nothing}
-use Rattle.routes.specs.Search.{or_else, searchBeyond, step_of, first_of, routeOf, goOn, firstRoute}
+use Rattle.routes.specs.Search.{or_else, search_beyond, step_of, first_of, route_of, go_on, first_route}
 
 -- where a search stands: for which group, how many steps it has made, how many are left after the next, the hexes passed, and where it is
 pub record Stand : Type 0 where
@@ -39,15 +39,15 @@ further k x =
       here = x;
     }
 
-abbrev pub stepFrom : Stand → ℕ → Beside
-stepFrom k d = step_of k.board k.force k.start k.made k.here d
+abbrev pub step_from : Stand → ℕ → Beside
+step_from k d = step_of k.board k.force k.start k.made k.here d
 
-abbrev pub onFrom : Stand → ℕ → Found
-onFrom k x = goOn k.board k.force k.start (suc k.made) k.left (k.past ++ (x ∷ [])) x
+abbrev pub on_from : Stand → ℕ → Found
+on_from k x = go_on k.board k.force k.start (suc k.made) k.left (k.past ++ (x ∷ [])) x
 
 -- what one direction has
 abbrev pub tries : Stand → ℕ → Found
-tries k d = searchBeyond (onFrom k) (stepFrom k d)
+tries k d = search_beyond (on_from k) (step_from k d)
 
 -- what is left after a direction: the later ones, and then what the outer loops have left
 abbrev pub rest : Stand → ℕ → Found → Found
@@ -69,21 +69,21 @@ assoc : (x y z : Found) → or_else (or_else x y) z ≡ or_else x (or_else y z)
 assoc (Route a b c) y z = refl
 assoc Nothing y z = refl
 
-nothing-more : (y : Found) → y ≡ or_else y Nothing
-nothing-more (Route a b c) = refl
-nothing-more Nothing = refl
+nothing_more : (y : Found) → y ≡ or_else y Nothing
+nothing_more (Route a b c) = refl
+nothing_more Nothing = refl
 
 -- a search of one step or more looks in six directions
 opened : (b : Board) (f start i left : ℕ) (past : List ℕ) (a : ℕ) → 1 ≤ left
-    → goOn b f start i left past a
+    → go_on b f start i left past a
     ≡ first_of 6 0 (tries (record { board = b; force = f; start = start; made = i; left = left - 1; past = past; here = a }))
-unfolding goOn
+unfolding go_on
 opened b f start i zero past a l = absurd (omega arith)
 opened b f start i (suc k) past a l = let e : suc k - 1 ≡ k = omega arith in rw e refl
 
-pub begins : (b : Board) (f start n : ℕ) → 1 ≤ n → Ahead Nothing (firstRoute b f start n) (from b f start n) 0 Nothing
-unfolding firstRoute
-begins b f start n l = record { yet = refl; is = opened b f start 0 n [] start l ∙ nothing-more _ }
+pub begins : (b : Board) (f start n : ℕ) → 1 ≤ n → Ahead Nothing (first_route b f start n) (from b f start n) 0 Nothing
+unfolding first_route
+begins b f start n l = record { yet = refl; is = opened b f start 0 n [] start l ∙ nothing_more _ }
 
 module _ {found r : Found} {k : Stand} {d : ℕ} {outer : Found} (p : Ahead found r k d outer) where
   -- after the last direction
@@ -92,26 +92,26 @@ module _ {found r : Found} {k : Stand} {d : ℕ} {outer : Found} (p : Ahead foun
   over l = let e : 6 - d ≡ 0 = omega arith in p.is ∙ ap (λ (m : ℕ). or_else (first_of m d (tries k)) outer) e
 
   module _ (l : d < 6) where
-    is-now : {y : Found} → tries k d ≡ y → r ≡ or_else y (rest k d outer)
-    is-now {y} e =
+    is_now : {y : Found} → tries k d ≡ y → r ≡ or_else y (rest k d outer)
+    is_now {y} e =
         p.is
         ∙ ap (λ (z : Found). or_else z outer) (turn d (tries k) l ∙ ap (λ (z : Found). or_else z (first_of (6 - (d + 1)) (d + 1) (tries k))) e)
         ∙ assoc y _ outer
 
-    module _ {s : Beside} (q : s ≡ stepFrom k d) where
+    module _ {s : Beside} (q : s ≡ step_from k d) where
       -- no step there
       pub none : s ≡ Off → Ahead found r k (d + 1) outer
-      none e = record { yet = p.yet; is = is-now (ap (searchBeyond (onFrom k)) (sym q ∙ e)) }
+      none e = record { yet = p.yet; is = is_now (ap (search_beyond (on_from k)) (sym q ∙ e)) }
 
       module _ {x : ℕ} (e : s ≡ At x) where
         -- the last step
-        pub reached : k.left ≡ 0 → routeOf (k.past ++ (x ∷ [])) ≡ r
-        unfolding goOn
-        reached z = sym (is-now {y = routeOf (k.past ++ (x ∷ []))} (ap (searchBeyond (onFrom k)) (sym q ∙ e) ∙ rw z refl))
+        pub reached : k.left ≡ 0 → route_of (k.past ++ (x ∷ [])) ≡ r
+        unfolding go_on
+        reached z = sym (is_now {y = route_of (k.past ++ (x ∷ []))} (ap (search_beyond (on_from k)) (sym q ∙ e) ∙ rw z refl))
 
         -- one loop further in
         pub inward : 1 ≤ k.left → Ahead found r (further k x) 0 (rest k d outer)
-        inward m = record { yet = p.yet; is = is-now (ap (searchBeyond (onFrom k)) (sym q ∙ e) ∙ opened _ _ _ _ k.left _ x m) }
+        inward m = record { yet = p.yet; is = is_now (ap (search_beyond (on_from k)) (sym q ∙ e) ∙ opened _ _ _ _ k.left _ x m) }
 
 -- out of a loop again: what it has left is what is left outside
 pub outward : (d : ℕ) {e : ℕ} {found r : Found} {k m : Stand} {outer : Found} → Ahead found r m e (rest k d outer) → 6 ≤ e

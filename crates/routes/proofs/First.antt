@@ -11,7 +11,7 @@ use lib.ListN.{length}
 use Rattle.grid.specs.declared.Beside.{Beside}
 use Rattle.grid.specs.declared.Beside.TheVariants.{At, Off}
 use Rattle.position.specs.Board.{Board}
-use Rattle.position.proofs.Tallies.{not-both}
+use Rattle.position.proofs.Tallies.{not_both}
 use Rattle.routes.specs.declared.Found.{Found}
 use Rattle.routes.specs.declared.Found.TheVariants.{Route, Nothing}
 use Rattle.routes.specs.Run.{Step, Run, stay, go, LegalRoute, RouteExists}
@@ -19,10 +19,10 @@ use Rattle.routes.specs.Search.{
   step_of,
   or_else,
   first_of,
-  searchBeyond,
-  routeOf,
-  goOn,
-  firstRoute,
+  search_beyond,
+  route_of,
+  go_on,
+  first_route,
   headings,
   NotAfter,
   same,
@@ -33,8 +33,8 @@ use Rattle.routes.specs.Search.{
   FirstRight,
   FoundRight,
 }
-use Rattle.position.proofs.Sides.{off_at, next-dir}
-use Rattle.routes.proofs.Steps.{step_is, is-step}
+use Rattle.position.proofs.Sides.{off_at, next_dir}
+use Rattle.routes.proofs.Steps.{step_is, is_step}
 
 module _ (b : Board) (f start : ℕ) where
   -- a run of `left` hexes that goes on from hex a after i steps
@@ -60,7 +60,7 @@ module _ (b : Board) (f start : ℕ) where
   -- what an answer says of the runs from hex a, with the hexes passed before it
   abbrev Answer : ℕ → ℕ → List ℕ → ℕ → Found → Type 0
   Answer i left past a (Route x y z) =
-      (w : Way i left a) × (routeOf (past ++ w.route) ≡ Route x y z) × ((u : Way i left a) → NotAfter (heads w) (heads u))
+      (w : Way i left a) × (route_of (past ++ w.route) ≡ Route x y z) × ((u : Way i left a) → NotAfter (heads w) (heads u))
   Answer i left past a Nothing = Way i left a → ⊥
 
   -- and of those that begin in direction d or a later one
@@ -68,15 +68,15 @@ module _ (b : Board) (f start : ℕ) where
   AnswerFrom i left past a d (Route x y z) =
       (t : Turn i left a)
       × (d ≤ t.dir)
-      × (routeOf (past ++ (t.hex ∷ t.way.route)) ≡ Route x y z)
+      × (route_of (past ++ (t.hex ∷ t.way.route)) ≡ Route x y z)
       × ((u : Turn i left a) → d ≤ u.dir → NotAfter (turns t) (turns u))
   AnswerFrom i left past a d Nothing = (u : Turn i left a) → d ≤ u.dir → ⊥
 
   abbrev search : ℕ → ℕ → List ℕ → ℕ → Found
-  search i left past x = goOn b f start (suc i) left (past ++ (x ∷ [])) x
+  search i left past x = go_on b f start (suc i) left (past ++ (x ∷ [])) x
 
   abbrev tries : ℕ → ℕ → List ℕ → ℕ → ℕ → Found
-  tries i left past a d = searchBeyond (search i left past) (step_of b f start i a d)
+  tries i left past a d = search_beyond (search i left past) (step_of b f start i a d)
 
   module _ (i left : ℕ) (past : List ℕ) (a d : ℕ) where
     -- a direction that has nothing can be passed
@@ -93,9 +93,9 @@ module _ (b : Board) (f start : ℕ) where
         at u l (no e) = r u (omega arith)
 
     -- a step in this direction leads to one hex
-    at-hex : {x : ℕ} → step_of b f start i a d ≡ At x → (u : Turn i left a) → u.dir ≡ d → u.hex ≡ x
-    at-hex e u q =
-        let h : step_of b f start i a d ≡ At u.hex = rw q at (is-step b f start i a u.dir u.hex u.step) in
+    at_hex : {x : ℕ} → step_of b f start i a d ≡ At x → (u : Turn i left a) → u.dir ≡ d → u.hex ≡ x
+    at_hex e u q =
+        let h : step_of b f start i a d ≡ At u.hex = rw q at (is_step b f start i a u.dir u.hex u.step) in
         cc
 
     -- the direction's own answer, and else that of the later ones
@@ -111,23 +111,23 @@ module _ (b : Board) (f start : ℕ) where
         at : (u : Turn i left a) → d ≤ u.dir → Dec (u.dir ≡ d) → NotAfter (d ∷ heads r.0) (turns u)
         at u l (yes h) =
             subst (λ (k : ℕ). NotAfter (d ∷ heads r.0) (k ∷ heads u.way)) (sym h)
-            (later (subst (λ (k : ℕ). (w : Way (suc i) left k) → NotAfter (heads r.0) (heads w)) (sym (at-hex e u h)) r.2 u.way))
+            (later (subst (λ (k : ℕ). (w : Way (suc i) left k) → NotAfter (heads r.0) (heads w)) (sym (at_hex e u h)) r.2 u.way))
         at u l (no h) = let m : d < u.dir = omega arith in sooner m
-    one x e Nothing r z q = pass (λ u h. r (subst (λ (k : ℕ). Way (suc i) left k) (at-hex e u h) u.way)) z q
+    one x e Nothing r z q = pass (λ u h. r (subst (λ (k : ℕ). Way (suc i) left k) (at_hex e u h) u.way)) z q
 
     turn : ((x : ℕ) → Answer (suc i) left (past ++ (x ∷ [])) x (search i left past x))
         → (t : Beside) → step_of b f start i a d ≡ t → (z : Found) → AnswerFrom i left past a (suc d) z
-        → AnswerFrom i left past a d (or_else (searchBeyond (search i left past) t) z)
+        → AnswerFrom i left past a d (or_else (search_beyond (search i left past) t) z)
     turn g (At x) e z q = one x e (search i left past x) (g x) z q
-    turn g Off e z q = pass (λ u h. off_at e (rw h at (is-step b f start i a u.dir u.hex u.step))) z q
+    turn g Off e z q = pass (λ u h. off_at e (rw h at (is_step b f start i a u.dir u.hex u.step))) z q
 
   module _ (i left : ℕ) (past : List ℕ) (a : ℕ) where
-    all-turns : ((x : ℕ) → Answer (suc i) left (past ++ (x ∷ [])) x (search i left past x)) → (k d : ℕ) → k + d ≡ 6
+    all_turns : ((x : ℕ) → Answer (suc i) left (past ++ (x ∷ [])) x (search i left past x)) → (k d : ℕ) → k + d ≡ 6
         → AnswerFrom i left past a d (first_of k d (tries i left past a))
     unfolding first_of
-    all-turns g zero d e = λ u l. omega (arith, next-dir b.map a u.dir u.hex u.step.leads)
-    all-turns g (suc k) d e =
-        turn i left past a d g (step_of b f start i a d) refl (first_of k (suc d) (tries i left past a)) (all-turns g k (suc d) (omega arith))
+    all_turns g zero d e = λ u l. omega (arith, next_dir b.map a u.dir u.hex u.step.leads)
+    all_turns g (suc k) d e =
+        turn i left past a d g (step_of b f start i a d) refl (first_of k (suc d) (tries i left past a)) (all_turns g k (suc d) (omega arith))
 
     apart : {last : ℕ} {route : List ℕ} (k : Run b f start i a route last) → length route ≡ suc left
         → (t : Turn i left a) × (headings k ≡ turns t)
@@ -146,27 +146,27 @@ module _ (b : Board) (f start : ℕ) where
         )
     whole Nothing r = λ u. r (apart u.run u.long).0 (omega arith)
 
-  none-heads : {i a last : ℕ} {route : List ℕ} (k : Run b f start i a route last) → length route ≡ 0 → NotAfter [] (headings k)
-  none-heads stay e = same
-  none-heads (go d s k) e = absurd (omega arith)
+  none_heads : {i a last : ℕ} {route : List ℕ} (k : Run b f start i a route last) → length route ≡ 0 → NotAfter [] (headings k)
+  none_heads stay e = same
+  none_heads (go d s k) e = absurd (omega arith)
 
-  append-none : (l : List ℕ) → l ++ [] ≡ l
-  append-none [] = refl
-  append-none (x ∷ l) = ap (λ (r : List ℕ). x ∷ r) (append-none l)
+  append_none : (l : List ℕ) → l ++ [] ≡ l
+  append_none [] = refl
+  append_none (x ∷ l) = ap (λ (r : List ℕ). x ∷ r) (append_none l)
 
-  answer : (i left : ℕ) (past : List ℕ) (a : ℕ) → Answer i left past a (goOn b f start i left past a)
-  unfolding goOn
+  answer : (i left : ℕ) (past : List ℕ) (a : ℕ) → Answer i left past a (go_on b f start i left past a)
+  unfolding go_on
   answer i zero past a =
-      (record { route = []; long = refl; last = a; run = stay }, ap routeOf (append-none past), λ u. none-heads u.run u.long)
+      (record { route = []; long = refl; last = a; run = stay }, ap route_of (append_none past), λ u. none_heads u.run u.long)
   answer i (suc left) past a =
-      whole i left past a (first_of 6 0 (tries i left past a)) (all-turns i left past a (λ x. answer (suc i) left (past ++ (x ∷ [])) x) 6 0 refl)
+      whole i left past a (first_of 6 0 (tries i left past a)) (all_turns i left past a (λ x. answer (suc i) left (past ++ (x ∷ [])) x) 6 0 refl)
 
   way_of : (n : ℕ) (route : List ℕ) → LegalRoute b f start n route → Way 0 n start
   way_of n route l = record { route = route; long = l.long; last = l.last; run = l.run }
 
-pub first-right : FirstRight
-unfolding firstRoute way_of
-first-right b f start n = say (firstRoute b f start n) (answer b f start 0 n [] start)
+pub first_right : FirstRight
+unfolding first_route way_of
+first_right b f start n = say (first_route b f start n) (answer b f start 0 n [] start)
   where
     say : (y : Found) → Answer b f start 0 n [] start y → Searched b f start n y
     say (Route x y z) r = (
@@ -180,8 +180,8 @@ first-right b f start n = say (firstRoute b f start n) (answer b f start 0 n [] 
     say Nothing r = λ k. r (way_of b f start n k.0 k.1)
 
 pub found_right : FoundRight
-found_right b f start n = say (firstRoute b f start n) (first-right b f start n)
+found_right b f start n = say (first_route b f start n) (first_right b f start n)
   where
     say : (y : Found) → Searched b f start n y → (found y ≡ true) ↔ RouteExists b f start n
     say (Route x y z) r = (λ e. (r.0, r.1.legal), λ k. refl)
-    say Nothing r = (λ e. not-both false e refl, λ k. absurd (r k))
+    say Nothing r = (λ e. not_both false e refl, λ k. absurd (r k))

@@ -10,14 +10,14 @@ use native.Mathlib.Decide.{dec_le, dec_lt}
 use lib.ListN.{length}
 use borrow.Author.Tests.{not-true}
 use Rattle.position.specs.Board.{Board}
-use Rattle.position.proofs.Tallies.{both_yes, either, not-both}
+use Rattle.position.proofs.Tallies.{both_yes, either, not_both}
 use Rattle.routes.specs.Run.{Run, stay, go, LegalRoute, RouteExists}
 use Rattle.routes.specs.Legal.{legal}
-use Rattle.routes.specs.Search.{firstRoute, found}
-use Rattle.routes.specs.Part.{Longest, isRun, noLonger, partRoute, farthest, PartRight, FarthestRight}
+use Rattle.routes.specs.Search.{first_route, found}
+use Rattle.routes.specs.Part.{Longest, is_run, no_longer, part_route, farthest, PartRight, FarthestRight}
 use Rattle.routes.specs.Outlook.{RouteTested}
 use Rattle.routes.proofs.First.{Way, found_right}
-use Rattle.routes.proofs.Legal.{legal-right, right-length}
+use Rattle.routes.proofs.Legal.{legal_right, right_length}
 
 module _ (b : Board) (f start : ℕ) where
   -- the first k hexes of a run
@@ -28,51 +28,51 @@ module _ (b : Board) (f start : ℕ) where
       let c = cut k r (omega arith) in
       record { route = x ∷ c.route; long = ap suc c.long; last = c.last; run = go d s c.run }
 
-  cut-route : (j k : ℕ) → k ≤ j → RouteExists b f start j → RouteExists b f start k
-  cut-route j k l r =
+  cut_route : (j k : ℕ) → k ≤ j → RouteExists b f start j → RouteExists b f start k
+  cut_route j k l r =
       let c = cut k r.1.run (omega (arith, r.1.long)) in
       (c.route, record { long = c.long; last = c.last; run = c.run })
 
   -- where no run of k steps is found, every run is shorter
-  pub none-shorter : (j k : ℕ) → found (firstRoute b f start k) ≡ false → RouteExists b f start j → j < k
-  none-shorter j k e r = at (dec_le k j)
+  pub none_shorter : (j k : ℕ) → found (first_route b f start k) ≡ false → RouteExists b f start j → j < k
+  none_shorter j k e r = at (dec_le k j)
     where
       at : Dec (k ≤ j) → j < k
-      at (yes l) = not-both (found (firstRoute b f start k)) ((found_right b f start k).1 (cut-route j k l r)) e
+      at (yes l) = not_both (found (first_route b f start k)) ((found_right b f start k).1 (cut_route j k l r)) e
       at (no n) = omega arith
 
 -- the test of a run is true exactly of the runs
-pub run-right : (b : Board) (f start : ℕ) (route : List ℕ) → (isRun b f start route ≡ true) ↔ LegalRoute b f start (length route) route
-unfolding isRun
-run-right b f start route =
-    let r = legal-right b f start (length route) route in
-    let e = right-length b f start (length route) route refl in
+pub run_right : (b : Board) (f start : ℕ) (route : List ℕ) → (is_run b f start route ≡ true) ↔ LegalRoute b f start (length route) route
+unfolding is_run
+run_right b f start route =
+    let r = legal_right b f start (length route) route in
+    let e = right_length b f start (length route) route refl in
     (λ t. r.0 (e ∙ t), λ l. sym e ∙ r.1 l)
 
 -- of a part route, by its parts
 module _ (b : Board) (f start : ℕ) (route : List ℕ) where
-  pub part-no-run : isRun b f start route ≡ false → partRoute b f start route ≡ false
-  unfolding partRoute
-  part-no-run t = simp t
+  pub part_no_run : is_run b f start route ≡ false → part_route b f start route ≡ false
+  unfolding part_route
+  part_no_run t = simp t
 
-  pub part-run : isRun b f start route ≡ true → partRoute b f start route ≡ noLonger b f start (length route)
-  unfolding partRoute
-  part-run t = simp t
+  pub part_run : is_run b f start route ≡ true → part_route b f start route ≡ no_longer b f start (length route)
+  unfolding part_route
+  part_run t = simp t
 
 pub part_right : PartRight
-unfolding partRoute noLonger
+unfolding part_route no_longer
 part_right b f start route =
     let k = length route in
-    let t = found (firstRoute b f start (k + 1)) in
-    let r = run-right b f start route in (
+    let t = found (first_route b f start (k + 1)) in
+    let r = run_right b f start route in (
       λ e.
-          let s = both_yes (isRun b f start route) (not t) e in
+          let s = both_yes (is_run b f start route) (not t) e in
           record {
             steps = k;
             longest =
                 record {
                   some = (route, r.0 s.0);
-                  most = λ j x. let l = none-shorter b f start j (k + 1) (not-true t s.1) x in omega arith;
+                  most = λ j x. let l = none_shorter b f start j (k + 1) (not-true t s.1) x in omega arith;
                 };
             run = r.0 s.0;
           },
@@ -86,42 +86,42 @@ part_right b f start route =
 
 -- whether a run has more than k steps, where it is known, and by what is found of one step more
 module _ (b : Board) (f start k : ℕ) where
-  pub longer-known : (n : ℕ) → n ≤ k + 1 → found (firstRoute b f start n) ≡ false → noLonger b f start k ≡ true
-  unfolding noLonger
-  longer-known n l e =
-      either (found (firstRoute b f start (k + 1)))
-      (λ y. absurd (omega (arith, none-shorter b f start (k + 1) n e ((found_right b f start (k + 1)).0 y))))
+  pub longer_known : (n : ℕ) → n ≤ k + 1 → found (first_route b f start n) ≡ false → no_longer b f start k ≡ true
+  unfolding no_longer
+  longer_known n l e =
+      either (found (first_route b f start (k + 1)))
+      (λ y. absurd (omega (arith, none_shorter b f start (k + 1) n e ((found_right b f start (k + 1)).0 y))))
       (λ y. ap not y)
 
-  pub longer-found : {t : Bool} → found (firstRoute b f start (k + 1)) ≡ t → noLonger b f start k ≡ not t
-  unfolding noLonger
-  longer-found e = ap not e
+  pub longer_found : {t : Bool} → found (first_route b f start (k + 1)) ≡ t → no_longer b f start k ≡ not t
+  unfolding no_longer
+  longer_found e = ap not e
 
 -- where no legal route exists, the test of the steps that a route is tested for is that of a run
-module _ (b : Board) (f start n : ℕ) (route : List ℕ) (e : found (firstRoute b f start n) ≡ false) where
-  no-legal : legal b f start n route ≡ false
-  no-legal =
+module _ (b : Board) (f start n : ℕ) (route : List ℕ) (e : found (first_route b f start n) ≡ false) where
+  no_legal : legal b f start n route ≡ false
+  no_legal =
       either (legal b f start n route)
-      (λ y. absurd (omega (arith, none-shorter b f start n n e (route, (legal-right b f start n route).0 y))))
+      (λ y. absurd (omega (arith, none_shorter b f start n n e (route, (legal_right b f start n route).0 y))))
       (λ y. y)
 
-  no_run : n ≤ length route → isRun b f start route ≡ false
+  no_run : n ≤ length route → is_run b f start route ≡ false
   no_run l =
-      either (isRun b f start route)
-      (λ y. absurd (omega (arith, none-shorter b f start (length route) n e (route, (run-right b f start route).0 y))))
+      either (is_run b f start route)
+      (λ y. absurd (omega (arith, none_shorter b f start (length route) n e (route, (run_right b f start route).0 y))))
       (λ y. y)
 
-  pub tested-run : {t : Bool} {k : ℕ} → RouteTested t n (length route) k → t ≡ false → legal b f start k route ≡ isRun b f start route
-  unfolding isRun
-  tested-run {t} {k} s out = at (dec_lt (length route) n)
+  pub tested_run : {t : Bool} {k : ℕ} → RouteTested t n (length route) k → t ≡ false → legal b f start k route ≡ is_run b f start route
+  unfolding is_run
+  tested_run {t} {k} s out = at (dec_lt (length route) n)
     where
-      at : Dec (length route < n) → legal b f start k route ≡ isRun b f start route
-      at (yes l) = right-length b f start k route (sym (s.own out l))
+      at : Dec (length route < n) → legal b f start k route ≡ is_run b f start route
+      at (yes l) = right_length b f start k route (sym (s.own out l))
       at (no l) =
-          ap (λ (j : ℕ). legal b f start j route) (s.most out (omega arith)) ∙ no-legal ∙ sym (no_run (omega arith))
+          ap (λ (j : ℕ). legal b f start j route) (s.most out (omega arith)) ∙ no_legal ∙ sym (no_run (omega arith))
 
-pub tested-most : {t : Bool} {n k r : ℕ} → RouteTested t n k r → r ≤ n
-tested-most {t} {n} {k} {r} s = either t (λ e. omega (arith, s.owed e)) (λ e. at e (dec_lt k n))
+pub tested_most : {t : Bool} {n k r : ℕ} → RouteTested t n k r → r ≤ n
+tested_most {t} {n} {k} {r} s = either t (λ e. omega (arith, s.owed e)) (λ e. at e (dec_lt k n))
   where
     at : t ≡ false → Dec (k < n) → r ≤ n
     at e (yes l) = omega (arith, s.own e l)
@@ -129,27 +129,27 @@ tested-most {t} {n} {k} {r} s = either t (λ e. omega (arith, s.owed e)) (λ e. 
 
 -- how far a group gets, by what is found
 module _ (b : Board) (f start : ℕ) where
-  pub farthest-here : (n : ℕ) → found (firstRoute b f start n) ≡ true → farthest b f start n ≡ n
+  pub farthest_here : (n : ℕ) → found (first_route b f start n) ≡ true → farthest b f start n ≡ n
   unfolding farthest
-  farthest-here zero e = refl
-  farthest-here (suc n) e = simp e
+  farthest_here zero e = refl
+  farthest_here (suc n) e = simp e
 
-  farthest-less : (n : ℕ) → found (firstRoute b f start (suc n)) ≡ false → farthest b f start (suc n) ≡ farthest b f start n
+  farthest_less : (n : ℕ) → found (first_route b f start (suc n)) ≡ false → farthest b f start (suc n) ≡ farthest b f start n
   unfolding farthest
-  farthest-less n e = simp e
+  farthest_less n e = simp e
 
-pub farthest-right : FarthestRight
-farthest-right b f start zero e =
-    absurd (omega (arith, none-shorter b f start 0 0 e ([], record { long = refl; last = start; run = stay })))
-farthest-right b f start (suc n) e =
-    let q = farthest-less b f start n e in
-    either (found (firstRoute b f start n))
+pub farthest_right : FarthestRight
+farthest_right b f start zero e =
+    absurd (omega (arith, none_shorter b f start 0 0 e ([], record { long = refl; last = start; run = stay })))
+farthest_right b f start (suc n) e =
+    let q = farthest_less b f start n e in
+    either (found (first_route b f start n))
     (λ t.
-    subst (λ (k : ℕ). Longest b f start k × (k < suc n)) (sym (q ∙ farthest-here b f start n t)) (
+    subst (λ (k : ℕ). Longest b f start k × (k < suc n)) (sym (q ∙ farthest_here b f start n t)) (
       record {
         some = (found_right b f start n).0 t;
-        most = λ j x. let l = none-shorter b f start j (suc n) e x in omega arith;
+        most = λ j x. let l = none_shorter b f start j (suc n) e x in omega arith;
       },
       omega arith,
     ))
-    (λ t. let r = farthest-right b f start n t in (rw q r.0, omega (arith, r.1)))
+    (λ t. let r = farthest_right b f start n t in (rw q r.0, omega (arith, r.1)))

@@ -2,8 +2,8 @@
 -- Assumes nothing.
 use mathlib.Core.Path.{refl}
 use Rattle.grid.specs.Rulings.{Answered}
-use Rattle.routes.specs.Rulings.{routesOpen, routesRows}
+use Rattle.routes.specs.Rulings.{routes_open, routes_rows}
 
-pub routes-rulings : Answered routesRows
-unfolding routesOpen
-routes-rulings = (refl, (refl, tt))
+pub routes_rulings : Answered routes_rows
+unfolding routes_open
+routes_rulings = (refl, (refl, tt))

@@ -14,44 +14,44 @@ use Rattle.position.specs.Layout.{width}
 use Rattle.position.specs.Laid.{Laid}
 use Rattle.position.specs.Board.{Board, Map, ground}
 use Rattle.position.specs.Ground.{joined, next}
-use Rattle.position.proofs.Tallies.{any_some, any-true, both_yes}
-use Rattle.position.proofs.Sides.{joined_is, next-dir, next-in, off_at, reaches, is-at, at-is}
+use Rattle.position.proofs.Tallies.{any_some, any_true, both_yes}
+use Rattle.position.proofs.Sides.{joined_is, next_dir, next_in_lem, off_at, reaches, is-at, at_is}
 use Rattle.routes.specs.Bears.{refuge}
 use Rattle.routes.specs.Run.{Step}
-use Rattle.routes.specs.Legal.{enters, stepsTo}
+use Rattle.routes.specs.Legal.{enters, steps_to}
 use Rattle.routes.specs.Search.{entered, step_of}
 
 -- the distance by the view's width
-pub far-view : {p : List ℕ} {v : View} → Laid p v → (start x : ℕ) → distance_of v.width start x ≡ distance_of (width p) start x
-far-view l start x = ap (λ (w : ℕ). distance_of w start x) l.view.width
+pub far_view : {p : List ℕ} {v : View} → Laid p v → (start x : ℕ) → distance_of v.width start x ≡ distance_of (width p) start x
+far_view l start x = ap (λ (w : ℕ). distance_of w start x) l.view.width
 
 -- hexes are joined exactly if some step leads from one to the other
 module _ (m : Map) (a x : ℕ) where
-  pub joined-next : joined m a x ≡ true → (d : ℕ) × (next m a d ≡ At x)
+  pub joined_next : joined m a x ≡ true → (d : ℕ) × (next m a d ≡ At x)
   unfolding reaches
-  joined-next e =
+  joined_next e =
       let s = any_some (reaches m a x) 6 (sym (joined_is m a x) ∙ e) in
       (s.at, is-at (next m a s.at) x s.passes)
 
-  pub next-joined : (d : ℕ) → next m a d ≡ At x → joined m a x ≡ true
+  pub next_joined : (d : ℕ) → next m a d ≡ At x → joined m a x ≡ true
   unfolding reaches
-  next-joined d e = joined_is m a x ∙ any-true (reaches m a x) 6 d (next-dir m a d x e) (at-is e)
+  next_joined d e = joined_is m a x ∙ any_true (reaches m a x) 6 d (next_dir m a d x e) (at_is e)
 
 pub joined_in : {p : List ℕ} {v : View} → Laid p v → (a x : ℕ) → joined (ground p) a x ≡ true → x < v.hexes
-joined_in {p} l a x e = let s = joined-next (ground p) a x e in next-in l.view a s.0 x s.1
+joined_in {p} l a x e = let s = joined_next (ground p) a x e in next_in_lem l.view a s.0 x s.1
 
 -- the test of the hex entered
 module _ (b : Board) (f start i x : ℕ) where
-  pub enters-not : eqb (distance_of b.map.width start x) (i + 1) ≡ false → enters b f start i x ≡ false
+  pub enters_not : eqb (distance_of b.map.width start x) (i + 1) ≡ false → enters b f start i x ≡ false
   unfolding enters
-  enters-not e = simp e
+  enters_not e = simp e
 
-  pub enters-there : eqb (distance_of b.map.width start x) (i + 1) ≡ true → enters b f start i x ≡ refuge b f x
+  pub enters_there : eqb (distance_of b.map.width start x) (i + 1) ≡ true → enters b f start i x ≡ refuge b f x
   unfolding enters
-  enters-there e = simp e
+  enters_there e = simp e
 
-  enters-away : distance_of b.map.width start x ≡ i + 1 → enters b f start i x ≡ refuge b f x
-  enters-away e = enters-there (eq-eqb (distance_of b.map.width start x) (i + 1) e)
+  enters_away : distance_of b.map.width start x ≡ i + 1 → enters b f start i x ≡ refuge b f x
+  enters_away e = enters_there (eq-eqb (distance_of b.map.width start x) (i + 1) e)
 
   enters_is : enters b f start i x ≡ true → (distance_of b.map.width start x ≡ i + 1) × (refuge b f x ≡ true)
   unfolding enters
@@ -61,33 +61,33 @@ module _ (b : Board) (f start i x : ℕ) where
 
 module _ (b : Board) (f start i a : ℕ) where
   -- a step by its test
-  pub steps-step : (x : ℕ) → stepsTo b f start i a x ≡ true → (d : ℕ) × Step b f start i a d x
-  unfolding stepsTo
-  steps-step x e =
+  pub steps_step : (x : ℕ) → steps_to b f start i a x ≡ true → (d : ℕ) × Step b f start i a d x
+  unfolding steps_to
+  steps_step x e =
       let s = both_yes (joined b.map a x) (enters b f start i x) e in
-      let j = joined-next b.map a x s.0 in
+      let j = joined_next b.map a x s.0 in
       let k = enters_is b f start i x s.1 in
       (j.0, record { leads = j.1; into = k.1; away = k.0 })
 
-  pub step-steps : {d x : ℕ} → Step b f start i a d x → stepsTo b f start i a x ≡ true
-  unfolding stepsTo
-  step-steps {d} {x} s =
-      simp (next-joined b.map a x d s.leads, enters-away b f start i x s.away, s.into)
+  pub step_steps : {d x : ℕ} → Step b f start i a d x → steps_to b f start i a x ≡ true
+  unfolding steps_to
+  step_steps {d} {x} s =
+      simp (next_joined b.map a x d s.leads, enters_away b f start i x s.away, s.into)
 
   -- and by its direction: no step, one into a hex that may be entered, and one that may not
   module _ (d : ℕ) {s : Beside} (q : s ≡ next b.map a d) where
-    pub step-off : s ≡ Off → Off ≡ step_of b f start i a d
+    pub step_off : s ≡ Off → Off ≡ step_of b f start i a d
     unfolding step_of entered
-    step-off e = simp (sym q ∙ e)
+    step_off e = simp (sym q ∙ e)
 
     module _ {x : ℕ} {t : Bool} (e : s ≡ At x) (r : t ≡ enters b f start i x) where
-      pub step-lands : t ≡ true → At x ≡ step_of b f start i a d
+      pub step_lands : t ≡ true → At x ≡ step_of b f start i a d
       unfolding step_of entered
-      step-lands g = simp (sym q ∙ e, sym r ∙ g)
+      step_lands g = simp (sym q ∙ e, sym r ∙ g)
 
-      pub step-barred : t ≡ false → Off ≡ step_of b f start i a d
+      pub step_barred : t ≡ false → Off ≡ step_of b f start i a d
       unfolding step_of entered
-      step-barred g = simp (sym q ∙ e, sym r ∙ g)
+      step_barred g = simp (sym q ∙ e, sym r ∙ g)
 
   module _ (d x : ℕ) where
     lands : (y : ℕ) (t : Bool) → next b.map a d ≡ At y → enters b f start i y ≡ t → cond t (At y) Off ≡ At x
@@ -107,6 +107,6 @@ module _ (b : Board) (f start i a : ℕ) where
     unfolding step_of
     step_is q = leads (next b.map a d) refl q
 
-    pub is-step : Step b f start i a d x → step_of b f start i a d ≡ At x
+    pub is_step : Step b f start i a d x → step_of b f start i a d ≡ At x
     unfolding step_of entered
-    is-step s = simp (s.leads, enters-away b f start i x s.away, s.into)
+    is_step s = simp (s.leads, enters_away b f start i x s.away, s.into)

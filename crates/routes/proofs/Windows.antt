@@ -17,28 +17,28 @@ use Rattle.position.specs.Ground.{standable}
 use Rattle.field.specs.Scene.{scene}
 use Rattle.paint.specs.Paint.{Marked, Shows}
 use Rattle.paint.proofs.Bytes.{round_room}
-use Rattle.paint.proofs.Units.{marked-zone, marked-held}
+use Rattle.paint.proofs.Units.{marked_zone, marked_held}
 use Rattle.routes.specs.Bears.{bears, refuge}
 use Rattle.routes.specs.Window.{free, farthest, Window}
 
 -- a hex that is held is not free; another is by its zone
-pub free-held : (m : ℕ) → has 16 m ≡ true → free m ≡ false
+pub free_held : (m : ℕ) → has 16 m ≡ true → free m ≡ false
 unfolding free
-free-held m e = simp e
+free_held m e = simp e
 
-pub free-vacant : (m : ℕ) → has 16 m ≡ false → free m ≡ not (has 1 m)
+pub free_vacant : (m : ℕ) → has 16 m ≡ false → free m ≡ not (has 1 m)
 unfolding free
-free-vacant m e = simp e
+free_vacant m e = simp e
 
 -- a refuge is where a unit may stand, and free
 module _ (b : Board) (f h : ℕ) where
-  pub refuge-barred : standable b h ≡ false → refuge b f h ≡ false
+  pub refuge_barred : standable b h ≡ false → refuge b f h ≡ false
   unfolding refuge bears
-  refuge-barred e = simp (e, and-false)
+  refuge_barred e = simp (e, and-false)
 
-  pub refuge-free : {m : ℕ} → Marked (scene b) f h m → standable b h ≡ true → free m ≡ refuge b f h
+  pub refuge_free : {m : ℕ} → Marked (scene b) f h m → standable b h ≡ true → free m ≡ refuge b f h
   unfolding refuge bears free
-  refuge-free k e = simp (e, marked-held k, marked-zone k, not-not)
+  refuge_free k e = simp (e, marked_held k, marked_zone k, not-not)
 
 -- painted round the start's spot it is the window
 pub window-is :

@@ -7,11 +7,11 @@ use native.Mathlib.Omega.{arith}
 use lib.ListN.{length}
 use Rattle.grid.specs.Map.{On}
 use Rattle.grid.specs.Walk.{Walk, here, step, Distance, distance_of}
-use Rattle.grid.proofs.Laws.{then, closed, measured, same-zero, first_part}
+use Rattle.grid.proofs.Laws.{then, closed, measured, same_zero, first_part}
 use Rattle.position.specs.Board.{Board}
 use Rattle.routes.specs.Run.{Run, stay, go}
 use Rattle.routes.specs.Words.{Steps, stop, enter, RunsAsWorded}
-use Rattle.position.proofs.Sides.{next-over, next-on}
+use Rattle.position.proofs.Sides.{next_over, next_on}
 
 module _ (b : Board) (f : ℕ) where
   abbrev Onto : ℕ → Type 0
@@ -25,11 +25,11 @@ module _ (b : Board) (f : ℕ) where
 
   ends_on : {a last : ℕ} {route : List ℕ} → Onto a → Steps b f a route last → Onto last
   ends_on o stop = o
-  ends_on o (enter {a} {x} d e r k) = ends_on (next-on b.map a d x e) k
+  ends_on o (enter {a} {x} d e r k) = ends_on (next_on b.map a d x e) k
 
   walked : {a last : ℕ} {route : List ℕ} → Onto a → Steps b f a route last → Walked a last (length route)
   walked o stop = here o
-  walked o (enter {a} {x} d e r k) = step d (next-over b.map a d x e) (walked (next-on b.map a d x e) k)
+  walked o (enter {a} {x} d e r k) = step d (next_over b.map a d x e) (walked (next_on b.map a d x e) k)
 
   module _ (start : ℕ) where
     steps_of : {i a last : ℕ} {route : List ℕ} → Run b f start i a route last → Steps b f a route last
@@ -47,18 +47,18 @@ module _ (b : Board) (f : ℕ) where
         → Run b f start i a route last
     runs w stop p = stay
     runs {i} w (enter {a} {x} {last} {route} d e r k) p =
-        let n = next-on b.map a d x e in
-        let w1 : Walked start x (i + 1) = then w (step d (next-over b.map a d x e) (here n)) in
+        let n = next_on b.map a d x e in
+        let w1 : Walked start x (i + 1) = then w (step d (next_over b.map a d x e) (here n)) in
         let q : Far start last (i + 1 + length route) = subst (λ (m : ℕ). Far start last m) (omega arith) p in
         let s : Far start x (i + 1) = first_part w1 (walked n k) q in
         go d (record { leads = e; into = r; away = closed s })
         (runs (subst (λ (m : ℕ). Walked start x m) (omega arith) w1) k (subst (λ (m : ℕ). Far start last m) (omega arith) q))
 
-pub runs-as-worded : RunsAsWorded
-runs-as-worded b f start n route o = (
+pub runs_as_worded : RunsAsWorded
+runs_as_worded b f start n route o = (
   λ l.
       let k = steps_of b f start l.run in
-      let e : distance_of b.map.width start l.last ≡ n = omega (arith, away b f start (same-zero b.map.width start) l.run, l.long) in
+      let e : distance_of b.map.width start l.last ≡ n = omega (arith, away b f start (same_zero b.map.width start) l.run, l.long) in
       record { long = l.long; last = l.last; steps = k; ending = measured o (ends_on b f o k) e },
   λ r.
       record {

@@ -12,17 +12,17 @@ unfoldable pub enters : Board → ℕ → ℕ → ℕ → ℕ → Bool
 enters b f start i x = eqb (distance_of b.map.width start x) (i + 1) && refuge b f x
 
 -- and it gets there from hex a
-unfoldable pub stepsTo : Board → ℕ → ℕ → ℕ → ℕ → ℕ → Bool
-stepsTo b f start i a x = joined b.map a x && enters b f start i x
+unfoldable pub steps_to : Board → ℕ → ℕ → ℕ → ℕ → ℕ → Bool
+steps_to b f start i a x = joined b.map a x && enters b f start i x
 
 -- the rest of a route is a run that goes on from hex a after i steps
-unfoldable pub runAlong : Board → ℕ → ℕ → ℕ → ℕ → List ℕ → Bool
-runAlong b f start i a [] = true
-runAlong b f start i a (x ∷ route) = stepsTo b f start i a x && runAlong b f start (suc i) x route
+unfoldable pub run_along : Board → ℕ → ℕ → ℕ → ℕ → List ℕ → Bool
+run_along b f start i a [] = true
+run_along b f start i a (x ∷ route) = steps_to b f start i a x && run_along b f start (suc i) x route
 
 -- a route is legal: this is asked where "route not legal though one exists" is refused
 unfoldable pub legal : Board → ℕ → ℕ → ℕ → List ℕ → Bool
-legal b f start n route = eqb (length route) n && runAlong b f start 0 start route
+legal b f start n route = eqb (length route) n && run_along b f start 0 start route
 
 -- The test is true exactly of the legal routes. Proved in proofs/Legal.antt.
 abbrev pub LegalRight : Type 0

@@ -30,24 +30,24 @@ first_of zero d tries = Nothing
 first_of (suc k) d tries = or_else (tries d) (first_of k (suc d) tries)
 
 -- what is found from the hex that a step leads to
-abbrev pub searchBeyond : (ℕ → Found) → Beside → Found
-searchBeyond search (At x) = search x
-searchBeyond search Off = Nothing
+abbrev pub search_beyond : (ℕ → Found) → Beside → Found
+search_beyond search (At x) = search x
+search_beyond search Off = Nothing
 
 -- a route in the three places of an answer, 65535 where it has no more hexes
-abbrev pub routeOf : List ℕ → Found
-routeOf route = Route (get_or route 0 nowhere) (get_or route 1 nowhere) (get_or route 2 nowhere)
+abbrev pub route_of : List ℕ → Found
+route_of route = Route (get_or route 0 nowhere) (get_or route 1 nowhere) (get_or route 2 nowhere)
 
 -- the first run of `left` more hexes that goes on from hex a after i steps, behind the hexes that it has passed. It goes on only from
 -- hexes that a run may enter, and looks at all six neighbours of each
-unfoldable pub goOn : Board → ℕ → ℕ → ℕ → ℕ → List ℕ → ℕ → Found
-goOn b f start i zero past a = routeOf past
-goOn b f start i (suc left) past a =
-    first_of 6 0 (λ d. searchBeyond (λ x. goOn b f start (suc i) left (past ++ (x ∷ [])) x) (step_of b f start i a d))
+unfoldable pub go_on : Board → ℕ → ℕ → ℕ → ℕ → List ℕ → ℕ → Found
+go_on b f start i zero past a = route_of past
+go_on b f start i (suc left) past a =
+    first_of 6 0 (λ d. search_beyond (λ x. go_on b f start (suc i) left (past ++ (x ∷ [])) x) (step_of b f start i a d))
 
 -- "The search tries directions in clockwise order and stops at the first legal route found."
-unfoldable pub firstRoute : Board → ℕ → ℕ → ℕ → Found
-firstRoute b f start n = goOn b f start 0 n [] start
+unfoldable pub first_route : Board → ℕ → ℕ → ℕ → Found
+first_route b f start n = go_on b f start 0 n [] start
 
 -- a run's directions, and "clockwise order": the first direction in which two runs differ decides
 abbrev pub headings : {b : Board} {f start i a last : ℕ} {route : List ℕ} → Run b f start i a route last → List ℕ
@@ -66,7 +66,7 @@ pub record FirstRoute (b : Board) (f start n : ℕ) (route : List ℕ) : Type 0 
 
 -- what an answer says: this is the first legal route, or there is none
 abbrev pub Searched : Board → ℕ → ℕ → ℕ → Found → Type 0
-Searched b f start n (Route x y z) = (route : List ℕ) × FirstRoute b f start n route × (routeOf route ≡ Route x y z)
+Searched b f start n (Route x y z) = (route : List ℕ) × FirstRoute b f start n route × (route_of route ≡ Route x y z)
 Searched b f start n Nothing = RouteExists b f start n → ⊥
 
 abbrev pub found : Found → Bool
@@ -75,7 +75,7 @@ found Nothing = false
 
 -- The search finds the first legal route, and one exactly if one exists. Proved in proofs/First.antt.
 abbrev pub FirstRight : Type 0
-FirstRight = (b : Board) (f start n : ℕ) → Searched b f start n (firstRoute b f start n)
+FirstRight = (b : Board) (f start n : ℕ) → Searched b f start n (first_route b f start n)
 
 abbrev pub FoundRight : Type 0
-FoundRight = (b : Board) (f start n : ℕ) → (found (firstRoute b f start n) ≡ true) ↔ RouteExists b f start n
+FoundRight = (b : Board) (f start n : ℕ) → (found (first_route b f start n) ≡ true) ↔ RouteExists b f start n

@@ -9,11 +9,11 @@ use Rattle.position.specs.Bits.{has}
 use Rattle.position.specs.Board.{board}
 use Rattle.field.specs.Scene.{scene}
 use Rattle.paint.specs.Room.{Room}
-use Rattle.paint.specs.Paint.{zoneMark, heldMark, Shows}
+use Rattle.paint.specs.Paint.{zone_mark, held_mark, Shows}
 
 -- a hex with the marks m is vacant and outside Enemy zones
 unfoldable pub free : ℕ → Bool
-free m = not (has heldMark m) && not (has zoneMark m)
+free m = not (has held_mark m) && not (has zone_mark m)
 
 -- no route has more hexes, and so no hex of one lies further from its start
 abbrev pub farthest : ℕ

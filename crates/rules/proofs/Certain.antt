@@ -2,55 +2,55 @@
 -- Assumes nothing.
 use mathlib.Core.Path.{refl}
 use Rattle.grid.proofs.Walks.{distance_is}
-use Rattle.shoves.proofs.Played.{legal-played-right}
-use Rattle.retreat.proofs.Road.{road-right}
-use Rattle.retreat.proofs.Words.{group-right, destroyed-right, trapped-right, retreated-right, pushed-right}
-use Rattle.retreat.proofs.UnitsLost.{lost-right}
-use Rattle.retreat.proofs.UnitsGone.{gone-right}
+use Rattle.shoves.proofs.Played.{legal_played_right}
+use Rattle.retreat.proofs.Road.{road_right}
+use Rattle.retreat.proofs.Words.{group_right, destroyed_right, trapped_right, retreated_right, pushed_right}
+use Rattle.retreat.proofs.UnitsLost.{lost_right}
+use Rattle.retreat.proofs.UnitsGone.{gone_right}
 use Rattle.rules.specs.Order.{step}
 use Rattle.rules.specs.Referee.{Meets}
 use Rattle.rules.specs.Certain.{DemandOne, DemandTwo, DemandThree, Certain}
-use Rattle.rules.proofs.Demands.{total, one-result, numbers-right, refusals-leave-all, supply-right, stays-accepted, old-desks-right, secrecy}
-use Rattle.rules.proofs.Greying.{greying-out}
-use Rattle.rules.proofs.Supplied.{in-supply-right}
-use Rattle.rules.proofs.Turned.{secrecy-by-marks, exhibited}
+use Rattle.rules.proofs.Demands.{total, one_result, numbers_right, refusals_leave_all, supply_right, stays_accepted, old_desks_right, secrecy}
+use Rattle.rules.proofs.Greying.{greying_out}
+use Rattle.rules.proofs.Supplied.{in_supply_right}
+use Rattle.rules.proofs.Turned.{secrecy_by_marks, exhibited}
 use Rattle.rules.proofs.Referees.{agree}
-use Rattle.rules.proofs.Rulings.{small-rulings}
-use Rattle.rules.proofs.Useless.{four-useless}
+use Rattle.rules.proofs.Rulings.{small_rulings}
+use Rattle.rules.proofs.Useless.{four_useless}
 use Rattle.rules.proofs.Onward.{never_stuck}
 
-rules-meet : Meets step
-rules-meet p c = record { answers = refl; leaves = refl; lends = refl }
+rules_meet : Meets step
+rules_meet p c = record { answers = refl; leaves = refl; lends = refl }
 
-demand-one : DemandOne
-demand-one = record { total = total; one = one-result; numbers = numbers-right; leaves = refusals-leave-all }
+demand_one : DemandOne
+demand_one = record { total = total; one = one_result; numbers = numbers_right; leaves = refusals_leave_all }
 
-demand-two : DemandTwo
-demand-two =
+demand_two : DemandTwo
+demand_two =
     record {
-      right = rules-meet;
+      right = rules_meet;
       agree = agree;
-      supply = supply-right;
-      inSupply = in-supply-right;
+      supply = supply_right;
+      in_supply = in_supply_right;
       distance = distance_is;
-      group = group-right;
-      destroyed = destroyed-right;
-      trapped = trapped-right;
-      road = road-right;
-      retreated = retreated-right;
-      pushed = pushed-right;
-      lost = lost-right;
-      gone = gone-right;
-      played = legal-played-right;
-      keeps = stays-accepted;
-      old = old-desks-right;
-      small = small-rulings;
-      useless = four-useless;
-      greying = greying-out;
+      group = group_right;
+      destroyed = destroyed_right;
+      trapped = trapped_right;
+      road = road_right;
+      retreated = retreated_right;
+      pushed = pushed_right;
+      lost = lost_right;
+      gone = gone_right;
+      played = legal_played_right;
+      keeps = stays_accepted;
+      old = old_desks_right;
+      small = small_rulings;
+      useless = four_useless;
+      greying = greying_out;
     }
 
-demand-three : DemandThree
-demand-three = record { seen = secrecy-by-marks; turned = secrecy; exhibited = exhibited }
+demand_three : DemandThree
+demand_three = record { seen = secrecy_by_marks; turned = secrecy; exhibited = exhibited }
 
 pub certain : Certain
-certain = record { one = demand-one; two = demand-two; three = demand-three; onward = never_stuck }
+certain = record { one = demand_one; two = demand_two; three = demand_three; onward = never_stuck }

@@ -18,85 +18,85 @@ use Rattle.ruling.specs.Verdict.{Ruling}
 use Rattle.ruling.specs.Verdict.Ruling.{accepted}
 use Rattle.clock.specs.Clock.{is_last}
 use Rattle.rules.specs.Order.{Order, step}
-use Rattle.rules.specs.Order.Order.{close, endPhase, losses}
+use Rattle.rules.specs.Order.Order.{close, end_phase, losses}
 use Rattle.rules.specs.Onward.{
   AllAccepted,
   Falls,
   NeverStuck,
   OnwardAccepted,
   PlayedOut,
-  afterAll,
-  allOwing,
+  after_all,
+  all_owing,
   left,
-  lentOnward,
+  lent_onward,
   onward,
-  onwardCall,
+  onward_call,
   over,
-  retreatOnward,
+  retreat_onward,
 }
-use Rattle.rules.proofs.Demands.{stays-accepted}
+use Rattle.rules.proofs.Demands.{stays_accepted}
 use Rattle.rules.proofs.OnwardCall.{Goes}
-use Rattle.rules.proofs.OnwardClose.{close-goes}
+use Rattle.rules.proofs.OnwardClose.{close_goes}
 use Rattle.rules.proofs.OnwardEnd.{end_goes}
-use Rattle.rules.proofs.OnwardLosses.{losses-go}
-use Rattle.rules.proofs.OnwardRetreat.{retreat-goes}
+use Rattle.rules.proofs.OnwardLosses.{losses_go}
+use Rattle.rules.proofs.OnwardRetreat.{retreat_goes}
 
 -- the order for each stage, and what is lent with it
 module _ (b : Board) where
-  order-quiet : b.desk.battle.stage ≡ Stage.quiet → (onward b ≡ endPhase) × (lentOnward b ≡ replicate b.map.hexes 0)
-  unfolding onward lentOnward
-  order-quiet e = (rw e refl, rw e refl)
+  order_quiet : b.desk.battle.stage ≡ Stage.quiet → (onward b ≡ end_phase) × (lent_onward b ≡ replicate b.map.hexes 0)
+  unfolding onward lent_onward
+  order_quiet e = (rw e refl, rw e refl)
 
-  order-retreats : b.desk.battle.stage ≡ Stage.retreats → (onward b ≡ retreatOnward b) × (lentOnward b ≡ [])
-  unfolding onward lentOnward
-  order-retreats e = (rw e refl, rw e refl)
+  order_retreats : b.desk.battle.stage ≡ Stage.retreats → (onward b ≡ retreat_onward b) × (lent_onward b ≡ [])
+  unfolding onward lent_onward
+  order_retreats e = (rw e refl, rw e refl)
 
-  order-losses : b.desk.battle.stage ≡ Stage.losses → (onward b ≡ losses (allOwing b)) × (lentOnward b ≡ [])
-  unfolding onward lentOnward
-  order-losses e = (rw e refl, rw e refl)
+  order_losses : b.desk.battle.stage ≡ Stage.losses → (onward b ≡ losses (all_owing b)) × (lent_onward b ≡ [])
+  unfolding onward lent_onward
+  order_losses e = (rw e refl, rw e refl)
 
-  order-advances : b.desk.battle.stage ≡ Stage.advances → (onward b ≡ close) × (lentOnward b ≡ [])
-  unfolding onward lentOnward
-  order-advances e = (rw e refl, rw e refl)
+  order_advances : b.desk.battle.stage ≡ Stage.advances → (onward b ≡ close) × (lent_onward b ≡ [])
+  unfolding onward lent_onward
+  order_advances e = (rw e refl, rw e refl)
 
-  not_last : over b ≡ false → b.desk.battle.stage ≡ Stage.quiet → is_last b.desk.clock b.desk.lastTurn ≡ false
+  not_last : over b ≡ false → b.desk.battle.stage ≡ Stage.quiet → is_last b.desk.clock b.desk.last_turn ≡ false
   unfolding over
   not_last o e = simp (eq-eqb b.desk.battle.stage Stage.quiet e) at o
 
 goes-as :
-    {p : List ℕ} {o : Order} {l : List ℕ} → (onward (board p) ≡ o) × (lentOnward (board p) ≡ l)
-    → Goes p (record { order = o; lent = l }) → Goes p (onwardCall p)
-unfolding onwardCall
+    {p : List ℕ} {o : Order} {l : List ℕ} → (onward (board p) ≡ o) × (lent_onward (board p) ≡ l)
+    → Goes p (record { order = o; lent = l }) → Goes p (onward_call p)
+unfolding onward_call
 goes-as {p} e g = subst (Goes p) (sym (ap₂ (λ (o : Order) (l : List ℕ). record { order = o; lent = l }) e.0 e.1)) g
 
-goes : (p : List ℕ) → Accepted p → over (board p) ≡ false → Goes p (onwardCall p)
+goes : (p : List ℕ) → Accepted p → over (board p) ≡ false → Goes p (onward_call p)
 goes p a o =
     let b = board p in
     let k = a.lawful.clock.stage in
     same_or b.desk.battle.stage Stage.quiet
-    (λ e. goes-as (order-quiet b e) (end_goes a e (not_last b o e)))
+    (λ e. goes-as (order_quiet b e) (end_goes a e (not_last b o e)))
     (λ n.
     same_or b.desk.battle.stage Stage.retreats
-    (λ e. goes-as (order-retreats b e) (retreat-goes a e))
+    (λ e. goes-as (order_retreats b e) (retreat_goes a e))
     (λ m.
     same_or b.desk.battle.stage Stage.losses
-    (λ e. goes-as (order-losses b e) (losses-go a e))
+    (λ e. goes-as (order_losses b e) (losses_go a e))
     (λ i.
     let e : b.desk.battle.stage ≡ Stage.advances = omega arith in
-    goes-as (order-advances b e) (close-goes a e))))
+    goes-as (order_advances b e) (close_goes a e))))
 
-is-accepted : {a : Ruling} {vs : Values} → a ≡ accepted vs → IsAccepted a
-is-accepted e = subst IsAccepted (sym e) tt
+is_accepted : {a : Ruling} {vs : Values} → a ≡ accepted vs → IsAccepted a
+is_accepted e = subst IsAccepted (sym e) tt
 
-pub onward-accepted : OnwardAccepted
-onward-accepted p a o = is-accepted (goes p a o).answers
+pub onward_accepted : OnwardAccepted
+onward_accepted p a o = is_accepted (goes p a o).answers
 
 pub falls : Falls
 falls p a o = (goes p a o).falls
 
 -- as many calls as are left bring the game to its end
 abbrev Played : ℕ → List ℕ → Type 0
-Played n p = (cs : List (Sent Order)) × (length cs ≤ n) × AllAccepted p cs × (over (board (afterAll p cs)) ≡ true)
+Played n p = (cs : List (Sent Order)) × (length cs ≤ n) × AllAccepted p cs × (over (board (after_all p cs)) ≡ true)
 
 play : (n : ℕ) (p : List ℕ) → Accepted p → left (board p) ≤ n → Played n p
 play zero p a l =
@@ -107,12 +107,12 @@ play (suc n) p a l =
     either (over (board p))
     (λ e. ([], omega arith, tt, e))
     (λ o.
-    let c = onwardCall p in
-    let r = play n (step p c).position (stays-accepted p c a) (omega (arith, falls p a o)) in
-    (c ∷ r.0, omega (arith, r.1), (onward-accepted p a o, r.2), r.3))
+    let c = onward_call p in
+    let r = play n (step p c).position (stays_accepted p c a) (omega (arith, falls p a o)) in
+    (c ∷ r.0, omega (arith, r.1), (onward_accepted p a o, r.2), r.3))
 
-pub played-out : PlayedOut
-played-out p a = play (left (board p)) p a (omega arith)
+pub played_out : PlayedOut
+played_out p a = play (left (board p)) p a (omega arith)
 
 pub never_stuck : NeverStuck
-never_stuck = (onward-accepted, falls, played-out)
+never_stuck = (onward_accepted, falls, played_out)

@@ -7,33 +7,33 @@ use native.Mathlib.Omega.{arith}
 use Rattle.position.specs.Board.{Board, board, nowhere}
 use Rattle.position.specs.Effect.{changes}
 use Rattle.position.specs.Stage as Stage
-use Rattle.position.proofs.Shapes.{hexes-most}
+use Rattle.position.proofs.Shapes.{hexes_most}
 use Rattle.acceptance.specs.Accepted.{Accepted, Lawful}
 use Rattle.ruling.proofs.Meets.{ruled}
-use Rattle.aftermath.specs.Losses.{lossChanges, lossesRule}
-use Rattle.aftermath.specs.Stage.{thenOn}
+use Rattle.aftermath.specs.Losses.{loss_changes, losses_rule}
+use Rattle.aftermath.specs.Stage.{then_on}
 use Rattle.aftermath.proofs.AllLost.{all_pass}
-use Rattle.aftermath.proofs.KeepLosses.{losses-owing, since-losses}
-use Rattle.rules.specs.Order.{ruleOf}
+use Rattle.aftermath.proofs.KeepLosses.{losses_owing, since_losses}
+use Rattle.rules.specs.Order.{rule_of}
 use Rattle.rules.specs.Order.Order.{losses}
-use Rattle.rules.specs.Onward.{allOwing, left}
+use Rattle.rules.specs.Onward.{all_owing, left}
 use Rattle.rules.proofs.OnwardCall.{Goes, goes-met}
-use Rattle.rules.proofs.OnwardStage.{falls-then-on, left-losses}
+use Rattle.rules.proofs.OnwardStage.{falls-then-on, left_losses}
 
 losses-fall :
     {b : Board} → Lawful b → b.map.hexes ≤ nowhere → b.desk.battle.stage ≡ Stage.losses → (units : List ℕ)
-    → left (changes b (thenOn b (lossChanges b units))) < left b
+    → left (changes b (then_on b (loss_changes b units))) < left b
 losses-fall {b} l most e units =
-    falls-then-on (lossChanges b units) (since-losses l most e units) (omega (arith, left-losses b e))
-    (λ _. omega (arith, left-losses b e))
-    (λ n. absurd (n (losses-owing l most e units)))
+    falls-then-on (loss_changes b units) (since_losses l most e units) (omega (arith, left_losses b e))
+    (λ _. omega (arith, left_losses b e))
+    (λ n. absurd (n (losses_owing l most e units)))
 
-pub losses-go : {p : List ℕ} → Accepted p → (board p).desk.battle.stage ≡ Stage.losses → Goes p (record { order = losses (allOwing (board p)); lent = [] })
-unfolding ruleOf lossesRule allOwing
-losses-go {p} a e =
+pub losses_go : {p : List ℕ} → Accepted p → (board p).desk.battle.stage ≡ Stage.losses → Goes p (record { order = losses (all_owing (board p)); lent = [] })
+unfolding rule_of losses_rule all_owing
+losses_go {p} a e =
     let b = board p in
     let k = (a.lawful.stage.during.losses e).owing in
-    let units = allOwing b in
-    goes-met a (record { order = losses units; lent = [] }) (thenOn b (lossChanges b units))
+    let units = all_owing b in
+    goes-met a (record { order = losses units; lent = [] }) (then_on b (loss_changes b units))
     (all_pass b p e k.low k.high [] _ _ _ _ (ruled refl))
-    (losses-fall a.lawful (omega (arith, hexes-most a.shaped)) e units)
+    (losses-fall a.lawful (omega (arith, hexes_most a.shaped)) e units)

@@ -15,16 +15,16 @@ whole {o} {o'} a q l =
     ∙ ap (λ (z : List ℕ). record { answer = o'.answer; position = o'.position; lent = z }) l
 
 -- a referee that keeps every promise is the one that rules by the rules
-pub meets-step : (r : Referee Order) → Meets r → (p : List ℕ) (c : Sent Order) → r p c ≡ step p c
-meets-step r m p c = let g = m p c in whole g.answers g.leaves g.lends
+pub meets_step : (r : Referee Order) → Meets r → (p : List ℕ) (c : Sent Order) → r p c ≡ step p c
+meets_step r m p c = let g = m p c in whole g.answers g.leaves g.lends
 
 -- and so are its runs
-runs-step : (r : Referee Order) → Meets r → (p : List ℕ) (cs : List (Sent Order)) → run_of r p cs ≡ run_of step p cs
+runs_step : (r : Referee Order) → Meets r → (p : List ℕ) (cs : List (Sent Order)) → run_of r p cs ≡ run_of step p cs
 unfolding run_of
-runs-step r m p [] = refl
-runs-step r m p (c ∷ cs) =
-    ap (λ (os : List Outcome). r p c ∷ os) (runs-step r m (r p c).position cs)
-    ∙ ap (λ (o : Outcome). o ∷ run_of step o.position cs) (meets-step r m p c)
+runs_step r m p [] = refl
+runs_step r m p (c ∷ cs) =
+    ap (λ (os : List Outcome). r p c ∷ os) (runs_step r m (r p c).position cs)
+    ∙ ap (λ (o : Outcome). o ∷ run_of step o.position cs) (meets_step r m p c)
 
 pub agree : Agree
-agree r r' m m' p cs = runs-step r m p cs ∙ sym (runs-step r' m' p cs)
+agree r r' m m' p cs = runs_step r m p cs ∙ sym (runs_step r' m' p cs)

@@ -33,7 +33,7 @@ pub record DemandTwo : Type 0 where
   pub right : Meets step
   pub agree : Agree
   pub supply : SupplyRight
-  pub inSupply : InSupplyRight
+  pub in_supply : InSupplyRight
   pub distance : DistanceRight
   pub group : GroupRight
   pub destroyed : DestroyedRight

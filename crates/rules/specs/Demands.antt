@@ -14,7 +14,7 @@ use Rattle.ruling.specs.OldDesk.{OldDesk, OldDesks}
 use Rattle.field.specs.Scene.{scene}
 use Rattle.walk.specs.Chain.{mark, OneIf}
 use Rattle.supply.specs.Supply.{Supplied}
-use Rattle.rules.specs.Order.{Order, ruleOf, repliesOf, verdict, step}
+use Rattle.rules.specs.Order.{Order, rule_of, replies_of, verdict, step}
 use Rattle.rules.specs.Order.Order.{supply}
 
 -- demand 1: "Every call takes every position, order, list and roll, bad ones included, ends, and answers with a ruling or a refusal by
@@ -28,7 +28,7 @@ Total =
 -- and the number that the C library answers with is read back: it and the order give the ruling, its low byte is 0 exactly if the call is
 -- accepted, and refusals are 1 to 18
 abbrev pub NumbersRight : Type 0
-NumbersRight = (p : List ℕ) (c : Sent Order) → Packs (repliesOf c.order) (step p c).answer
+NumbersRight = (p : List ℕ) (c : Sent Order) → Packs (replies_of c.order) (step p c).answer
 
 -- "A unit is in supply exactly if an unblocked line of hexes to a source exists.": what an accepted supply call writes for a hex is 1 if
 -- the chain exists, and 0 if it does not
@@ -43,13 +43,13 @@ DistanceRight = (w h a b : ℕ) → On w h a → On w h b → Distance w h a b (
 
 -- an accepted position stays accepted after every call
 abbrev pub StaysAccepted : Type 0
-StaysAccepted = Keeping ruleOf
+StaysAccepted = Keeping rule_of
 
 -- demand 3: "Two accepted positions that differ only in face-down strengths, the same calls: same rulings, same bytes but for the
 -- strengths still face down, as long as what was turned over was equal." Over lists of orders, each with the bytes lent; what was
 -- turned over is asked of the first run alone, at the moment when it is turned over.
 abbrev pub Secrecy : Type 0
-Secrecy = SecretRuns ruleOf
+Secrecy = SecretRuns rule_of
 
 -- request Four: "Positions of the old length are read with four players, so their rulings don't change." On such a desk every other force is
 -- Enemy and none is neutral, as it was; and for all orders and buffers the outcome is that on the same position with the players 0, 1, 2, 3
@@ -57,7 +57,7 @@ Secrecy = SecretRuns ruleOf
 pub record OldDesksRight : Type 0 where
   pub enemies : (p : List ℕ) → OldDesk p → (f g : ℕ) → enemy (board p) f g ≡ not (eqb f g)
   pub neutrals : (p : List ℕ) → OldDesk p → (f g : ℕ) → neutral (board p) f g ≡ false
-  pub rulings : OldDesks ruleOf
+  pub rulings : OldDesks rule_of
 
 -- "Two results that fit the same promise are proved equal"
 abbrev pub OneResult : Type 0

@@ -9,12 +9,12 @@ use Rattle.acceptance.specs.Alike.{Alike}
 use Rattle.ruling.specs.Verdict.{Ruling, Outcome}
 use Rattle.ruling.specs.Verdict.Ruling.{refused, accepted}
 use Rattle.ruling.specs.Secret.{Sent, Referee}
-use Rattle.line.specs.Line.{fightingTotal}
-use Rattle.odds.specs.Odds.{reached, multipleAt}
+use Rattle.line.specs.Line.{fighting_total}
+use Rattle.odds.specs.Odds.{reached, multiple_at}
 use Rattle.results.specs.Participants.{participants}
-use Rattle.battle.specs.Line.{attackLine, defenceLine}
+use Rattle.battle.specs.Line.{attack_line, defence_line}
 use Rattle.rules.specs.Order.{Order, step}
-use Rattle.rules.specs.Order.Order.{supply, move, endPhase, attack, retreat, losses, advance, close}
+use Rattle.rules.specs.Order.Order.{supply, move, end_phase, attack, retreat, losses, advance, close}
 use Rattle.rules.specs.Referee.{Meets}
 
 -- the odds of an attack lie below the first column: "A x d >= a x D" does not hold of it, by the strengths under the counters
@@ -23,26 +23,26 @@ hopeless p (attack target units die) =
     let b = board p in
     let ss = map (strength p) (participants b target units) in
     not
-    (reached b.results (fightingTotal (attackLine b units ss))
-    (fightingTotal (defenceLine b target units ss) * multipleAt b target units) 0)
+    (reached b.results (fighting_total (attack_line b units ss))
+    (fighting_total (defence_line b target units ss) * multiple_at b target units) 0)
 hopeless p (supply n) = false
 hopeless p (move u path) = false
-hopeless p endPhase = false
+hopeless p end_phase = false
 hopeless p (retreat h route pushes) = false
 hopeless p (losses units) = false
 hopeless p (advance u h) = false
 hopeless p close = false
 
 -- an outcome in place of another that is accepted; what is refused stays so
-abbrev pub inPlaceOf : Ruling → Outcome → Outcome → Outcome
-inPlaceOf (refused n k) o other = o
-inPlaceOf (accepted vs) o other = other
+abbrev pub in_place_of : Ruling → Outcome → Outcome → Outcome
+in_place_of (refused n k) o other = o
+in_place_of (accepted vs) o other = other
 
 -- it refuses a hopeless attack that the rules let through, by whatever number and place it likes, and rules as they do on everything else
-unfoldable pub greysOut : (Sent Order → ℕ) → (Sent Order → ℕ) → Referee Order
-greysOut number place p c =
+unfoldable pub greys_out : (Sent Order → ℕ) → (Sent Order → ℕ) → Referee Order
+greys_out number place p c =
     let o = step p c in
-    cond (hopeless p c.order) (inPlaceOf o.answer o (record { answer = refused (number c) (place c); position = p; lent = c.lent })) o
+    cond (hopeless p c.order) (in_place_of o.answer o (record { answer = refused (number c) (place c); position = p; lent = c.lent })) o
 
 -- A referee that tells what lies under a counter: two accepted positions that differ in one strength, which is face down; a call on the
 -- first turns nothing over, and yet the answers differ.
@@ -61,5 +61,5 @@ pub record Tells (r : Referee Order) : Type 0 where
 
 -- "demand 2 shuts each out", and this one demand 3 too
 pub record GreyingOut : Type 0 where
-  pub promises : (number place : Sent Order → ℕ) → Meets (greysOut number place) → ⊥
-  pub tells : (number place : Sent Order → ℕ) → Tells (greysOut number place)
+  pub promises : (number place : Sent Order → ℕ) → Meets (greys_out number place) → ⊥
+  pub tells : (number place : Sent Order → ℕ) → Tells (greys_out number place)

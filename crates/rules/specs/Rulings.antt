@@ -2,14 +2,14 @@
 -- promise. Proved by computation in proofs/Rulings.antt.
 -- Assumes nothing.
 use Rattle.std.specs.Prelude.{List, ◌++◌}
-use Rattle.grid.specs.Rulings.{Row, Answered, gridRows}
-use Rattle.odds.specs.Rulings.{oddsRows}
-use Rattle.routes.specs.Rulings.{routesRows}
-use Rattle.aftermath.specs.Rulings.{aftermathRows}
+use Rattle.grid.specs.Rulings.{Row, Answered, grid_rows}
+use Rattle.odds.specs.Rulings.{odds_rows}
+use Rattle.routes.specs.Rulings.{routes_rows}
+use Rattle.aftermath.specs.Rulings.{aftermath_rows}
 
 -- neighbours; columns, halves and multiples; routes of a retreat; losses
 abbrev pub table : List Row
-table = gridRows ++ (oddsRows ++ (routesRows ++ aftermathRows))
+table = grid_rows ++ (odds_rows ++ (routes_rows ++ aftermath_rows))
 
 -- "Proved as one table, one statement"
 abbrev pub SmallRulings : Type 0

@@ -2,9 +2,9 @@
 -- fights at half strength. Proved in proofs/Supplied.antt.
 -- Assumes nothing.
 use Rattle.std.specs.Prelude.{ℕ, ◌<◌, ◌≡◌, true, List, ◌↔◌}
-use Rattle.clock.specs.Clock.{nextClock, judgesSupply}
+use Rattle.clock.specs.Clock.{next_clock, judges_supply}
 use Rattle.position.specs.Bits.{has, supplied}
-use Rattle.position.specs.Board.{Board, board, forceOf, nowhere}
+use Rattle.position.specs.Board.{Board, board, force_of, nowhere}
 use Rattle.acceptance.specs.Accepted.{Accepted}
 use Rattle.ruling.specs.Answers.{IsAccepted}
 use Rattle.field.specs.Scene.{scene}
@@ -12,7 +12,7 @@ use Rattle.field.specs.Working.{half}
 use Rattle.supply.specs.Supply.{Supplied}
 use Rattle.battle.specs.Line.{fighter}
 use Rattle.rules.specs.Order.{step}
-use Rattle.rules.specs.Order.Order.{endPhase}
+use Rattle.rules.specs.Order.Order.{end_phase}
 
 -- an unblocked line of open hexes leads from where unit u stands to a source of its own nationality
 abbrev pub InSupply : Board → ℕ → Type 0
@@ -26,10 +26,10 @@ pub record Mapped (b : Board) (u : ℕ) : Type 0 where
 -- "On entering phase 0 or 2 it sets or clears supplied on the then phasing force's mapped units."
 abbrev pub MarkedRight : Type 0
 MarkedRight =
-    (p l : List ℕ) (u : ℕ) → Accepted p → IsAccepted (step p (record { order = endPhase; lent = l })).answer
-    → judgesSupply (nextClock (board p).desk.clock) ≡ true → Mapped (board p) u
-    → forceOf (board p) u ≡ (nextClock (board p).desk.clock).force
-    → (has supplied ((board (step p (record { order = endPhase; lent = l })).position).units.state.marks u) ≡ true) ↔ InSupply (board p) u
+    (p l : List ℕ) (u : ℕ) → Accepted p → IsAccepted (step p (record { order = end_phase; lent = l })).answer
+    → judges_supply (next_clock (board p).desk.clock) ≡ true → Mapped (board p) u
+    → force_of (board p) u ≡ (next_clock (board p).desk.clock).force
+    → (has supplied ((board (step p (record { order = end_phase; lent = l })).position).units.state.marks u) ≡ true) ↔ InSupply (board p) u
 
 -- "Each strength out of supply at that instant is halved, fractions up, unit by unit."
 pub record Fights (b : Board) (u printed : ℕ) : Type 0 where

@@ -2,12 +2,12 @@
 // to the crate of its rule.
 ghost use Rattle.std.specs.Prelude.{[]};
 ghost use Rattle.ruling.specs.Verdict.{Met};
-ghost use Rattle.ruling.specs.Answers.{answerAs};
-ghost use Rattle.march.specs.Answers.{movedAs};
-ghost use Rattle.battle.specs.Answers.{foughtAs};
-ghost use Rattle.retreat.specs.Answers.{retreatedAs};
+ghost use Rattle.ruling.specs.Answers.{answer_as};
+ghost use Rattle.march.specs.Answers.{moved_as};
+ghost use Rattle.battle.specs.Answers.{fought_as};
+ghost use Rattle.retreat.specs.Answers.{retreated_as};
 ghost use Rattle.rules.specs.Order.{verdict};
-ghost use Rattle.rules.specs.Order.Order.{supply, move, endPhase, attack, retreat, losses, advance, close};
+ghost use Rattle.rules.specs.Order.Order.{supply, move, end_phase, attack, retreat, losses, advance, close};
 
 use battle::Fought;
 use march::Moved;
@@ -17,7 +17,7 @@ use ruling::Answer;
 
 // Which hexes are supplied for a nationality: 1 or 0 per hex, into a buffer of exactly width x height bytes.
 pub fn supply(p: &[u8], nationality: usize, out: &mut [u8]) -> Answer
-    ensures { Met p.now out.old (verdict p.now (supply nationality) out.old) (answerAs result) p.now out.new }
+    ensures { Met p.now out.old (verdict p.now (supply nationality) out.old) (answer_as result) p.now out.new }
 {
     let Checked::Whole(v) = checking::check(p) else {
         return Answer::Refused(1, 0);
@@ -27,7 +27,7 @@ pub fn supply(p: &[u8], nationality: usize, out: &mut [u8]) -> Answer
 
 // A unit goes along a path, hex by hex.
 pub fn move_unit(p: &mut [u8], unit: usize, path: &[u16]) -> Moved
-    ensures { Met p.old [] (verdict p.old (move unit path.now) []) (movedAs result) p.new [] }
+    ensures { Met p.old [] (verdict p.old (move unit path.now) []) (moved_as result) p.new [] }
 {
     let Checked::Whole(v) = checking::check(p) else {
         return Moved::Refused(1, 0);
@@ -37,7 +37,7 @@ pub fn move_unit(p: &mut [u8], unit: usize, path: &[u16]) -> Moved
 
 // The phase ends. The scratch has exactly width x height bytes, and is handed back all 0.
 pub fn end_phase(p: &mut [u8], scratch: &mut [u8]) -> Answer
-    ensures { Met p.old scratch.old (verdict p.old endPhase scratch.old) (answerAs result) p.new scratch.new }
+    ensures { Met p.old scratch.old (verdict p.old end_phase scratch.old) (answer_as result) p.new scratch.new }
 {
     let Checked::Whole(v) = checking::check(p) else {
         return Answer::Refused(1, 0);
@@ -47,7 +47,7 @@ pub fn end_phase(p: &mut [u8], scratch: &mut [u8]) -> Answer
 
 // Units of a list attack a target, and a die is rolled. The scratch has exactly width x height bytes, and is handed back all 0.
 pub fn attack(p: &mut [u8], target: usize, units: &[u16], die: usize, scratch: &mut [u8]) -> Fought
-    ensures { Met p.old scratch.old (verdict p.old (attack target units.now die) scratch.old) (foughtAs result) p.new scratch.new }
+    ensures { Met p.old scratch.old (verdict p.old (attack target units.now die) scratch.old) (fought_as result) p.new scratch.new }
 {
     let Checked::Whole(v) = checking::check(p) else {
         return Fought::Refused(1, 0);
@@ -57,7 +57,7 @@ pub fn attack(p: &mut [u8], target: usize, units: &[u16], die: usize, scratch: &
 
 // The units that owe in a hex go off along a route, or are destroyed.
 pub fn retreat(p: &mut [u8], hex: usize, route: &[u16], pushes: &[u16]) -> Retreated
-    ensures { Met p.old [] (verdict p.old (retreat hex route.now pushes.now) []) (retreatedAs result) p.new [] }
+    ensures { Met p.old [] (verdict p.old (retreat hex route.now pushes.now) []) (retreated_as result) p.new [] }
 {
     let Checked::Whole(v) = checking::check(p) else {
         return Retreated::Refused(1, 0);
@@ -67,7 +67,7 @@ pub fn retreat(p: &mut [u8], hex: usize, route: &[u16], pushes: &[u16]) -> Retre
 
 // The units of a list are the losses of an exchange.
 pub fn losses(p: &mut [u8], units: &[u16]) -> Answer
-    ensures { Met p.old [] (verdict p.old (losses units.now) []) (answerAs result) p.new [] }
+    ensures { Met p.old [] (verdict p.old (losses units.now) []) (answer_as result) p.new [] }
 {
     let Checked::Whole(v) = checking::check(p) else {
         return Answer::Refused(1, 0);
@@ -77,7 +77,7 @@ pub fn losses(p: &mut [u8], units: &[u16]) -> Answer
 
 // A unit advances to a hex of a route.
 pub fn advance(p: &mut [u8], unit: usize, hex: usize) -> Answer
-    ensures { Met p.old [] (verdict p.old (advance unit hex) []) (answerAs result) p.new [] }
+    ensures { Met p.old [] (verdict p.old (advance unit hex) []) (answer_as result) p.new [] }
 {
     let Checked::Whole(v) = checking::check(p) else {
         return Answer::Refused(1, 0);
@@ -87,7 +87,7 @@ pub fn advance(p: &mut [u8], unit: usize, hex: usize) -> Answer
 
 // The advances are over.
 pub fn close(p: &mut [u8]) -> Answer
-    ensures { Met p.old [] (verdict p.old close []) (answerAs result) p.new [] }
+    ensures { Met p.old [] (verdict p.old close []) (answer_as result) p.new [] }
 {
     let Checked::Whole(v) = checking::check(p) else {
         return Answer::Refused(1, 0);

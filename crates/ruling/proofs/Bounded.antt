@@ -12,11 +12,11 @@ use Rattle.position.specs.Change.{Change, turned}
 use borrow.Author.Tests.{leb-true}
 use Rattle.position.proofs.Tallies.{both_yes}
 use Rattle.acceptance.specs.Accepted.{Accepted}
-use Rattle.acceptance.specs.Broken.{accepted?, broken-true, broken-false}
+use Rattle.acceptance.specs.Broken.{accepted?, broken_true, broken_false}
 use Rattle.ruling.specs.Values.{Values}
-use Rattle.ruling.specs.Verdict.{Judge, Verdict, afterCheck, along, judged, outcome, revealAll}
+use Rattle.ruling.specs.Verdict.{Judge, Verdict, after_check, along, judged, outcome, reveal_all}
 use Rattle.ruling.specs.Verdict.Judge.{rule}
-use Rattle.ruling.specs.Verdict.Verdict.{refuseIf, judge}
+use Rattle.ruling.specs.Verdict.Verdict.{refuse_if, judge}
 use Rattle.ruling.specs.Packed.{Replies, Roomy, Packable}
 use Rattle.ruling.specs.Secret.{Each}
 
@@ -32,7 +32,7 @@ module _ {k : Replies} {p l : List ℕ} where
   -- past a test with its number and place; what follows may use that it does not hold
   pub bounded_at :
       {n place : ℕ} {v : Verdict} (t : Bool) → numbered n ≡ true → place < 65536 → (t ≡ false → Bounded k p l v)
-      → Bounded k p l (refuseIf t n place v)
+      → Bounded k p l (refuse_if t n place v)
   unfolding outcome
   bounded_at {n} true e i f =
       let z = both_yes (leb 1 n) (leb n 18) e in
@@ -40,8 +40,8 @@ module _ {k : Replies} {p l : List ℕ} where
   bounded_at false e i f = record { ok = (f refl).ok }
 
   -- with place 0
-  pub bounded-past : {n : ℕ} {v : Verdict} (t : Bool) → numbered n ≡ true → (t ≡ false → Bounded k p l v) → Bounded k p l (refuseIf t n 0 v)
-  bounded-past t e f = bounded_at t e (omega arith) f
+  pub bounded_past : {n : ℕ} {v : Verdict} (t : Bool) → numbered n ≡ true → (t ≡ false → Bounded k p l v) → Bounded k p l (refuse_if t n 0 v)
+  bounded_past t e f = bounded_at t e (omega arith) f
 
   -- along a list whose places fit; what the tests of each place leave is known of all places at the end
   pub bounded-each :
@@ -56,30 +56,30 @@ module _ {k : Replies} {p l : List ℕ} where
       (λ q. bounded-each Q next f (next s x) xs (place + 1) v (omega arith) (λ h. g (q, h)))
 
   -- at the end
-  pub bounded-ruled : {vs : Values} {xs : List Change} {m : List ℕ} → Roomy k vs → Bounded k p l (judge (rule vs xs m))
+  pub bounded_ruled : {vs : Values} {xs : List Change} {m : List ℕ} → Roomy k vs → Bounded k p l (judge (rule vs xs m))
   unfolding outcome judged
-  bounded-ruled h = record { ok = h }
+  bounded_ruled h = record { ok = h }
 
   -- past the check
-  pub bounded-checked : {v : Verdict} → (Accepted p → Bounded k p l v) → Bounded k p l (afterCheck p v)
-  unfolding afterCheck outcome
-  bounded-checked {v} f = at (accepted? p)
+  pub bounded_checked : {v : Verdict} → (Accepted p → Bounded k p l v) → Bounded k p l (after_check p v)
+  unfolding after_check outcome
+  bounded_checked {v} f = at (accepted? p)
     where
-      at : Dec (Accepted p) → Bounded k p l (afterCheck p v)
-      at (yes a) = rw (broken-false a) (record { ok = (f a).ok })
-      at (no n) = rw (broken-true n) (record { ok = (omega arith, omega arith, omega arith) })
+      at : Dec (Accepted p) → Bounded k p l (after_check p v)
+      at (yes a) = rw (broken_false a) (record { ok = (f a).ok })
+      at (no n) = rw (broken_true n) (record { ok = (omega arith, omega arith, omega arith) })
 
 -- through units that are turned over, whatever their strengths
 shown-bounded :
     (k : Replies) (us : List ℕ) (f : List ℕ → Judge) → ((p ss : List ℕ) → Packable k (judged p (f ss)).answer) → (p : List ℕ)
-    → Packable k (judged p (revealAll us f)).answer
-unfolding judged revealAll
+    → Packable k (judged p (reveal_all us f)).answer
+unfolding judged reveal_all
 shown-bounded k [] f h p = h p []
 shown-bounded k (u ∷ us) f h p =
     shown-bounded k us (λ ss. f (strength p u ∷ ss)) (λ q ss. h q (strength p u ∷ ss)) (turned p u)
 
 pub bounded-seen :
     {k : Replies} {p l : List ℕ} (us : List ℕ) (f : List ℕ → Judge) → ((p ss : List ℕ) → Packable k (judged p (f ss)).answer)
-    → Bounded k p l (judge (revealAll us f))
+    → Bounded k p l (judge (reveal_all us f))
 unfolding outcome
 bounded-seen {k} {p} us f h = record { ok = shown-bounded k us f h p }

@@ -8,21 +8,21 @@ use Rattle.position.specs.declared.View.{View}
 use Rattle.position.specs.declared.Checked.{Checked}
 use Rattle.position.specs.declared.Checked.TheVariants.{Whole, Broken}
 use Rattle.acceptance.specs.Accepted.{Accepted}
-use Rattle.acceptance.specs.Broken.{broken-true, broken-false}
+use Rattle.acceptance.specs.Broken.{broken_true, broken_false}
 use Rattle.acceptance.specs.Checked.{CheckedOf}
-use Rattle.ruling.specs.Verdict.{Verdict, Ruling, Met, afterCheck}
+use Rattle.ruling.specs.Verdict.{Verdict, Ruling, Met, after_check}
 use Rattle.ruling.specs.Verdict.Ruling.{refused}
 use Rattle.ruling.proofs.Meets.{pass, stop}
 
 -- past the check
-pub checked : {p l : List ℕ} {v : Verdict} {a : Ruling} {q m : List ℕ} → Accepted p → Met p l v a q m → Met p l (afterCheck p v) a q m
-unfolding afterCheck
-checked y g = pass (broken-false y) g
+pub checked : {p l : List ℕ} {v : Verdict} {a : Ruling} {q m : List ℕ} → Accepted p → Met p l v a q m → Met p l (after_check p v) a q m
+unfolding after_check
+checked y g = pass (broken_false y) g
 
 -- at the check
-pub unchecked : {p l : List ℕ} {r : Checked} (v : Verdict) → CheckedOf p r → r ≡ Broken → Met p l (afterCheck p v) (refused 1 0) p l
-unfolding afterCheck
-unchecked v o e = stop (broken-true (subst (CheckedOf _) e o))
+pub unchecked : {p l : List ℕ} {r : Checked} (v : Verdict) → CheckedOf p r → r ≡ Broken → Met p l (after_check p v) (refused 1 0) p l
+unfolding after_check
+unchecked v o e = stop (broken_true (subst (CheckedOf _) e o))
 
 -- the position taken apart is accepted, and laid out as its view says
 pub whole : {p : List ℕ} {r : Checked} {w : View} → CheckedOf p r → r ≡ Whole w → Accepted p × Laid p w

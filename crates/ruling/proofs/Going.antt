@@ -26,8 +26,8 @@ abbrev pub Gone : {S : Type 0} → List ℕ → (S → ℕ → ℕ → Verdict �
 Gone p test next first path i s = GoneFrom 1 p test next first path i s
 
 module _ {S : Type 0} {k : ℕ} {p : List ℕ} {test : S → ℕ → ℕ → Verdict → Verdict} {next : S → ℕ → S} {first : S} {path : List ℕ} where
-  pub gone-none : GoneFrom k p test next first path 0 first
-  gone-none =
+  pub gone_none : GoneFrom k p test next first path 0 first
+  gone_none =
       let e : 0 + k ≡ k = omega arith in
       record {
         most = omega arith;

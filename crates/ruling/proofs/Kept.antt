@@ -9,11 +9,11 @@ use Rattle.acceptance.specs.Accepted.{Lawful, Accepted}
 use Rattle.acceptance.specs.Broken.{broken}
 use Rattle.position.specs.Change.{Change}
 use Rattle.position.specs.Effect.{changes}
-use Rattle.acceptance.proofs.Keeps.{accepted-makes}
+use Rattle.acceptance.proofs.Keeps.{accepted_makes}
 use Rattle.ruling.specs.Values.{Values}
-use Rattle.ruling.specs.Verdict.{Verdict, afterCheck, along, judged, outcome}
+use Rattle.ruling.specs.Verdict.{Verdict, after_check, along, judged, outcome}
 use Rattle.ruling.specs.Verdict.Judge.{rule}
-use Rattle.ruling.specs.Verdict.Verdict.{refuseIf, judge}
+use Rattle.ruling.specs.Verdict.Verdict.{refuse_if, judge}
 
 -- the position that a verdict leaves is accepted
 pub record Kept (p l : List ℕ) (v : Verdict) : Type 0 where
@@ -21,15 +21,15 @@ pub record Kept (p l : List ℕ) (v : Verdict) : Type 0 where
 
 module _ {p l : List ℕ} (a : Accepted p) where
   -- what follows a test may use that it does not hold
-  pub kept-past : {n k : ℕ} {v : Verdict} (t : Bool) → (t ≡ false → Kept p l v) → Kept p l (refuseIf t n k v)
+  pub kept_past : {n k : ℕ} {v : Verdict} (t : Bool) → (t ≡ false → Kept p l v) → Kept p l (refuse_if t n k v)
   unfolding outcome
-  kept-past true f = record { ok = a }
-  kept-past false f = record { ok = (f refl).ok }
+  kept_past true f = record { ok = a }
+  kept_past false f = record { ok = (f refl).ok }
 
   -- past the check
-  pub kept-checked : {v : Verdict} → Kept p l v → Kept p l (afterCheck p v)
-  unfolding afterCheck
-  kept-checked k = kept-past (broken p) (λ _. k)
+  pub kept_checked : {v : Verdict} → Kept p l v → Kept p l (after_check p v)
+  unfolding after_check
+  kept_checked k = kept_past (broken p) (λ _. k)
 
   -- what holds of the state before a place holds after it, where the place's tests do not refuse
   pub kept-along :
@@ -41,6 +41,6 @@ module _ {p l : List ℕ} (a : Accepted p) where
   kept-along P f s h [] k v g = g s h
   kept-along P {next = next} f s h (x ∷ xs) k v g = f s x k _ h (λ i. kept-along P f (next s x) i xs (k + 1) v g)
 
-  pub kept-ruled : {vs : Values} {m : List ℕ} (xs : List Change) → Lawful (changes (board p) xs) → Kept p l (judge (rule vs xs m))
+  pub kept_ruled : {vs : Values} {m : List ℕ} (xs : List Change) → Lawful (changes (board p) xs) → Kept p l (judge (rule vs xs m))
   unfolding outcome judged
-  kept-ruled xs h = record { ok = accepted-makes a xs h }
+  kept_ruled xs h = record { ok = accepted_makes a xs h }

@@ -11,12 +11,12 @@ use lib.Seq.{drop-cons}
 use Rattle.position.specs.Layout.{strength}
 use Rattle.position.specs.Shape.{Shaped}
 use Rattle.position.specs.Change.{Change, makes, turned}
-use Rattle.position.proofs.Front.{shaped-kept}
-use Rattle.position.proofs.Changes.{turned-made}
+use Rattle.position.proofs.Front.{shaped_kept}
+use Rattle.position.proofs.Changes.{turned_made}
 use Rattle.ruling.specs.Values.{Values}
-use Rattle.ruling.specs.Verdict.{Judge, Verdict, Ruling, revealAll, turnedAll, along, judged, outcome, Met}
+use Rattle.ruling.specs.Verdict.{Judge, Verdict, Ruling, reveal_all, turned_all, along, judged, outcome, Met}
 use Rattle.ruling.specs.Verdict.Judge.{reveal, rule}
-use Rattle.ruling.specs.Verdict.Verdict.{refuseIf, judge}
+use Rattle.ruling.specs.Verdict.Verdict.{refuse_if, judge}
 use Rattle.ruling.specs.Verdict.Ruling.{refused, accepted}
 
 -- the same function on each number of a list
@@ -25,13 +25,13 @@ map_same h [] = refl
 map_same h (x ∷ xs) = ap₂ (λ (a : ℕ) (bs : List ℕ). a ∷ bs) (h x) (map_same h xs)
 
 -- past a test that does not hold
-pub pass : {p l : List ℕ} {v : Verdict} {a : Ruling} {q m : List ℕ} {t : Bool} {n k : ℕ} → t ≡ false → Met p l v a q m → Met p l (refuseIf t n k v) a q m
+pub pass : {p l : List ℕ} {v : Verdict} {a : Ruling} {q m : List ℕ} {t : Bool} {n k : ℕ} → t ≡ false → Met p l v a q m → Met p l (refuse_if t n k v) a q m
 unfolding outcome
 pass {t = true} e g = absurd (let z : ◌≡◌ {A = ℕ} 0 1 = cc in omega arith)
 pass {t = false} e g = record { answers = g.answers; leaves = g.leaves; lends = g.lends }
 
 -- at a test that holds
-pub stop : {p l : List ℕ} {v : Verdict} {t : Bool} {n k : ℕ} → t ≡ true → Met p l (refuseIf t n k v) (refused n k) p l
+pub stop : {p l : List ℕ} {v : Verdict} {t : Bool} {n k : ℕ} → t ≡ true → Met p l (refuse_if t n k v) (refused n k) p l
 unfolding outcome
 stop {t = true} e = record { answers = refl; leaves = refl; lends = refl }
 stop {t = false} e = absurd (let z : ◌≡◌ {A = ℕ} 0 1 = cc in omega arith)
@@ -70,28 +70,28 @@ only g h =
     }
 
 -- what is accepted is not refused
-pub no-refusal : {vs : Values} {n k : ℕ} → accepted vs ≡ refused n k → ⊥
-no-refusal e = let z : ◌≡◌ {A = ℕ} 0 1 = cc in omega arith
+pub no_refusal : {vs : Values} {n k : ℕ} → accepted vs ≡ refused n k → ⊥
+no_refusal e = let z : ◌≡◌ {A = ℕ} 0 1 = cc in omega arith
 
 -- a judgement is no refusal, and a refusal changes no byte
 pub rules : (p : List ℕ) (j : Judge) {n k : ℕ} → (judged p j).answer ≡ refused n k → ⊥
 unfolding judged
 rules p (reveal u f) e = rules (turned p u) (f (strength p u)) e
-rules p (rule vs xs l) e = no-refusal e
+rules p (rule vs xs l) e = no_refusal e
 
 pub untouched : (p l : List ℕ) (v : Verdict) {n k : ℕ} → (outcome p l v).answer ≡ refused n k → ((outcome p l v).position ≡ p) × ((outcome p l v).lent ≡ l)
 unfolding outcome
-untouched p l (refuseIf true n k v) e = (refl, refl)
-untouched p l (refuseIf false n k v) e = untouched p l v e
+untouched p l (refuse_if true n k v) e = (refl, refl)
+untouched p l (refuse_if false n k v) e = untouched p l v e
 untouched p l (judge j) e = absurd (rules p j e)
 
 -- units turned over one after another
 pub seen_all :
     {p : List ℕ} → Shaped p → (us : List ℕ) (k : List ℕ → Judge)
-    → judged p (revealAll us k) ≡ judged (turnedAll p us) (k (map (strength p) us))
-unfolding judged revealAll turnedAll
+    → judged p (reveal_all us k) ≡ judged (turned_all p us) (k (map (strength p) us))
+unfolding judged reveal_all turned_all
 seen_all s [] k = refl
 seen_all {p} s (u ∷ us) k =
-    let t = turned-made s u in
-    seen_all (shaped-kept t.front s) us (λ ss. k (strength p u ∷ ss))
-    ∙ ap (λ (ss : List ℕ). judged (turnedAll (turned p u) us) (k (strength p u ∷ ss))) (map_same t.strengths us)
+    let t = turned_made s u in
+    seen_all (shaped_kept t.front s) us (λ ss. k (strength p u ∷ ss))
+    ∙ ap (λ (ss : List ℕ). judged (turned_all (turned p u) us) (k (strength p u ∷ ss))) (map_same t.strengths us)

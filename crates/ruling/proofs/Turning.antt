@@ -9,11 +9,11 @@ use Rattle.position.specs.Bits.{has, tried}
 use Rattle.position.specs.Layout.{strength}
 use Rattle.position.specs.Board.{Board, board}
 use Rattle.position.specs.Change.{turned}
-use Rattle.position.proofs.Changes.{turned-made}
+use Rattle.position.proofs.Changes.{turned_made}
 use Rattle.acceptance.specs.Accepted.{Accepted}
-use Rattle.acceptance.proofs.Keeps.{accepted-turned}
-use Rattle.acceptance.proofs.Stills.{Still, still-refl, still-trans, turned-still, turned-tried, lawful-turned}
-use Rattle.ruling.specs.Verdict.{Judge, Verdict, revealAll, turnedAll, along, outcome}
+use Rattle.acceptance.proofs.Keeps.{accepted_turned}
+use Rattle.acceptance.proofs.Stills.{Still, still_refl, still_trans, turned_still, turned_tried, lawful_turned}
+use Rattle.ruling.specs.Verdict.{Judge, Verdict, reveal_all, turned_all, along, outcome}
 use Rattle.ruling.specs.Verdict.Verdict.{judge}
 use Rattle.ruling.specs.Secret.{Each}
 use Rattle.ruling.proofs.Meets.{seen_all}
@@ -25,21 +25,21 @@ pub record Uncovered (p q us : List ℕ) : Type 0 where
   pub still : Still (board p) (board q)
   pub seen : Each (λ u. u < (board q).units.count → has tried ((board q).units.state.marks u) ≡ true) us
 
-pub uncovered : {p : List ℕ} → Accepted p → (us : List ℕ) → Uncovered p (turnedAll p us) us
-unfolding turnedAll
-uncovered {p} a [] = record { accepted = a; still = still-refl (board p); seen = tt }
+pub uncovered : {p : List ℕ} → Accepted p → (us : List ℕ) → Uncovered p (turned_all p us) us
+unfolding turned_all
+uncovered {p} a [] = record { accepted = a; still = still_refl (board p); seen = tt }
 uncovered {p} a (u ∷ us) =
     let x = strength p u in
-    let m = turned-made a.shaped u in
-    let r = uncovered (accepted-turned a u (lawful-turned (board p) u x a.lawful)) us in
-    let s : Still (board p) (board (turned p u)) = rw m.board (turned-still (board p) u x) in
-    let t = still-trans s r.still in
+    let m = turned_made a.shaped u in
+    let r = uncovered (accepted_turned a u (lawful_turned (board p) u x a.lawful)) us in
+    let s : Still (board p) (board (turned p u)) = rw m.board (turned_still (board p) u x) in
+    let t = still_trans s r.still in
     record {
       accepted = r.accepted;
       still = t;
       seen = (
         λ l.
-            let h = turned-tried (board p) u x (omega (arith, t.fixed.count)) in
+            let h = turned_tried (board p) u x (omega (arith, t.fixed.count)) in
             r.still.face u (subst (λ (c : Board). has tried (c.units.state.marks u) ≡ true) (sym m.board) h),
         r.seen,
       );
@@ -48,8 +48,8 @@ uncovered {p} a (u ∷ us) =
 module _ {p l : List ℕ} (a : Accepted p) where
   -- through units that are turned over
   pub kept_seen :
-      (us : List ℕ) (k : List ℕ → Judge) → Kept (turnedAll p us) l (judge (k (map (strength p) us)))
-      → Kept p l (judge (revealAll us k))
+      (us : List ℕ) (k : List ℕ → Judge) → Kept (turned_all p us) l (judge (k (map (strength p) us)))
+      → Kept p l (judge (reveal_all us k))
   unfolding outcome
   kept_seen us k h = record { ok = rw (seen_all a.shaped us k) h.ok }
 

@@ -9,9 +9,9 @@ use Rattle.ruling.specs.declared.Answer.{Answer}
 use Rattle.ruling.specs.declared.Answer.TheVariants as A
 
 -- "Calls with no answer named above answer accepted."
-abbrev pub answerAs : Answer → Ruling
-answerAs A.Accepted = accepted accepting
-answerAs (A.Refused n k) = refused n k
+abbrev pub answer_as : Answer → Ruling
+answer_as A.Accepted = accepted accepting
+answer_as (A.Refused n k) = refused n k
 
 -- it is accepted
 abbrev pub IsAccepted : Ruling → Type 0

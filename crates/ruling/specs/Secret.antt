@@ -5,7 +5,7 @@ use Rattle.position.specs.Layout.{strength}
 use Rattle.position.specs.Board.{Board, board}
 use Rattle.acceptance.specs.Accepted.{Accepted}
 use Rattle.acceptance.specs.Alike.{Same, Alike}
-use Rattle.ruling.specs.Verdict.{Verdict, Outcome, afterCheck, outcome, revealed}
+use Rattle.ruling.specs.Verdict.{Verdict, Outcome, after_check, outcome, revealed}
 
 -- P holds of each number of a list
 abbrev pub Each : (ℕ → Type 0) → List ℕ → Type 0
@@ -36,12 +36,12 @@ abbrev pub Rules : Type 0 → Type 0
 Rules Order = Board → Order → ℕ → Verdict
 
 -- the ruling on a call as it is sent
-abbrev pub verdictOn : {Order : Type 0} → Rules Order → List ℕ → Sent Order → Verdict
-verdictOn rules p c = afterCheck p (rules (board p) c.order (length c.lent))
+abbrev pub verdict_on : {Order : Type 0} → Rules Order → List ℕ → Sent Order → Verdict
+verdict_on rules p c = after_check p (rules (board p) c.order (length c.lent))
 
 -- the referee that rules by them
 abbrev pub after_call : {Order : Type 0} → Rules Order → Referee Order
-after_call rules p c = outcome p c.lent (verdictOn rules p c)
+after_call rules p c = outcome p c.lent (verdict_on rules p c)
 
 -- an accepted position stays accepted
 abbrev pub Keeping : {Order : Type 0} → Rules Order → Type 0
@@ -51,7 +51,7 @@ Keeping {Order} rules = (p : List ℕ) (c : Sent Order) → Accepted p → Accep
 abbrev pub ShownAlike : {Order : Type 0} → Rules Order → List ℕ → List ℕ → List (Sent Order) → Type 0
 ShownAlike rules p q [] = Unit {0}
 ShownAlike rules p q (c ∷ cs) =
-    OneStrength p q (verdictOn rules p c) × ShownAlike rules (after_call rules p c).position (after_call rules q c).position cs
+    OneStrength p q (verdict_on rules p c) × ShownAlike rules (after_call rules p c).position (after_call rules q c).position cs
 
 -- after each call of two runs of a referee answers and buffers are equal, and the positions look alike
 abbrev pub RunsAlike : {Order : Type 0} → Referee Order → List ℕ → List ℕ → List (Sent Order) → Type 0

@@ -21,11 +21,11 @@ pub record Values : Type 0 where
 abbrev pub accepting : Values
 accepting = record { manner = plain; column = 0; code = 0; hex = 0 }
 
-abbrev pub foughtWith : ℕ → ℕ → Values
-foughtWith column code = record { manner = fought; column = column; code = code; hex = 0 }
+abbrev pub fought_with : ℕ → ℕ → Values
+fought_with column code = record { manner = fought; column = column; code = code; hex = 0 }
 
-abbrev pub retreatedTo : ℕ → Values
-retreatedTo hex = record { manner = retreated; column = 0; code = 0; hex = hex }
+abbrev pub retreated_to : ℕ → Values
+retreated_to hex = record { manner = retreated; column = 0; code = 0; hex = hex }
 
 abbrev pub eliminated : Values
 eliminated = record { manner = destroyed; column = 0; code = 0; hex = 0 }

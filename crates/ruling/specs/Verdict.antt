@@ -14,21 +14,21 @@ pub data Judge : Type 0 where
 
 -- "Each answers its number with the offending place": test, number, place, and what follows where the test does not hold
 pub data Verdict : Type 0 where
-  refuseIf : Bool → ℕ → ℕ → Verdict → Verdict
+  refuse_if : Bool → ℕ → ℕ → Verdict → Verdict
   judge : Judge → Verdict
 
 -- "1 | position breaks a line above; nothing further is looked at": the rule on a checked position comes after the check
-unfoldable pub afterCheck : List ℕ → Verdict → Verdict
-afterCheck p v = refuseIf (broken p) 1 0 v
+unfoldable pub after_check : List ℕ → Verdict → Verdict
+after_check p v = refuse_if (broken p) 1 0 v
 
 -- units turned over one after another, and their strengths handed on
-unfoldable pub revealAll : List ℕ → (List ℕ → Judge) → Judge
-revealAll [] k = k []
-revealAll (u ∷ us) k = reveal u (λ s. revealAll us (λ ss. k (s ∷ ss)))
+unfoldable pub reveal_all : List ℕ → (List ℕ → Judge) → Judge
+reveal_all [] k = k []
+reveal_all (u ∷ us) k = reveal u (λ s. reveal_all us (λ ss. k (s ∷ ss)))
 
-unfoldable pub turnedAll : List ℕ → List ℕ → List ℕ
-turnedAll p [] = p
-turnedAll p (u ∷ us) = turnedAll (turned p u) us
+unfoldable pub turned_all : List ℕ → List ℕ → List ℕ
+turned_all p [] = p
+turned_all p (u ∷ us) = turned_all (turned p u) us
 
 -- The tests along a list, from place k on: `test s x k` are those of element x, with what the elements before it came to, s.
 -- "Checks go along the list": every question for one place, then every question for the next.
@@ -53,8 +53,8 @@ judged p (rule vs xs l) = record { answer = accepted vs; position = makes p xs; 
 
 -- "every lent byte stays" where a call is refused
 unfoldable pub outcome : List ℕ → List ℕ → Verdict → Outcome
-outcome p l (refuseIf true n k v) = record { answer = refused n k; position = p; lent = l }
-outcome p l (refuseIf false n k v) = outcome p l v
+outcome p l (refuse_if true n k v) = record { answer = refused n k; position = p; lent = l }
+outcome p l (refuse_if false n k v) = outcome p l v
 outcome p l (judge j) = judged p j
 
 -- What each public call promises: its answer, every byte of the position and every byte of the lent buffer afterwards
@@ -65,11 +65,11 @@ pub record Met (p l : List ℕ) (v : Verdict) (a : Ruling) (q m : List ℕ) : Ty
   pub lends : m ≡ (outcome p l v).lent
 
 -- the units that a judgement turns over
-unfoldable pub revealedBy : List ℕ → Judge → List ℕ
-revealedBy p (reveal u k) = u ∷ revealedBy (turned p u) (k (strength p u))
-revealedBy p (rule vs xs l) = []
+unfoldable pub revealed_by : List ℕ → Judge → List ℕ
+revealed_by p (reveal u k) = u ∷ revealed_by (turned p u) (k (strength p u))
+revealed_by p (rule vs xs l) = []
 
 unfoldable pub revealed : List ℕ → Verdict → List ℕ
-revealed p (refuseIf true n k v) = []
-revealed p (refuseIf false n k v) = revealed p v
-revealed p (judge j) = revealedBy p j
+revealed p (refuse_if true n k v) = []
+revealed p (refuse_if false n k v) = revealed p v
+revealed p (judge j) = revealed_by p j

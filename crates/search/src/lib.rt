@@ -2,7 +2,7 @@
 ghost use Rattle.std.specs.Prelude.{◌≡◌, ◌+◌, ◌<◌, ◌≤◌, length};
 ghost use Rattle.plot.specs.Plot.{shifted};
 ghost use Rattle.plot.specs.Ends.{Blank};
-ghost use Rattle.plot.specs.Search.{servesIn, overIn, shovesIn};
+ghost use Rattle.plot.specs.Search.{serves_in, over_in, shoves_in};
 
 use chains::Stand;
 use grid::Beside;
@@ -11,7 +11,7 @@ use plot::chain;
 // Whether the group goes from place `a` over place `x` as its last step.
 fn last_over(plot: &[u8; 182], home: usize, i: usize, a: usize, x: usize) -> bool
     requires { (length plot.now ≡ 182) × (home < 182) × (a < 182) × (x < 182) × (i ≤ 2) }
-    ensures { result ≡ overIn home plot.now 0 i a x }
+    ensures { result ≡ over_in home plot.now 0 i a x }
 {
     if grid::distance(plot::WIDE, plot::HIGH, home, x) != i + 1 {
         return false;
@@ -26,7 +26,7 @@ fn last_over(plot: &[u8; 182], home: usize, i: usize, a: usize, x: usize) -> boo
 // Whether it has a last step from place `a`: then no chain's end matters.
 fn last(plot: &[u8; 182], home: usize, i: usize, a: usize) -> bool
     requires { (length plot.now ≡ 182) × (home < 182) × (a < 182) × (i ≤ 2) }
-    ensures { result ≡ servesIn home plot.now 1 i a }
+    ensures { result ≡ serves_in home plot.now 1 i a }
 {
     for d in 0..6 {
         let Beside::At(x) = plot::next_in(plot, a, d) else {
@@ -43,7 +43,7 @@ fn last(plot: &[u8; 182], home: usize, i: usize, a: usize) -> bool
 #[cycle(go_on_over_serves_shoves_with_end_with_ends)]
 fn go_on(plot: &mut [u8; 182], home: usize, k: usize, i: usize, a: usize) -> bool
     requires { (length plot.old ≡ 182) × (home < 182) × (a < 182) × (k + i ≤ 3) }
-    ensures { (result ≡ servesIn home plot.old k i a) × (plot.new ≡ plot.old) }
+    ensures { (result ≡ serves_in home plot.old k i a) × (plot.new ≡ plot.old) }
 {
     if k == 0 {
         return true;
@@ -58,7 +58,7 @@ fn go_on(plot: &mut [u8; 182], home: usize, k: usize, i: usize, a: usize) -> boo
 #[cycle(go_on_over_serves_shoves_with_end_with_ends)]
 fn with_end(plot: &mut [u8; 182], home: usize, k: usize, i: usize, x: usize, y: usize) -> bool
     requires { (length plot.old ≡ 182) × (home < 182) × (x < 182) × (y < 182) × (k + i ≤ 2) }
-    ensures { (result ≡ servesIn home (shifted plot.old x y) k (i + 1) x) × (plot.new ≡ plot.old) }
+    ensures { (result ≡ serves_in home (shifted plot.old x y) k (i + 1) x) × (plot.new ≡ plot.old) }
 {
     let from = plot[x];
     let to = plot[y];
@@ -81,7 +81,7 @@ fn with_ends(
     x: usize,
 ) -> bool
     requires { (length plot.old ≡ 182) × Blank ends.old × (home < 182) × (a < 182) × (x < 182) × (k + i ≤ 2) }
-    ensures { (result ≡ shovesIn home plot.old k i a x) × (plot.new ≡ plot.old) }
+    ensures { (result ≡ shoves_in home plot.old k i a x) × (plot.new ≡ plot.old) }
 {
     let own = chain::own(a);
     chain::gather(plot, ends, x, own, 3, x);
@@ -100,7 +100,7 @@ fn with_ends(
 #[cycle(go_on_over_serves_shoves_with_end_with_ends)]
 fn shoves(plot: &mut [u8; 182], home: usize, k: usize, i: usize, a: usize, x: usize) -> bool
     requires { (length plot.old ≡ 182) × (home < 182) × (a < 182) × (x < 182) × (k + i ≤ 2) }
-    ensures { (result ≡ shovesIn home plot.old k i a x) × (plot.new ≡ plot.old) }
+    ensures { (result ≡ shoves_in home plot.old k i a x) × (plot.new ≡ plot.old) }
 {
     let mut ends = [0u8; 12];
     with_ends(plot, &mut ends, home, k, i, a, x)
@@ -110,7 +110,7 @@ fn shoves(plot: &mut [u8; 182], home: usize, k: usize, i: usize, a: usize, x: us
 #[cycle(go_on_over_serves_shoves_with_end_with_ends)]
 fn over(plot: &mut [u8; 182], home: usize, k: usize, i: usize, a: usize, x: usize) -> bool
     requires { (length plot.old ≡ 182) × (home < 182) × (a < 182) × (x < 182) × (k + i ≤ 2) }
-    ensures { (result ≡ overIn home plot.old k i a x) × (plot.new ≡ plot.old) }
+    ensures { (result ≡ over_in home plot.old k i a x) × (plot.new ≡ plot.old) }
 {
     if grid::distance(plot::WIDE, plot::HIGH, home, x) != i + 1 {
         return false;
@@ -127,7 +127,7 @@ fn over(plot: &mut [u8; 182], home: usize, k: usize, i: usize, a: usize, x: usiz
 #[cycle(go_on_over_serves_shoves_with_end_with_ends)]
 fn serves(plot: &mut [u8; 182], home: usize, k: usize, i: usize, a: usize) -> bool
     requires { (length plot.old ≡ 182) × (home < 182) × (a < 182) × (k + i ≤ 3) × (2 ≤ k) }
-    ensures { (result ≡ servesIn home plot.old k i a) × (plot.new ≡ plot.old) }
+    ensures { (result ≡ serves_in home plot.old k i a) × (plot.new ≡ plot.old) }
 {
     for d in 0..6 {
         let Beside::At(x) = plot::next_in(plot, a, d) else {
@@ -144,7 +144,7 @@ fn serves(plot: &mut [u8; 182], home: usize, k: usize, i: usize, a: usize) -> bo
 // that the compiled recursion is that of `serves`, in which the last step has no turn.
 pub fn begins(plot: &mut [u8; 182], home: usize, k: usize) -> bool
     requires { (length plot.old ≡ 182) × (home < 182) × (k ≤ 3) }
-    ensures { (result ≡ servesIn home plot.old k 0 home) × (plot.new ≡ plot.old) }
+    ensures { (result ≡ serves_in home plot.old k 0 home) × (plot.new ≡ plot.old) }
 {
     if k == 0 {
         return true;

@@ -7,7 +7,7 @@ use native.Mathlib.Omega.{arith}
 use native.Mathlib.Decide.{dec_lt, ℕ_discrete}
 use Rattle.grid.specs.Map.{On}
 use Rattle.survey.specs.Rim.{RimHex, RimNext}
-use Rattle.survey.proofs.Rims.{rim-first}
+use Rattle.survey.proofs.Rims.{rim_first}
 use Rattle.position.specs.declared.View.{View}
 use Rattle.position.specs.Layout.{hexes}
 use Rattle.position.specs.Board.{Map, ground}
@@ -15,7 +15,7 @@ use Rattle.position.specs.Ground.{stored}
 use Rattle.position.specs.Laid.{Laid}
 use Rattle.position.proofs.Answers.{Passed, none_yet}
 use Rattle.position.proofs.Shapes.{sizes}
-use Rattle.position.proofs.Sides.{beside-view}
+use Rattle.position.proofs.Sides.{beside_view}
 use Rattle.setting.specs.Rim.{EdgesOk}
 
 -- a hex with nothing at any of its sides has nothing at the map's edge
@@ -42,11 +42,11 @@ module _ {p : List ℕ} {v : View} (l : Laid p v) where
       let s = sizes l in
       record { wide = s.width.low; wide64 = s.width.high; high = s.height.low; high64 = s.height.high; below = omega (arith, area) }
 
-  pub round-begins : Round p v 0
-  round-begins = record { passed = none_yet; rim = λ k. rim-first (first k) }
+  pub round_begins : Round p v 0
+  round_begins = record { passed = none_yet; rim = λ k. rim_first (first k) }
 
-  pub round-goes-on : {x r : ℕ} → Round p v x → EdgesOk (ground p) x → RimNext v.width v.height x r → Round p v r
-  round-goes-on {x} {r} s e n =
+  pub round_goes_on : {x r : ℕ} → Round p v x → EdgesOk (ground p) x → RimNext v.width v.height x r → Round p v r
+  round_goes_on {x} {r} s e n =
       record {
         passed = record { most = omega (arith, area, n.most); held = λ y k. at y k (dec_lt y x) (ℕ_discrete y x) };
         rim = λ k. n.rim (omega (arith, area));
@@ -56,4 +56,4 @@ module _ {p : List ℕ} {v : View} (l : Laid p v) where
       at y k (yes b) q = s.passed.held y b
       at y k (no b) (yes q) = subst (EdgesOk (ground p)) (sym q) e
       at y k (no b) (no q) =
-          λ d a. record { plain = λ o. absurd (n.between y d (omega arith) k a (beside-view l.view y d ∙ o)) }
+          λ d a. record { plain = λ o. absurd (n.between y d (omega arith) k a (beside_view l.view y d ∙ o)) }

@@ -48,16 +48,16 @@ off? Off = yes refl
 off? (At n) = no (λ e. let z : ◌≡◌ {A = ℕ} 0 1 = cc in omega arith)
 
 -- whether a decision says no
-unfoldable pub answersNo : {A : Type 0} → Dec A → Bool
-answersNo (yes a) = false
-answersNo (no h) = true
+unfoldable pub answers_no : {A : Type 0} → Dec A → Bool
+answers_no (yes a) = false
+answers_no (no h) = true
 
-pub says-no : {A : Type 0} (d : Dec A) → (A → ⊥) → answersNo d ≡ true
-unfolding answersNo
-says-no (yes a) n = absurd (n a)
-says-no (no h) n = refl
+pub says_no : {A : Type 0} (d : Dec A) → (A → ⊥) → answers_no d ≡ true
+unfolding answers_no
+says_no (yes a) n = absurd (n a)
+says_no (no h) n = refl
 
-pub says-yes : {A : Type 0} (d : Dec A) → A → answersNo d ≡ false
-unfolding answersNo
-says-yes (yes a) x = refl
-says-yes (no h) x = absurd (h x)
+pub says_yes : {A : Type 0} (d : Dec A) → A → answers_no d ≡ false
+unfolding answers_no
+says_yes (yes a) x = refl
+says_yes (no h) x = absurd (h x)

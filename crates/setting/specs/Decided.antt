@@ -6,7 +6,7 @@ use Rattle.std.proofs.Math.Decide.{dec_le, dec_lt, ℕ_discrete}
 use Rattle.position.specs.Board.{Chart, Results, Map}
 use Rattle.position.specs.Ground.{beside, stored}
 use Rattle.position.specs.Shape.{In}
-use Rattle.position.specs.Layout.{dieFaces}
+use Rattle.position.specs.Layout.{die_faces}
 use Rattle.setting.specs.Setting.{TerrainOk, ColumnOk, RisingOk, ResultsOk, EdgeOk, HexOk, MapOk}
 use Rattle.setting.specs.Decide.{iff, both, given, below, off?}
 
@@ -23,7 +23,7 @@ unfoldable pub column? : (r : Results) (c : ℕ) → Dec (ColumnOk r c)
 column? r c =
     iff (λ x. record { attack = x.0; defence = x.1.0; codes = x.1.1 }) (λ s. (s.attack, (s.defence, s.codes)))
     (both (in? 1 (r.attack c) 20)
-    (both (in? 1 (r.defence c) 20) (below (λ die. in? 1 (r.code c (die + 1)) 10) dieFaces)))
+    (both (in? 1 (r.defence c) 20) (below (λ die. in? 1 (r.code c (die + 1)) 10) die_faces)))
 
 unfoldable pub rising? : (r : Results) (c : ℕ) → Dec (RisingOk r c)
 rising? r c =

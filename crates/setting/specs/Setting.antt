@@ -5,7 +5,7 @@ use Rattle.grid.specs.declared.Beside.TheVariants.{Off}
 use Rattle.position.specs.Board.{Chart, Results, Map}
 use Rattle.position.specs.Ground.{beside, stored}
 use Rattle.position.specs.Shape.{In}
-use Rattle.position.specs.Layout.{chartRows, dieFaces}
+use Rattle.position.specs.Layout.{chart_rows, die_faces}
 
 -- "cost 0..9 (0 means prohibited) and defence multiple 1..4"
 pub record TerrainOk (c : Chart) (t : ℕ) : Type 0 where
@@ -14,13 +14,13 @@ pub record TerrainOk (c : Chart) (t : ℕ) : Type 0 where
 
 -- "16 terrains ..; then the same pair for river and major river"
 abbrev pub ChartOk : Chart → Type 0
-ChartOk c = (t : ℕ) → t < chartRows → TerrainOk c t
+ChartOk c = (t : ℕ) → t < chart_rows → TerrainOk c t
 
 -- "a, d (1..20 each ..), then six results for die 1..6. Codes: 1..3 D1..D3, 4..6 A1..A3, 7 Ae, 8 De, 9 Dx, 10 Ax."
 pub record ColumnOk (r : Results) (c : ℕ) : Type 0 where
   pub attack : In 1 (r.attack c) 20
   pub defence : In 1 (r.defence c) 20
-  pub codes : (die : ℕ) → die < dieFaces → In 1 (r.code c (die + 1)) 10
+  pub codes : (die : ℕ) → die < die_faces → In 1 (r.code c (die + 1)) 10
 
 -- "a:d strictly rising": the ratio grows from column c to the next
 pub record RisingOk (r : Results) (c : ℕ) : Type 0 where

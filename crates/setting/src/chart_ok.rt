@@ -1,6 +1,6 @@
 // The lines of document 01 on chart and results: each function answers 0 if they are kept, else where one is broken.
 ghost use Rattle.std.specs.Prelude.{◌≡◌, ℕ, ◌+◌, ◌/◌, ◌%◌, ◌<◌};
-ghost use Rattle.position.specs.Layout.{chartRows, columns, dieFaces};
+ghost use Rattle.position.specs.Layout.{chart_rows, columns, die_faces};
 ghost use Rattle.position.specs.Board.{chart, results};
 ghost use Rattle.position.specs.Shape.{In};
 ghost use Rattle.setting.specs.Setting.{TerrainOk, ChartOk, ColumnOk, RisingOk, ResultsOk};
@@ -12,7 +12,7 @@ use position::{View, layout, read};
 
 // A row's two numbers as one, cost + 256 x multiple.
 fn row(p: &[u8], v: View, t: usize) -> usize
-    requires { Laid p.now v × (t < chartRows) }
+    requires { Laid p.now v × (t < chart_rows) }
     ensures { (result % 256 ≡ (chart p.now).cost t) × (result / 256 ≡ (chart p.now).multiple t) }
 {
     let at = layout::CHART + layout::TERRAIN_SIZE * t;
@@ -21,7 +21,7 @@ fn row(p: &[u8], v: View, t: usize) -> usize
 
 // Both are measured, whatever the first one says: without a branch between them the compiler measures many rows at once.
 fn terrain_fits(p: &[u8], v: View, t: usize) -> bool
-    requires { Laid p.now v × (t < chartRows) }
+    requires { Laid p.now v × (t < chart_rows) }
     ensures { Says result (TerrainOk (chart p.now) t) }
 {
     let both = row(p, v, t);
@@ -42,7 +42,7 @@ fn chart_fits(p: &[u8], v: View) -> bool
 
 // The same numbers one by one: which is out of its range.
 fn terrain_ok(p: &[u8], v: View, t: usize) -> usize
-    requires { Laid p.now v × (t < chartRows) }
+    requires { Laid p.now v × (t < chart_rows) }
     ensures { Tells (Breaks p.now t) result (TerrainOk (chart p.now) t) }
 {
     if 9 < read::cost(p, v, t) {
@@ -86,7 +86,7 @@ fn column_fits(p: &[u8], v: View, c: usize) -> bool
 // The six codes of a column.
 fn codes_ok(p: &[u8], v: View, c: usize) -> usize
     requires { Laid p.now v × (c < columns p.now) }
-    ensures { Tells (Flaw p.now) result ((die : ℕ) → die < dieFaces → In 1 ((results p.now).code c (die + 1)) 10) }
+    ensures { Tells (Flaw p.now) result ((die : ℕ) → die < die_faces → In 1 ((results p.now).code c (die + 1)) 10) }
 {
     for die in 0..layout::DIE_FACES {
         if !shape::within(1, read::code(p, v, c, die + 1), 10) {

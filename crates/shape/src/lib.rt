@@ -1,6 +1,6 @@
 // The contents: five entries, and the bodies that they name, without gap or tail. Where they do not lie so, a flaw says which line is broken.
 ghost use Rattle.std.specs.Prelude.{◌≡◌, ◌+◌, ◌*◌, ◌<◌, ◌≤◌, length};
-ghost use Rattle.position.specs.Layout.{deskBody, chartAt, columns, width, height};
+ghost use Rattle.position.specs.Layout.{desk_body, chart_at, columns, width, height};
 ghost use Rattle.position.specs.Shape.{In, Entry};
 ghost use Rattle.position.specs.Laid.{Says};
 ghost use Rattle.flaw.specs.Tells.{LaidOf, SizedOf};
@@ -90,7 +90,7 @@ fn sized(p: &[u8]) -> Found
 
 // Whether entry `k` of the contents names a body that begins at `at` and is `long` bytes long.
 fn entry(p: &[u8], k: usize, at: usize, long: usize) -> bool
-    requires { (k ≤ deskBody) × (chartAt ≤ length p.now) }
+    requires { (k ≤ desk_body) × (chart_at ≤ length p.now) }
     ensures { Says result (Entry p.now k at long) }
 {
     if layout::word(p, layout::ENTRY_SIZE * k) != at {

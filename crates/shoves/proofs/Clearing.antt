@@ -17,14 +17,14 @@ use Rattle.position.specs.Effect.{changes}
 use Rattle.position.specs.Laid.{Laid}
 use Rattle.position.specs.Shape.{Shaped}
 use Rattle.position.specs.declared.View.{View}
-use Rattle.position.proofs.Changes.{board-makes, laid-makes, makes-then}
+use Rattle.position.proofs.Changes.{board_makes, laid_makes, makes_then}
 use Rattle.field.specs.Scene.{scene}
 use Rattle.field.specs.Zone.{vacant}
-use Rattle.shoves.specs.Shoves.{Chained, ChainEnds, Cleared, clears, out_of, stackTo}
+use Rattle.shoves.specs.Shoves.{Chained, ChainEnds, Cleared, clears, out_of, stack_to}
 
 -- the numbers from k on, of which there is one
-pub drop-next : (xs : List ℕ) (k : ℕ) → k < length xs → drop k xs ≡ get_or xs k 0 ∷ drop (k + 1) xs
-drop-next xs k l = rw (add-one k) (drop-cons xs k 0 l)
+pub drop_next : (xs : List ℕ) (k : ℕ) → k < length xs → drop k xs ≡ get_or xs k 0 ∷ drop (k + 1) xs
+drop_next xs k l = rw (add-one k) (drop-cons xs k 0 l)
 
 -- hex h of position p is cleared by the pushes from number k on: those from number r on are left over, and the position is q then
 abbrev pub Clear : List ℕ → ℕ → List ℕ → ℕ → ℕ → List ℕ → Type 0
@@ -41,53 +41,53 @@ still ps = record { done = []; left = ps }
 abbrev pushed : Board → ℕ → ℕ → List ℕ → Cleared
 pushed b h z ps =
     record {
-      done = (clears b z ps).done ++ stackTo (changes b (clears b z ps).done) h z;
+      done = (clears b z ps).done ++ stack_to (changes b (clears b z ps).done) h z;
       left = (clears b z ps).left;
     }
 
 module _ (b : Board) (h : ℕ) where
-  clears-vacant : (ps : List ℕ) → vacant (scene b) h ≡ true → clears b h ps ≡ still ps
+  clears_vacant : (ps : List ℕ) → vacant (scene b) h ≡ true → clears b h ps ≡ still ps
   unfolding clears
-  clears-vacant [] e = refl
-  clears-vacant (z ∷ ps) e = simp e
+  clears_vacant [] e = refl
+  clears_vacant (z ∷ ps) e = simp e
 
-  clears-held : (z : ℕ) (ps : List ℕ) → vacant (scene b) h ≡ false → clears b h (z ∷ ps) ≡ pushed b h z ps
+  clears_held : (z : ℕ) (ps : List ℕ) → vacant (scene b) h ≡ false → clears b h (z ∷ ps) ≡ pushed b h z ps
   unfolding clears
-  clears-held z ps e = simp e
+  clears_held z ps e = simp e
 
 module _ (p : List ℕ) (h : ℕ) (pushes : List ℕ) (k : ℕ) where
-  done-still : k ≤ length pushes → clears (board p) h (drop k pushes) ≡ still (drop k pushes) → Clear p h pushes k k p
+  done_still : k ≤ length pushes → clears (board p) h (drop k pushes) ≡ still (drop k pushes) → Clear p h pushes k k p
   unfolding makes
-  done-still l e = (l, sym (ap (λ (c : Cleared). c.left) e), sym (ap (λ (c : Cleared). makes p c.done) e))
+  done_still l e = (l, sym (ap (λ (c : Cleared). c.left) e), sym (ap (λ (c : Cleared). makes p c.done) e))
 
   -- no push is left
   pub clear_none : k ≤ length pushes → length pushes ≤ k → Clear p h pushes k k p
   unfolding clears
   clear_none l m =
       let e : drop k pushes ≡ [] = drop_of_length-le pushes {i = k} m in
-      done-still l (ap (clears (board p) h) e ∙ ap still (sym e))
+      done_still l (ap (clears (board p) h) e ∙ ap still (sym e))
 
   -- nobody stands there
-  pub clear-vacant : k ≤ length pushes → vacant (scene (board p)) h ≡ true → Clear p h pushes k k p
-  clear-vacant l e = done-still l (clears-vacant (board p) h (drop k pushes) e)
+  pub clear_vacant : k ≤ length pushes → vacant (scene (board p)) h ≡ true → Clear p h pushes k k p
+  clear_vacant l e = done_still l (clears_vacant (board p) h (drop k pushes) e)
 
   -- a push is left, and somebody stands there
   pub clear-held :
       Shaped p → k < length pushes → vacant (scene (board p)) h ≡ false → {r : ℕ} {q m : List ℕ}
-      → Clear p (get_or pushes k 0) pushes (k + 1) r q → m ≡ makes q (stackTo (board q) h (get_or pushes k 0)) → Clear p h pushes k r m
+      → Clear p (get_or pushes k 0) pushes (k + 1) r q → m ≡ makes q (stack_to (board q) h (get_or pushes k 0)) → Clear p h pushes k r m
   clear-held s l e {r} {q} c f =
       let b = board p in
       let z = get_or pushes k 0 in
       let xs = (clears b z (drop (k + 1) pushes)).done in
       let y : clears b h (drop k pushes) ≡ pushed b h z (drop (k + 1) pushes) =
-      ap (clears b h) (drop-next pushes k l) ∙ clears-held b h z (drop (k + 1) pushes) e
+      ap (clears b h) (drop_next pushes k l) ∙ clears_held b h z (drop (k + 1) pushes) e
       in
-      let a : board q ≡ changes b xs = ap board c.2 ∙ board-makes s xs in (
+      let a : board q ≡ changes b xs = ap board c.2 ∙ board_makes s xs in (
         c.0,
         c.1 ∙ sym (ap (λ (x : Cleared). x.left) y),
         f
-            ∙ ap₂ (λ (l : List ℕ) (d : Board). makes l (stackTo d h z)) c.2 a
-            ∙ sym (makes-then xs (stackTo (changes b xs) h z) p)
+            ∙ ap₂ (λ (l : List ℕ) (d : Board). makes l (stack_to d h z)) c.2 a
+            ∙ sym (makes_then xs (stack_to (changes b xs) h z) p)
             ∙ ap (λ (x : Cleared). makes p x.done) (sym y),
       )
 
@@ -98,13 +98,13 @@ module _ (h : ℕ) (ps : List ℕ) (k : ℕ) where
   out_first j l = simp (le-leb j k l)
 
   -- each other takes that of the hex before it
-  pub out-later : (j : ℕ) → k < j → out_of h ps k j ≡ get_or ps (j - 1) 0
+  pub out_later : (j : ℕ) → k < j → out_of h ps k j ≡ get_or ps (j - 1) 0
   unfolding out_of
-  out-later j l = simp (lt-leb j k l)
+  out_later j l = simp (lt-leb j k l)
 
 module _ {b : Board} {h : ℕ} {ps : List ℕ} {k : ℕ} where
-  pub chain-none : k ≤ length ps → Chained b h ps k k
-  chain-none l = record { first = omega arith; few = l; held = λ j i m. absurd (omega (arith, i, m)) }
+  pub chain_none : k ≤ length ps → Chained b h ps k k
+  chain_none l = record { first = omega arith; few = l; held = λ j i m. absurd (omega (arith, i, m)) }
 
   pub chain_more : {e : ℕ} → Chained b h ps k e → e < length ps → vacant (scene b) (out_of h ps k e) ≡ false → Chained b h ps k (e + 1)
   chain_more {e} c l x =
@@ -123,25 +123,25 @@ pub record DoneFrom (p₀ : List ℕ) (v : View) (h : ℕ) (ps : List ℕ) (k e 
 
 module _ {p₀ : List ℕ} {v : View} {h : ℕ} {ps : List ℕ} {k e : ℕ} where
   pub done_none : Laid p₀ v → ChainEnds (board p₀) h ps k e → DoneFrom p₀ v h ps k e p₀ e
-  done_none l c = record { first = c.chained.first; most = omega arith; laid = l; cleared = still-at (dec_lt e (length ps)) }
+  done_none l c = record { first = c.chained.first; most = omega arith; laid = l; cleared = still_at (dec_lt e (length ps)) }
     where
-      still-at : Dec (e < length ps) → Clear p₀ (out_of h ps k e) ps e e p₀
-      still-at (yes x) = clear-vacant p₀ (out_of h ps k e) ps e c.chained.few (c.ends x)
-      still-at (no x) = clear_none p₀ (out_of h ps k e) ps e c.chained.few (omega (arith, x))
+      still_at : Dec (e < length ps) → Clear p₀ (out_of h ps k e) ps e e p₀
+      still_at (yes x) = clear_vacant p₀ (out_of h ps k e) ps e c.chained.few (c.ends x)
+      still_at (no x) = clear_none p₀ (out_of h ps k e) ps e c.chained.few (omega (arith, x))
 
   pub done_more :
       {p q : List ℕ} {j : ℕ} → Laid p₀ v → ChainEnds (board p₀) h ps k e → DoneFrom p₀ v h ps k e p j → k < j
-      → q ≡ makes p (stackTo (board p) (out_of h ps k (j - 1)) (get_or ps (j - 1) 0)) → DoneFrom p₀ v h ps k e q (j - 1)
+      → q ≡ makes p (stack_to (board p) (out_of h ps k (j - 1)) (get_or ps (j - 1) 0)) → DoneFrom p₀ v h ps k e q (j - 1)
   done_more {p} {q} {j} l c u i f =
       let x : j ≡ j - 1 + 1 = omega arith in
       record {
         first = omega arith;
         most = omega (arith, u.most);
-        laid = laid-makes _ u.laid f;
+        laid = laid_makes _ u.laid f;
         cleared =
             clear-held p₀ (out_of h ps k (j - 1)) ps (j - 1) l.shaped (omega (arith, u.most, c.chained.few))
             (c.chained.held (j - 1) (omega arith) (omega (arith, u.most)))
-            (subst (λ (m : ℕ). Clear p₀ (get_or ps (j - 1) 0) ps m e p) x (subst (λ (m : ℕ). Clear p₀ m ps j e p) (out-later h ps k j i) u.cleared))
+            (subst (λ (m : ℕ). Clear p₀ (get_or ps (j - 1) 0) ps m e p) x (subst (λ (m : ℕ). Clear p₀ m ps j e p) (out_later h ps k j i) u.cleared))
             f;
       }
 

@@ -6,32 +6,32 @@ use mathlib.Core.Bool.{true, false, not}
 use mathlib.Core.List.{List, [], ◌∷◌, ◌++◌}
 use native.Mathlib.Omega.{arith}
 use borrow.Author.Tests.{eq-eqb, eqb-true, ne_eqb, not-true}
-use Rattle.position.specs.Board.{Board, forceOf, nowhere}
-use Rattle.position.specs.Crowd.{owesAt}
+use Rattle.position.specs.Board.{Board, force_of, nowhere}
+use Rattle.position.specs.Crowd.{owes_at}
 use Rattle.position.specs.Ground.{standable}
 use Rattle.position.specs.Effect.{changes}
 use Rattle.position.specs.Role as Role
-use Rattle.position.proofs.Tallies.{both_yes, either, not-both, same_or}
-use Rattle.acceptance.proofs.Carries.{Fixed, changes-then, force-by}
-use Rattle.acceptance.proofs.Lawfuls.{standable-on}
+use Rattle.position.proofs.Tallies.{both_yes, either, not_both, same_or}
+use Rattle.acceptance.proofs.Carries.{Fixed, changes_then, force_by}
+use Rattle.acceptance.proofs.Lawfuls.{standable_on}
 use Rattle.acceptance.proofs.Since.{Since}
-use Rattle.acceptance.proofs.Stills.{fixed-trans}
+use Rattle.acceptance.proofs.Stills.{fixed_trans}
 use Rattle.field.specs.Listed.{named}
 use Rattle.field.specs.Scene.{scene}
-use Rattle.field.specs.Zone.{standsOn, vacant}
-use Rattle.field.proofs.Lists.{named-nil}
-use Rattle.field.proofs.Named.{named_more, sieve-each, sieve-names, unnamed-parts}
+use Rattle.field.specs.Zone.{stands_on, vacant}
+use Rattle.field.proofs.Lists.{named_nil}
+use Rattle.field.proofs.Named.{named_more, sieve_each, sieve_names, unnamed_parts}
 use Rattle.field.proofs.Zones.{stands_here}
 use Rattle.routes.specs.Bears.{bears}
 use Rattle.chains.specs.declared.Stand.{Stand}
 use Rattle.chains.specs.declared.Stand.TheVariants.{Shut, Free, Loose}
-use Rattle.chains.specs.Stand.{apart, stand, isFree, isLoose}
+use Rattle.chains.specs.Stand.{apart, stand, is_free, is_loose}
 use Rattle.chains.specs.Chain.{Ways, Stands, Chain, rest, push, rests, yields, after}
 use Rattle.shoves.specs.Group.{stack}
-use Rattle.shoves.specs.Shoves.{Cleared, clears, shifts, stackTo}
+use Rattle.shoves.specs.Shoves.{Cleared, clears, shifts, stack_to}
 use Rattle.shoves.proofs.KeepZone.{bears-same}
-use Rattle.shoves.proofs.KeepMove.{Going, Goes, all-gone, vacant-none}
-use Rattle.shoves.proofs.Standing.{Light, IsLoose, apart-here, apart-off, apart-same, apart-stands, firm-same, free-is, free-vacant, is_free, is-loose, light-is, loose-held, loose-is, stand-same}
+use Rattle.shoves.proofs.KeepMove.{Going, Goes, all-gone, vacant_none}
+use Rattle.shoves.proofs.Standing.{Light, IsLoose, apart_here, apart_off, apart-same, apart_stands, firm_same, free_is, free_vacant, is_free_lem, is_loose_lem, light_is, loose_held, loose_is, stand-same}
 
 -- board c, since board b, after pushes: nobody's role has changed, and who owes stands where it stood, as does whoever is of another force
 pub record Pushes (o b : Board) (f : ℕ) (c : Board) : Type 0 where
@@ -40,7 +40,7 @@ pub record Pushes (o b : Board) (f : ℕ) (c : Board) : Type 0 where
   pub desk : c.desk ≡ b.desk
   pub roles : (w : ℕ) → w < b.units.count → c.units.state.role w ≡ b.units.state.role w
   pub still : (w : ℕ) → w < b.units.count → b.units.state.role w ≡ Role.owes → c.units.state.hex w ≡ b.units.state.hex w
-  pub others : (w : ℕ) → w < b.units.count → (forceOf b w ≡ f → ⊥) → c.units.state.hex w ≡ b.units.state.hex w
+  pub others : (w : ℕ) → w < b.units.count → (force_of b w ≡ f → ⊥) → c.units.state.hex w ≡ b.units.state.hex w
 
 -- and hex x is empty, while a stack that can be pushed stands in hex y
 pub record Shifted (o b : Board) (f a x y : ℕ) (c : Board) : Type 0 where
@@ -48,16 +48,16 @@ pub record Shifted (o b : Board) (f a x y : ℕ) (c : Board) : Type 0 where
   pub stands : stand c f a ≡ after (stand b f a) x y
   pub empty : vacant (scene c) x ≡ true
 
-pub bears-stands : (b : Board) (f h : ℕ) → bears b f h ≡ true → standable b h ≡ true
+pub bears_stands : (b : Board) (f h : ℕ) → bears b f h ≡ true → standable b h ≡ true
 unfolding bears
-bears-stands b f h e = (both_yes (standable b h) _ e).0
+bears_stands b f h e = (both_yes (standable b h) _ e).0
 
 module _ {o b : Board} (s : Since o b) (most : o.map.hexes ≤ nowhere) (f a : ℕ) where
   small : b.map.hexes ≤ nowhere
   small = rw s.fixed.map most
 
-  pub real-hex : (h : ℕ) → standable b h ≡ true → h ≡ nowhere → ⊥
-  real-hex h e z = omega (arith, standable-on b h e, small)
+  pub real_hex : (h : ℕ) → standable b h ≡ true → h ≡ nowhere → ⊥
+  real_hex h e z = omega (arith, standable_on b h e, small)
 
   -- one stack goes to a vacant hex
   module _
@@ -67,43 +67,43 @@ module _ {o b : Board} (s : Since o b) (most : o.map.hexes ≤ nowhere) (f a : �
       (v : vacant (scene b) z ≡ true)
       (q : bears b f z ≡ true) where
     abbrev moved : Board
-    moved = changes b (stackTo b h z)
+    moved = changes b (stack_to b h z)
 
-    on-hex : (w : ℕ) → w < b.units.count → standsOn (scene b) h w ≡ true → b.units.state.hex w ≡ h
-    unfolding standsOn
-    on-hex w l e = eqb-true (b.units.state.hex w) h e
+    on_hex : (w : ℕ) → w < b.units.count → stands_on (scene b) h w ≡ true → b.units.state.hex w ≡ h
+    unfolding stands_on
+    on_hex w l e = eqb-true (b.units.state.hex w) h e
 
     goes : Goes z (λ u. false) false (shifts z)
     unfolding shifts
     goes = record { is = λ u. refl }
 
-    going : Going o b z (standsOn (scene b) h) (λ u. false) false [] moved
-    unfolding stackTo stack
+    going : Going o b z (stands_on (scene b) h) (λ u. false) false [] moved
+    unfolding stack_to stack
     going =
-        let t = standsOn (scene b) h in
-        all-gone s most h z t (λ u. false) false on-hex (real-hex h (bears-stands b f h i.bear)) (bears-stands b f z q) v (shifts z) goes (stack b h)
-        (sieve-each t b.units.count)
-        (sieve-names t b.units.count)
+        let t = stands_on (scene b) h in
+        all-gone s most h z t (λ u. false) false on_hex (real_hex h (bears_stands b f h i.bear)) (bears_stands b f z q) v (shifts z) goes (stack b h)
+        (sieve_each t b.units.count)
+        (sieve_names t b.units.count)
 
     light : (w : ℕ) → w < b.units.count → b.units.state.hex w ≡ h → Light b f w
-    light w l e = light-is b f w (i.light w l (apart-here b a h w n e))
+    light w l e = light_is b f w (i.light w l (apart_here b a h w n e))
 
     -- a unit of the stack has gone, any other stands where it stood
     fate :
         {A : Type 0} (w : ℕ) → w < b.units.count → (b.units.state.hex w ≡ h → moved.units.state.hex w ≡ z → A)
         → ((b.units.state.hex w ≡ h → ⊥) → moved.units.state.hex w ≡ b.units.state.hex w → A) → A
     fate w l here else =
-        let t = standsOn (scene b) h in
+        let t = stands_on (scene b) h in
         either (t w)
-        (λ e. here (on-hex w l e) (going.went w l e refl (named-nil w)).0)
+        (λ e. here (on_hex w l e) (going.went w l e refl (named_nil w)).0)
         (λ e.
         same_or (b.units.state.hex w) h
-        (λ y. not-both (t w) (stands_here (scene b) h w y) e)
+        (λ y. not_both (t w) (stands_here (scene b) h w y) e)
         (λ y. else y (going.kept w e).hex))
 
     role_same : (w : ℕ) → w < b.units.count → moved.units.state.role w ≡ b.units.state.role w
     role_same w l =
-        let t = standsOn (scene b) h in
+        let t = stands_on (scene b) h in
         either (t w) (λ e. going.held w l e refl refl) (λ e. (going.kept w e).role)
 
     pub pushed : Pushes o b f moved
@@ -117,8 +117,8 @@ module _ {o b : Board} (s : Since o b) (most : o.map.hexes ≤ nowhere) (f a : �
           others = λ w l e. fate w l (λ y _. absurd (e (light w l y).own)) (λ _ y. y);
         }
 
-    apart-hex : h ≡ z → ⊥
-    apart-hex e = vacant-none b z i.unit v i.counted (apart-stands b a h i.unit i.there ∙ e)
+    apart_hex : h ≡ z → ⊥
+    apart_hex e = vacant_none b z i.unit v i.counted (apart_stands b a h i.unit i.there ∙ e)
 
     bear : (y : ℕ) → bears moved f y ≡ bears b f y
     bear = bears-same f pushed.fixed pushed.others
@@ -126,41 +126,41 @@ module _ {o b : Board} (s : Since o b) (most : o.map.hexes ≤ nowhere) (f a : �
     count : moved.units.count ≡ b.units.count
     count = pushed.fixed.count
 
-    empty-hex : (w : ℕ) → w < b.units.count → moved.units.state.hex w ≡ h → ⊥
-    empty-hex w l e = fate w l (λ _ y. apart-hex (sym e ∙ y)) (λ y r. y (sym r ∙ e))
+    empty_hex : (w : ℕ) → w < b.units.count → moved.units.state.hex w ≡ h → ⊥
+    empty_hex w l e = fate w l (λ _ y. apart_hex (sym e ∙ y)) (λ y r. y (sym r ∙ e))
 
     freed : stand moved f a h ≡ Free
     freed =
-        is_free moved f a h
+        is_free_lem moved f a h
         (record {
           bear = bear h ∙ i.bear;
-          none = λ w l. let k : w < b.units.count = omega (arith, count) in apart-off moved a h w (empty-hex w k);
+          none = λ w l. let k : w < b.units.count = omega (arith, count) in apart_off moved a h w (empty_hex w k);
         })
 
-    owes-not : (w : ℕ) → w < b.units.count → b.units.state.hex w ≡ h → owesAt moved a w ≡ false
-    unfolding owesAt
-    owes-not w l e = simp (ne_eqb (moved.units.state.role w) Role.owes (λ y. (light w l e).role (sym (role_same w l) ∙ y)))
+    owes_not : (w : ℕ) → w < b.units.count → b.units.state.hex w ≡ h → owes_at moved a w ≡ false
+    unfolding owes_at
+    owes_not w l e = simp (ne_eqb (moved.units.state.role w) Role.owes (λ y. (light w l e).role (sym (role_same w l) ∙ y)))
 
-    apart-z : (w : ℕ) → w < b.units.count → b.units.state.hex w ≡ h → apart moved a z w ≡ true
+    apart_z : (w : ℕ) → w < b.units.count → b.units.state.hex w ≡ h → apart moved a z w ≡ true
     unfolding apart
-    apart-z w l e =
-        simp (owes-not w l e, stands_here (scene moved) z w (fate w l (λ _ y. y) (λ y _. absurd (y e))))
+    apart_z w l e =
+        simp (owes_not w l e, stands_here (scene moved) z w (fate w l (λ _ y. y) (λ y _. absurd (y e))))
 
     loosened : stand moved f a z ≡ Loose
     loosened =
-        is-loose moved f a z
+        is_loose_lem moved f a z
         (record {
           bear = bear z ∙ q;
           unit = i.unit;
           counted = omega (arith, count, i.counted);
-          there = apart-z i.unit i.counted (apart-stands b a h i.unit i.there);
+          there = apart_z i.unit i.counted (apart_stands b a h i.unit i.there);
           light =
               λ w l e.
               let k : w < b.units.count = omega (arith, count) in
-              let y = apart-stands moved a z w e in
-              firm-same f w pushed.fixed (role_same w k)
-              ∙ fate w k (λ r _. i.light w k (apart-here b a h w n r))
-              (λ _ r. absurd (vacant-none b z w v k (sym r ∙ y)));
+              let y = apart_stands moved a z w e in
+              firm_same f w pushed.fixed (role_same w k)
+              ∙ fate w k (λ r _. i.light w k (apart_here b a h w n r))
+              (λ _ r. absurd (vacant_none b z w v k (sym r ∙ y)));
         })
 
     beyond : (y : ℕ) → (y ≡ h → ⊥) → (y ≡ z → ⊥) → stand moved f a y ≡ stand b f a y
@@ -168,7 +168,7 @@ module _ {o b : Board} (s : Since o b) (most : o.map.hexes ≤ nowhere) (f a : �
         stand-same f a a y pushed.fixed (bear y)
         (λ w l.
         fate w l
-        (λ r m. apart-off moved a y w (λ e. k (sym e ∙ m)) ∙ sym (apart-off b a y w (λ e. j (sym e ∙ r))))
+        (λ r m. apart_off moved a y w (λ e. k (sym e ∙ m)) ∙ sym (apart_off b a y w (λ e. j (sym e ∙ r))))
         (λ _ r. apart-same b moved a y w r (role_same w l)))
         (λ w l _. role_same w l)
 
@@ -187,84 +187,84 @@ module _ {o b : Board} (s : Since o b) (most : o.map.hexes ≤ nowhere) (f a : �
         record {
           pushes = pushed;
           stands = fun_ext stood;
-          empty = free-vacant moved f a h n (free-is moved f a h freed);
+          empty = free_vacant moved f a h n (free_is moved f a h freed);
         }
 
 -- one after another
-pushes-trans : {o b c d : Board} {f : ℕ} → Pushes o b f c → Pushes o c f d → Pushes o b f d
-pushes-trans {o} {b} {c} {d} {f} x y =
+pushes_trans : {o b c d : Board} {f : ℕ} → Pushes o b f c → Pushes o c f d → Pushes o b f d
+pushes_trans {o} {b} {c} {d} {f} x y =
     record {
       since = y.since;
-      fixed = fixed-trans x.fixed y.fixed;
+      fixed = fixed_trans x.fixed y.fixed;
       desk = y.desk ∙ x.desk;
       roles = λ w l. y.roles w (on w l) ∙ x.roles w l;
       still = λ w l e. y.still w (on w l) (x.roles w l ∙ e) ∙ x.still w l e;
-      others = λ w l n. y.others w (on w l) (λ e. n (sym (force-by x.fixed w) ∙ e)) ∙ x.others w l n;
+      others = λ w l n. y.others w (on w l) (λ e. n (sym (force_by x.fixed w) ∙ e)) ∙ x.others w l n;
     }
   where
     on : (w : ℕ) → w < b.units.count → w < c.units.count
     on w l = omega (arith, x.fixed.count)
 
-free-from : (x : Stand) → isFree x ≡ true → x ≡ Free
-free-from Shut e = not-both false e refl
-free-from Free e = refl
-free-from Loose e = not-both false e refl
+free_from : (x : Stand) → is_free x ≡ true → x ≡ Free
+free_from Shut e = not_both false e refl
+free_from Free e = refl
+free_from Loose e = not_both false e refl
 
-loose-from : (x : Stand) → isLoose x ≡ true → x ≡ Loose
-loose-from Shut e = not-both false e refl
-loose-from Free e = not-both false e refl
-loose-from Loose e = refl
+loose_from : (x : Stand) → is_loose x ≡ true → x ≡ Loose
+loose_from Shut e = not_both false e refl
+loose_from Free e = not_both false e refl
+loose_from Loose e = refl
 
 -- where a stack may go, and which it may push
 module _ (s : Stands) (used : List ℕ) (z : ℕ) where
-  pub rests-free : rests s used z ≡ true → (s z ≡ Free) × (named used z ≡ false)
+  pub rests_free : rests s used z ≡ true → (s z ≡ Free) × (named used z ≡ false)
   unfolding rests
-  rests-free e =
-      let i = both_yes (isFree (s z)) (not (named used z)) e in (free-from (s z) i.0, not-true (named used z) i.1)
+  rests_free e =
+      let i = both_yes (is_free (s z)) (not (named used z)) e in (free_from (s z) i.0, not-true (named used z) i.1)
 
-  pub yields-loose : yields s used z ≡ true → (s z ≡ Loose) × (named used z ≡ false)
+  pub yields_loose : yields s used z ≡ true → (s z ≡ Loose) × (named used z ≡ false)
   unfolding yields
-  yields-loose e =
-      let i = both_yes (isLoose (s z)) (not (named used z)) e in (loose-from (s z) i.0, not-true (named used z) i.1)
+  yields_loose e =
+      let i = both_yes (is_loose (s z)) (not (named used z)) e in (loose_from (s z) i.0, not-true (named used z) i.1)
 
 -- a chain's last hex is vacant
-pub chain-last : {next : Ways} {s : Stands} {used zs : List ℕ} {left h last : ℕ} → Chain next s used left h zs last → s last ≡ Free
-chain-last {s = s} (rest {used} {left} {h} {z} d l e r) = (rests-free s (h ∷ used) z r).0
-chain-last (push d l e n r k) = chain-last k
+pub chain_last : {next : Ways} {s : Stands} {used zs : List ℕ} {left h last : ℕ} → Chain next s used left h zs last → s last ≡ Free
+chain_last {s = s} (rest {used} {left} {h} {z} d l e r) = (rests_free s (h ∷ used) z r).0
+chain_last (push d l e n r k) = chain_last k
 
 free_loose : (s : Stands) (x y : ℕ) → s x ≡ Loose → s y ≡ Free → x ≡ y → ⊥
-free_loose s x y p q e = not-both (isLoose (s x)) (ap isLoose p) (ap isLoose (ap s e ∙ q))
+free_loose s x y p q e = not_both (is_loose (s x)) (ap is_loose p) (ap is_loose (ap s e ∙ q))
 
 -- and so none that holds a stack
 pub chain-other :
     {next : Ways} {s : Stands} {used zs : List ℕ} {left h last x : ℕ} → Chain next s used left h zs last → s x ≡ Loose → x ≡ last → ⊥
-chain-other {s = s} {last = last} {x = x} c e = free_loose s x last e (chain-last c)
+chain-other {s = s} {last = last} {x = x} c e = free_loose s x last e (chain_last c)
 
 -- a vacant hex takes no push, and a held one the first
 module _ (b : Board) where
-  pub clears-vacant : (h : ℕ) → vacant (scene b) h ≡ true → (ps : List ℕ) → clears b h ps ≡ record { done = []; left = ps }
+  pub clears_vacant : (h : ℕ) → vacant (scene b) h ≡ true → (ps : List ℕ) → clears b h ps ≡ record { done = []; left = ps }
   unfolding clears
-  clears-vacant h e [] = refl
-  clears-vacant h e (z ∷ ps) = simp e
+  clears_vacant h e [] = refl
+  clears_vacant h e (z ∷ ps) = simp e
 
-  clears-held :
+  clears_held :
       (h z : ℕ) (ps : List ℕ) → vacant (scene b) h ≡ false
       → clears b h (z ∷ ps)
-      ≡ record { done = (clears b z ps).done ++ stackTo (changes b (clears b z ps).done) h z; left = (clears b z ps).left }
+      ≡ record { done = (clears b z ps).done ++ stack_to (changes b (clears b z ps).done) h z; left = (clears b z ps).left }
   unfolding clears
-  clears-held h z ps e = simp e
+  clears_held h z ps e = simp e
 
 -- what two hexes are after a chain from hex z to hex `last`: one before it is loose still, and its own is free
 module _ (s t : Stands) (h z last : ℕ) (e : t ≡ after s z last) where
-  still-loose : s h ≡ Loose → s z ≡ Loose → s last ≡ Free → (h ≡ z → ⊥) → t h ≡ Loose
+  still_loose : s h ≡ Loose → s z ≡ Loose → s last ≡ Free → (h ≡ z → ⊥) → t h ≡ Loose
   unfolding after
-  still-loose i j k n =
+  still_loose i j k n =
       ap (λ (g : Stands). g h) e
       ∙ simp (ne_eqb h last (free_loose s h last i k), ne_eqb h z n) i
 
-  now-free : s z ≡ Loose → s last ≡ Free → t z ≡ Free
+  now_free : s z ≡ Loose → s last ≡ Free → t z ≡ Free
   unfolding after
-  now-free j k = ap (λ (g : Stands). g z) e ∙ simp (ne_eqb z last (free_loose s z last j k), eq-eqb z z refl)
+  now_free j k = ap (λ (g : Stands). g z) e ∙ simp (ne_eqb z last (free_loose s z last j k), eq-eqb z z refl)
 
 -- what was done to clear hex h by a chain that ends in hex `last`, and what is left of the pushes
 pub record ClearedBy (o b : Board) (f a h last : ℕ) (left : List ℕ) (r : Cleared) : Type 0 where
@@ -278,7 +278,7 @@ module _ {o b : Board} (s : Since o b) (most : o.map.hexes ≤ nowhere) (f a : �
   unfolding after
   two-shifts h z last i j k n x y =
       record {
-        pushes = pushes-trans x.pushes y.pushes;
+        pushes = pushes_trans x.pushes y.pushes;
         stands =
             fun_ext
             (λ w.
@@ -307,28 +307,28 @@ module _ {o b : Board} (s : Since o b) (most : o.map.hexes ≤ nowhere) (f a : �
       → stand b f a h ≡ Loose → (others : List ℕ) → ClearedBy o b f a h last others (clears b h (zs ++ others))
   unfolding changes
   chain-clears (rest {used} {left} {h} {z} d l e r) u n i others =
-      let k = rests-free (stand b f a) (h ∷ used) z r in
-      let off : z ≡ a → ⊥ = λ q. not-both (named (h ∷ used) z) (ap (named (h ∷ used)) q ∙ named_more h used a u) k.1 in
-      let free = free-is b f a z k.0 in
-      let v = free-vacant b f a z off free in
-      let loose = loose-is b f a h i in
-      rw (clears-held b h z others (loose-held b f a h loose), clears-vacant b z v others)
+      let k = rests_free (stand b f a) (h ∷ used) z r in
+      let off : z ≡ a → ⊥ = λ q. not_both (named (h ∷ used) z) (ap (named (h ∷ used)) q ∙ named_more h used a u) k.1 in
+      let free = free_is b f a z k.0 in
+      let v = free_vacant b f a z off free in
+      let loose = loose_is b f a h i in
+      rw (clears_held b h z others (loose_held b f a h loose), clears_vacant b z v others)
       (record { left_over = refl; shifted = shifted s most f a h z loose n v free.bear })
   chain-clears (push {used} {left} {h} {z} {last} {zs} d l e m r c) u n i others =
-      let k = yields-loose (stand b f a) (h ∷ used) z r in
-      let off : z ≡ a → ⊥ = λ q. not-both (named (h ∷ used) z) (ap (named (h ∷ used)) q ∙ named_more h used a u) k.1 in
-      let apart : h ≡ z → ⊥ = (unnamed-parts h used z k.1).0 in
-      let free = chain-last c in
+      let k = yields_loose (stand b f a) (h ∷ used) z r in
+      let off : z ≡ a → ⊥ = λ q. not_both (named (h ∷ used) z) (ap (named (h ∷ used)) q ∙ named_more h used a u) k.1 in
+      let apart : h ≡ z → ⊥ = (unnamed_parts h used z k.1).0 in
+      let free = chain_last c in
       let x = chain-clears c (named_more h used a u) off k.0 others in
       let q = clears b z (zs ++ others) in
       let c' = changes b q.done in
-      let loose : stand c' f a h ≡ Loose = still-loose (stand b f a) (stand c' f a) h z last x.shifted.stands i k.0 free apart in
-      let clear : stand c' f a z ≡ Free = now-free (stand b f a) (stand c' f a) h z last x.shifted.stands k.0 free in
-      rw (clears-held b h z (zs ++ others) (loose-held b f a h (loose-is b f a h i)))
+      let loose : stand c' f a h ≡ Loose = still_loose (stand b f a) (stand c' f a) h z last x.shifted.stands i k.0 free apart in
+      let clear : stand c' f a z ≡ Free = now_free (stand b f a) (stand c' f a) h z last x.shifted.stands k.0 free in
+      rw (clears_held b h z (zs ++ others) (loose_held b f a h (loose_is b f a h i)))
       (record {
         left_over = x.left_over;
         shifted =
-            rw (changes-then q.done (stackTo c' h z) b)
+            rw (changes_then q.done (stack_to c' h z) b)
             (two-shifts h z last i k.0 free apart x.shifted
-            (shifted x.shifted.pushes.since most f a h z (loose-is c' f a h loose) n x.shifted.empty (free-is c' f a z clear).bear));
+            (shifted x.shifted.pushes.since most f a h z (loose_is c' f a h loose) n x.shifted.empty (free_is c' f a z clear).bear));
       })

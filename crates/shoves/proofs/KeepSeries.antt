@@ -6,34 +6,34 @@ use mathlib.Core.List.{List, [], ◌∷◌, ◌++◌}
 use native.Mathlib.Omega.{arith}
 use borrow.Author.Tests.{eq-eqb, ne_eqb}
 use Rattle.position.specs.Board.{Board, nowhere}
-use Rattle.position.specs.Crowd.{owesAt}
+use Rattle.position.specs.Crowd.{owes_at}
 use Rattle.position.specs.Effect.{changes}
 use Rattle.position.specs.Role as Role
 use Rattle.position.proofs.Tallies.{either, same_or}
-use Rattle.acceptance.proofs.Carries.{changes-then, force-by}
+use Rattle.acceptance.proofs.Carries.{changes_then, force_by}
 use Rattle.acceptance.proofs.Since.{Since}
-use Rattle.acceptance.proofs.Stills.{fixed-trans}
+use Rattle.acceptance.proofs.Stills.{fixed_trans}
 use Rattle.field.proofs.Named.{named_here}
 use Rattle.chains.specs.declared.Stand.TheVariants.{Free, Loose}
 use Rattle.chains.specs.Stand.{stand}
 use Rattle.chains.specs.Chain.{Stands, Chain, most, after}
 use Rattle.chains.specs.Series.{Land, Series, stay, walk, shove}
-use Rattle.shoves.specs.Shoves.{clears, groupTo, marches}
-use Rattle.shoves.proofs.KeepChain.{Pushes, bears-stands, chain-clears, chain-other, clears-vacant, real-hex}
-use Rattle.shoves.proofs.KeepEnds.{Left, all-freed}
+use Rattle.shoves.specs.Shoves.{clears, group_to, marches}
+use Rattle.shoves.proofs.KeepChain.{Pushes, bears_stands, chain-clears, chain-other, clears_vacant, real_hex}
+use Rattle.shoves.proofs.KeepEnds.{Left, all_freed}
 use Rattle.shoves.proofs.KeepStep.{OwnGroup, Stepped, stepped}
-use Rattle.shoves.proofs.Standing.{free-is, free-vacant}
+use Rattle.shoves.proofs.Standing.{free_is, free_vacant}
 
 -- a step, and what comes after it
-after-step : {o b c d : Board} {f a x : ℕ} → Stepped o b f a x c → Left o c x d → Left o b a d
-after-step {o} {b} {c} {d} {f} {a} {x} s y =
+after_step_lem : {o b c d : Board} {f a x : ℕ} → Stepped o b f a x c → Left o c x d → Left o b a d
+after_step_lem {o} {b} {c} {d} {f} {a} {x} s y =
     record {
       since = y.since;
-      fixed = fixed-trans s.fixed y.fixed;
+      fixed = fixed_trans s.fixed y.fixed;
       desk = y.desk ∙ s.desk;
       gone =
           λ w l e.
-          either (owesAt c x w)
+          either (owes_at c x w)
           (λ i. y.gone w (on w l) i)
           (λ i. y.roles w (on w l) i ∙ s.gone w l e i);
       roles = λ w l e. y.roles w (on w l) (s.left w l e) ∙ (s.kept w e).role;
@@ -44,33 +44,33 @@ after-step {o} {b} {c} {d} {f} {a} {x} s y =
     on w l = omega (arith, s.fixed.count)
 
 -- pushes do not touch the group
-pub pushes-owes : {o b c : Board} {f : ℕ} → Pushes o b f c → (a w : ℕ) → w < b.units.count → owesAt c a w ≡ owesAt b a w
-unfolding owesAt
-pushes-owes {b = b} x a w l =
+pub pushes_owes : {o b c : Board} {f : ℕ} → Pushes o b f c → (a w : ℕ) → w < b.units.count → owes_at c a w ≡ owes_at b a w
+unfolding owes_at
+pushes_owes {b = b} x a w l =
     same_or (b.units.state.role w) Role.owes
     (λ e. simp (x.roles w l, x.still w l e))
     (λ e. simp (x.roles w l, ne_eqb (b.units.state.role w) Role.owes e))
 
 -- and what comes after them
-after-pushes : {o b c d : Board} {f a : ℕ} → Pushes o b f c → Left o c a d → Left o b a d
-after-pushes {o} {b} {c} {d} {f} {a} s y =
+after_pushes : {o b c d : Board} {f a : ℕ} → Pushes o b f c → Left o c a d → Left o b a d
+after_pushes {o} {b} {c} {d} {f} {a} s y =
     record {
       since = y.since;
-      fixed = fixed-trans s.fixed y.fixed;
+      fixed = fixed_trans s.fixed y.fixed;
       desk = y.desk ∙ s.desk;
-      gone = λ w l e. y.gone w (on w l) (pushes-owes s a w l ∙ e);
-      roles = λ w l e. y.roles w (on w l) (pushes-owes s a w l ∙ e) ∙ s.roles w l;
-      still = λ w l e i. y.still w (on w l) (pushes-owes s a w l ∙ e) (s.roles w l ∙ i) ∙ s.still w l i;
+      gone = λ w l e. y.gone w (on w l) (pushes_owes s a w l ∙ e);
+      roles = λ w l e. y.roles w (on w l) (pushes_owes s a w l ∙ e) ∙ s.roles w l;
+      still = λ w l e i. y.still w (on w l) (pushes_owes s a w l ∙ e) (s.roles w l ∙ i) ∙ s.still w l i;
     }
   where
     on : (w : ℕ) → w < b.units.count → w < c.units.count
     on w l = omega (arith, s.fixed.count)
 
 -- pushes leave the group of one force
-pub pushes-own : {o b c : Board} {f : ℕ} (a : ℕ) → Pushes o b f c → OwnGroup b f a → OwnGroup c f a
-pushes-own {b = b} a s m w l e =
+pub pushes_own : {o b c : Board} {f : ℕ} (a : ℕ) → Pushes o b f c → OwnGroup b f a → OwnGroup c f a
+pushes_own {b = b} a s m w l e =
     let k : w < b.units.count = omega (arith, s.fixed.count) in
-    force-by s.fixed w ∙ m w k (sym (pushes-owes s a w k) ∙ e)
+    force_by s.fixed w ∙ m w k (sym (pushes_owes s a w k) ∙ e)
 
 -- the hex entered is free once its stack has gone elsewhere
 pub emptied : (s : Stands) (x y : ℕ) → (x ≡ y → ⊥) → after s x y x ≡ Free
@@ -83,30 +83,30 @@ pub march-on :
     → changes b (marches b a (x ∷ route) ps)
     ≡ (let r = clears b x ps in
     let c = changes b r.done in
-    let d = changes c (groupTo c a x) in
+    let d = changes c (group_to c a x) in
     changes d (marches d x route r.left))
 unfolding marches
 march-on b a x route ps =
     let r = clears b x ps in
     let c = changes b r.done in
-    let xs = groupTo c a x in
-    changes-then r.done (xs ++ marches (changes c xs) x route r.left) b
-    ∙ changes-then xs (marches (changes c xs) x route r.left) c
+    let xs = group_to c a x in
+    changes_then r.done (xs ++ marches (changes c xs) x route r.left) b
+    ∙ changes_then xs (marches (changes c xs) x route r.left) c
 
 pub series-left :
     {o b : Board} {g : Land} {s : Stands} {i a : ℕ} {route pushes : List ℕ} (f : ℕ) → o.map.hexes ≤ nowhere → Since o b
     → (a ≡ nowhere → ⊥) → OwnGroup b f a → g.far a ≡ i → Series g s i a route pushes → stand b f a ≡ s
     → Left o b a (changes b (marches b a route pushes))
 unfolding marches changes
-series-left {a = a} f small k real mine z stay e = all-freed small a k
+series-left {a = a} f small k real mine z stay e = all_freed small a k
 series-left {o} {b} {g} {s} {i} {a} f small k real mine z (walk {x = x} {route = route} {pushes = ps} d t y n) e =
     let here : stand b f a x ≡ Free = ap (λ (q : Stands). q x) e ∙ y in
-    let free = free-is b f a x here in
-    let v = free-vacant b f a x (λ q. omega (arith, t.away, z, ap g.far q)) free in
+    let free = free_is b f a x here in
+    let v = free_vacant b f a x (λ q. omega (arith, t.away, z, ap g.far q)) free in
     let c = stepped k small f a x real mine v free.bear in
-    rw (march-on b a x route ps, clears-vacant b x v ps)
-    (after-step c
-    (series-left f small c.since (real-hex k small f a x (bears-stands b f x free.bear)) c.own t.away n (c.stands ∙ e)))
+    rw (march-on b a x route ps, clears_vacant b x v ps)
+    (after_step_lem c
+    (series-left f small c.since (real_hex k small f a x (bears_stands b f x free.bear)) c.own t.away n (c.stands ∙ e)))
 series-left {o} {b} {g} {s} {i} {a} f small k real mine z (shove {x = x} {y = y} {route = route} {chain = zs} {pushes = ps} d t l h n) e =
     let here : stand b f a x ≡ Loose = ap (λ (q : Stands). q x) e ∙ l in
     let off : x ≡ a → ⊥ = λ q. omega (arith, t.away, z, ap g.far q) in
@@ -116,9 +116,9 @@ series-left {o} {b} {g} {s} {i} {a} f small k real mine z (shove {x = x} {y = y}
     let u = q.shifted.pushes in
     let b' = changes b r.done in
     let free : stand b' f a x ≡ Free = ap (λ (p : Stands). p x) q.shifted.stands ∙ emptied (stand b f a) x y (chain-other h' here) in
-    let c = stepped u.since small f a x real (pushes-own a u mine) q.shifted.empty (free-is b' f a x free).bear in
+    let c = stepped u.since small f a x real (pushes_own a u mine) q.shifted.empty (free_is b' f a x free).bear in
     rw (march-on b a x route (zs ++ ps), q.left_over)
-    (after-pushes u
-    (after-step c
-    (series-left f small c.since (real-hex u.since small f a x (bears-stands b' f x (free-is b' f a x free).bear)) c.own t.away n
+    (after_pushes u
+    (after_step_lem c
+    (series-left f small c.since (real_hex u.since small f a x (bears_stands b' f x (free_is b' f a x free).bear)) c.own t.away n
     (c.stands ∙ q.shifted.stands ∙ ap (λ (p : Stands). after p x y) e))))

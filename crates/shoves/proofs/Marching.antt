@@ -11,29 +11,29 @@ use Rattle.position.specs.Effect.{changes}
 use Rattle.position.specs.Laid.{Laid}
 use Rattle.position.specs.Shape.{Shaped}
 use Rattle.position.specs.declared.View.{View}
-use Rattle.position.proofs.Changes.{board-makes, laid-makes, makes-then}
+use Rattle.position.proofs.Changes.{board_makes, laid_makes, makes_then}
 use Rattle.shoves.specs.Group.{gather, group}
-use Rattle.shoves.specs.Shoves.{clears, frees, groupTo, marches}
-use Rattle.shoves.proofs.Clearing.{Clear, drop-next}
+use Rattle.shoves.specs.Shoves.{clears, frees, group_to, marches}
+use Rattle.shoves.proofs.Clearing.{Clear, drop_next}
 
 -- a step: hex x is cleared, the group goes there from hex a, and the march goes on from hex x
 march-step :
     {p q r : List ℕ} → Shaped p → Shaped q → (a x : ℕ) (route ps : List ℕ) → q ≡ makes p (clears (board p) x ps).done
-    → r ≡ makes q (groupTo (board q) a x)
+    → r ≡ makes q (group_to (board q) a x)
     → makes p (marches (board p) a (x ∷ route) ps) ≡ makes r (marches (board r) x route (clears (board p) x ps).left)
 unfolding marches
 march-step {p} {q} {r} s t a x route ps e f =
     let b = board p in
     let xs = (clears b x ps).done in
     let c = changes b xs in
-    let ys = groupTo c a x in
+    let ys = group_to c a x in
     let rest = marches (changes c ys) x route (clears b x ps).left in
-    let y : board q ≡ c = ap board e ∙ board-makes s xs in
-    let z : board r ≡ changes c ys = ap board f ∙ board-makes t (groupTo (board q) a x) ∙ ap (λ (d : Board). changes d (groupTo d a x)) y in
-    makes-then xs (ys ++ rest) p
+    let y : board q ≡ c = ap board e ∙ board_makes s xs in
+    let z : board r ≡ changes c ys = ap board f ∙ board_makes t (group_to (board q) a x) ∙ ap (λ (d : Board). changes d (group_to d a x)) y in
+    makes_then xs (ys ++ rest) p
     ∙ ap (λ (l : List ℕ). makes l (ys ++ rest)) (sym e)
-    ∙ makes-then ys rest q
-    ∙ ap (λ (d : Board). makes (makes q (groupTo d a x)) rest) (sym y)
+    ∙ makes_then ys rest q
+    ∙ ap (λ (d : Board). makes (makes q (group_to d a x)) rest) (sym y)
     ∙ ap₂ (λ (l : List ℕ) (d : Board). makes l (marches d x route (clears b x ps).left)) (sym f) (sym z)
 
 -- the group stands in hex a of position p, i steps of the march are done and k pushes are used up
@@ -45,24 +45,24 @@ pub record March (p₀ : List ℕ) (v : View) (h : ℕ) (route pushes p : List �
       makes p₀ (marches (board p₀) h route pushes) ≡ makes p (marches (board p) a (drop i route) (drop k pushes))
 
 module _ {p₀ : List ℕ} {v : View} {h : ℕ} {route pushes : List ℕ} where
-  pub march-none : Laid p₀ v → March p₀ v h route pushes p₀ h 0 0
-  march-none l = record { most = omega arith; used = omega arith; laid = l; ahead = refl }
+  pub march_none : Laid p₀ v → March p₀ v h route pushes p₀ h 0 0
+  march_none l = record { most = omega arith; used = omega arith; laid = l; ahead = refl }
 
   module _ {p : List ℕ} {a k i : ℕ} (o : March p₀ v h route pushes p a k i) where
     -- one step more
     pub march-more :
         i < length route → {n : ℕ} {q r : List ℕ} → Clear p (get_or route i 0) pushes k n q
-        → r ≡ makes q (groupTo (board q) a (get_or route i 0)) → March p₀ v h route pushes r (get_or route i 0) n (i + 1)
+        → r ≡ makes q (group_to (board q) a (get_or route i 0)) → March p₀ v h route pushes r (get_or route i 0) n (i + 1)
     march-more l {n} {q} {r} c f =
         let x = get_or route i 0 in
-        let y = laid-makes _ o.laid c.2 in
+        let y = laid_makes _ o.laid c.2 in
         record {
           most = omega arith;
           used = c.0;
-          laid = laid-makes _ y f;
+          laid = laid_makes _ y f;
           ahead =
               o.ahead
-              ∙ ap (λ (xs : List ℕ). makes p (marches (board p) a xs (drop k pushes))) (drop-next route i l)
+              ∙ ap (λ (xs : List ℕ). makes p (marches (board p) a xs (drop k pushes))) (drop_next route i l)
               ∙ march-step o.laid.shaped y.shaped a x (drop (i + 1) route) (drop k pushes) c.2 f
               ∙ ap (λ (xs : List ℕ). makes r (marches (board r) x (drop (i + 1) route) xs)) (sym c.1);
         }

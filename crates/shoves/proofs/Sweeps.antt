@@ -7,30 +7,30 @@ use mathlib.Core.List.{List, [], ◌∷◌, ◌++◌, append_assoc, append-nil}
 use native.Mathlib.Omega.{arith}
 use lib.Dec.{eqb, ltb}
 use Rattle.position.specs.Board.{Board, board}
-use Rattle.position.specs.Crowd.{owesAt}
+use Rattle.position.specs.Crowd.{owes_at}
 use Rattle.position.specs.Change.{Change, makes}
 use Rattle.position.specs.Change.Change.{placed}
 use Rattle.position.specs.Effect.{change, changes}
 use Rattle.position.specs.Laid.{Laid}
 use Rattle.position.specs.declared.View.{View}
-use Rattle.position.proofs.Changes.{board-makes, laid-makes, makes-then}
-use Rattle.position.proofs.Effects.{upd-else}
+use Rattle.position.proofs.Changes.{board_makes, laid_makes, makes_then}
+use Rattle.position.proofs.Effects.{upd_else}
 use Rattle.position.proofs.Tallies.{either}
-use Rattle.acceptance.proofs.Fates.{Same, assigned-else, destroyed-else}
-use Rattle.acceptance.proofs.Carries.{kind-by}
-use Rattle.acceptance.proofs.Stills.{fixed-changes}
+use Rattle.acceptance.proofs.Fates.{Same, assigned_else, destroyed_else}
+use Rattle.acceptance.proofs.Carries.{kind_by}
+use Rattle.acceptance.proofs.Stills.{fixed_changes}
 use Rattle.field.specs.Listed.{sieve}
 use Rattle.field.specs.Scene.{scene}
-use Rattle.field.specs.Zone.{standsOn}
-use Rattle.field.proofs.Lists.{sieve-hit, sieve-miss}
+use Rattle.field.specs.Zone.{stands_on}
+use Rattle.field.proofs.Lists.{sieve_hit, sieve_miss}
 use Rattle.shoves.specs.Group.{gather}
-use Rattle.shoves.specs.Shoves.{frees, goesTo, shifts}
+use Rattle.shoves.specs.Shoves.{frees, goes_to, shifts}
 
 -- the changes of one unit more come last
-pub gather-last : (g : ℕ → List Change) (us : List ℕ) (u : ℕ) → gather g (us ++ (u ∷ [])) ≡ gather g us ++ g u
+pub gather_last : (g : ℕ → List Change) (us : List ℕ) (u : ℕ) → gather g (us ++ (u ∷ [])) ≡ gather g us ++ g u
 unfolding gather
-gather-last g [] u = append-nil (g u)
-gather-last g (w ∷ us) u = ap (λ (l : List Change). g w ++ l) (gather-last g us u) ∙ sym (append_assoc (g w) (gather g us) (g u))
+gather_last g [] u = append-nil (g u)
+gather_last g (w ∷ us) u = ap (λ (l : List Change). g w ++ l) (gather_last g us u) ∙ sym (append_assoc (g w) (gather g us) (g u))
 
 -- a test that looks at nothing but the unit: one that is as it was passes as it did
 pub record Alike (t : Board → ℕ → Bool) : Type 0 where
@@ -51,29 +51,29 @@ pub record Sweep (t : Board → ℕ → Bool) (g : ℕ → List Change) (p : Lis
 
 module _ {t : Board → ℕ → Bool} {g : ℕ → List Change} {p : List ℕ} {v : View} where
   -- at its beginning
-  pub sweep-none : Laid p v → Sweep t g p v 0 p
+  pub sweep_none : Laid p v → Sweep t g p v 0 p
   unfolding sieve makes gather
-  sweep-none l = record { most = omega arith; laid = l; made = refl; ahead = λ w m. refl; kinds = refl }
+  sweep_none l = record { most = omega arith; laid = l; made = refl; ahead = λ w m. refl; kinds = refl }
 
   module _ {u : ℕ} {q r : List ℕ} (a : Alike t) (i : Own g) (o : Sweep t g p v u q) (k : u < v.count) where
     hit : t (board p) u ≡ true → r ≡ makes q (g u) → Sweep t g p v (u + 1) r
     hit e f =
         let us = sieve (t (board p)) u in
-        let z : board r ≡ changes (board q) (g u) = ap board f ∙ board-makes o.laid.shaped (g u) in
+        let z : board r ≡ changes (board q) (g u) = ap board f ∙ board_makes o.laid.shaped (g u) in
         record {
           most = omega arith;
-          laid = laid-makes (g u) o.laid f;
+          laid = laid_makes (g u) o.laid f;
           made =
               f
               ∙ ap (λ (l : List ℕ). makes l (g u)) o.made
-              ∙ sym (makes-then (gather g us) (g u) p)
-              ∙ ap (makes p) (sym (gather-last g us u) ∙ ap (gather g) (sym (sieve-hit (t (board p)) u e)));
+              ∙ sym (makes_then (gather g us) (g u) p)
+              ∙ ap (makes p) (sym (gather_last g us u) ∙ ap (gather g) (sym (sieve_hit (t (board p)) u e)));
           ahead =
               λ w m.
               ap (λ (b : Board). t b w) z
               ∙ a.same (board q) (changes (board q) (g u)) w (i.off (board q) u w (λ y. omega arith))
               ∙ o.ahead w (omega arith);
-          kinds = ap (λ (b : Board). b.units.counter.kind) z ∙ kind-by (fixed-changes (g u) (board q)) ∙ o.kinds;
+          kinds = ap (λ (b : Board). b.units.counter.kind) z ∙ kind_by (fixed_changes (g u) (board q)) ∙ o.kinds;
         }
 
     miss : t (board p) u ≡ false → r ≡ q → Sweep t g p v (u + 1) r
@@ -82,15 +82,15 @@ module _ {t : Board → ℕ → Bool} {g : ℕ → List Change} {p : List ℕ} {
         (record {
           most = omega arith;
           laid = o.laid;
-          made = o.made ∙ ap (λ (l : List ℕ). makes p (gather g l)) (sym (sieve-miss (t (board p)) u e));
+          made = o.made ∙ ap (λ (l : List ℕ). makes p (gather g l)) (sym (sieve_miss (t (board p)) u e));
           ahead = λ w m. o.ahead w (omega arith);
           kinds = o.kinds;
         })
 
     -- one unit more: it is asked on the board as it is now, and its changes are those of the beginning
-    pub sweep-more : (xs : List Change) → xs ≡ g u → r ≡ makes q (cond (t (board q) u) xs []) → Sweep t g p v (u + 1) r
+    pub sweep_more : (xs : List Change) → xs ≡ g u → r ≡ makes q (cond (t (board q) u) xs []) → Sweep t g p v (u + 1) r
     unfolding makes
-    sweep-more xs d f =
+    sweep_more xs d f =
         let z = o.ahead u (omega arith) in
         either (t (board p) u)
         (λ e. hit e (simp (z ∙ e, d) at f))
@@ -106,42 +106,42 @@ module _ {t : Board → ℕ → Bool} {g : ℕ → List Change} {p : List ℕ} {
 
 -- who owes in hex h, and who stands there
 abbrev pub owing : ℕ → Board → ℕ → Bool
-owing h b u = owesAt b h u
+owing h b u = owes_at b h u
 
 abbrev pub standing : ℕ → Board → ℕ → Bool
-standing h b u = standsOn (scene b) h u
+standing h b u = stands_on (scene b) h u
 
-pub alike-owing : (h : ℕ) → Alike (owing h)
-unfolding owesAt
-alike-owing h = record { same = λ b c w s. simp (s.role, s.hex) }
+pub alike_owing : (h : ℕ) → Alike (owing h)
+unfolding owes_at
+alike_owing h = record { same = λ b c w s. simp (s.role, s.hex) }
 
-pub alike-standing : (h : ℕ) → Alike (standing h)
-unfolding standsOn
-alike-standing h = record { same = λ b c w s. ap (λ (k : ℕ). eqb k h) s.hex }
+pub alike_standing : (h : ℕ) → Alike (standing h)
+unfolding stands_on
+alike_standing h = record { same = λ b c w s. ap (λ (k : ℕ). eqb k h) s.hex }
 
 -- a unit that goes to a hex, one that goes with the group, and one that has no role any more leave the others as they were
-pub placed-else : (b : Board) (u h w : ℕ) → (w ≡ u → ⊥) → Same b.units (change b (placed u h)).units w
+pub placed_else : (b : Board) (u h w : ℕ) → (w ≡ u → ⊥) → Same b.units (change b (placed u h)).units w
 unfolding change
-placed-else b u h w n =
+placed_else b u h w n =
     either (ltb h b.map.hexes)
-    (λ e. rw e (record { hex = upd-else b.units.count b.units.state.hex u h w (λ _ z. n z); marks = refl; role = refl }))
+    (λ e. rw e (record { hex = upd_else b.units.count b.units.state.hex u h w (λ _ z. n z); marks = refl; role = refl }))
     (λ e. rw e (record { hex = refl; marks = refl; role = refl }))
 
-pub own-shifts : (z : ℕ) → Own (shifts z)
+pub own_shifts : (z : ℕ) → Own (shifts z)
 unfolding changes shifts
-own-shifts z = record { off = λ b u w n. placed-else b u z w n }
+own_shifts z = record { off = λ b u w n. placed_else b u z w n }
 
-pub own-goes : (c : Board) (x : ℕ) → Own (goesTo c x)
-unfolding changes goesTo
-own-goes c x =
+pub own_goes : (c : Board) (x : ℕ) → Own (goes_to c x)
+unfolding changes goes_to
+own_goes c x =
     record {
       off =
           λ b u w n.
           either (eqb (c.units.counter.kind u) 5)
-          (λ e. rw e (destroyed-else b u w n))
-          (λ e. rw e (placed-else b u x w n));
+          (λ e. rw e (destroyed_else b u w n))
+          (λ e. rw e (placed_else b u x w n));
     }
 
-pub own-frees : Own frees
+pub own_frees : Own frees
 unfolding changes frees
-own-frees = record { off = λ b u w n. assigned-else b u 0 w n }
+own_frees = record { off = λ b u w n. assigned_else b u 0 w n }

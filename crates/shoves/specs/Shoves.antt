@@ -2,7 +2,7 @@
 -- Assumes nothing.
 use Rattle.std.specs.Prelude.{ℕ, ◌-◌, ◌≤◌, ◌<◌, ◌≡◌, cond, true, false, List, [], ◌∷◌, ◌++◌, leb, eqb, length, get_or}
 use Rattle.position.specs.Role as Role
-use Rattle.position.specs.Kind.{supplyKind}
+use Rattle.position.specs.Kind.{supply_kind}
 use Rattle.position.specs.Board.{Board}
 use Rattle.position.specs.Change.{Change}
 use Rattle.position.specs.Change.Change.{placed, destroyed, assigned}
@@ -16,8 +16,8 @@ unfoldable pub shifts : ℕ → ℕ → List Change
 shifts z u = placed u z ∷ []
 
 -- the whole stack of hex h goes to hex z
-unfoldable pub stackTo : Board → ℕ → ℕ → List Change
-stackTo b h z = gather (shifts z) (stack b h)
+unfoldable pub stack_to : Board → ℕ → ℕ → List Change
+stack_to b h z = gather (shifts z) (stack b h)
 
 -- what was done to clear a hex, and the pushes that are left over
 pub record Cleared : Type 0 where
@@ -30,7 +30,7 @@ unfoldable pub clears : Board → ℕ → List ℕ → Cleared
 clears b h [] = record { done = []; left = [] }
 clears b h (z ∷ ps) =
     cond (vacant (scene b) h) (record { done = []; left = z ∷ ps })
-    (let r = clears b z ps in record { done = r.done ++ stackTo (changes b r.done) h z; left = r.left })
+    (let r = clears b z ps in record { done = r.done ++ stack_to (changes b r.done) h z; left = r.left })
 
 -- out of which hex push j takes a stack, where hex h is cleared by the pushes from number k on: the first out of h, each other out of the hex
 -- that the push before it names
@@ -49,12 +49,12 @@ pub record ChainEnds (b : Board) (h : ℕ) (ps : List ℕ) (k e : ℕ) : Type 0 
   pub ends : e < length ps → vacant (scene b) (out_of h ps k e) ≡ true
 
 -- "supply units among them are destroyed", as the group leaves; the others go to hex x
-unfoldable pub goesTo : Board → ℕ → ℕ → List Change
-goesTo b x u = cond (eqb (b.units.counter.kind u) supplyKind) (destroyed u ∷ []) (placed u x ∷ [])
+unfoldable pub goes_to : Board → ℕ → ℕ → List Change
+goes_to b x u = cond (eqb (b.units.counter.kind u) supply_kind) (destroyed u ∷ []) (placed u x ∷ [])
 
 -- the group of hex a goes to hex x
-unfoldable pub groupTo : Board → ℕ → ℕ → List Change
-groupTo b a x = gather (goesTo b x) (group b a)
+unfoldable pub group_to : Board → ℕ → ℕ → List Change
+group_to b a x = gather (goes_to b x) (group b a)
 
 -- "role now 0"
 unfoldable pub frees : ℕ → List Change
@@ -66,5 +66,5 @@ marches b a [] ps = gather frees (group b a)
 marches b a (x ∷ route) ps =
     let r = clears b x ps in
     let c = changes b r.done in
-    let xs = groupTo c a x in
+    let xs = group_to c a x in
     r.done ++ (xs ++ marches (changes c xs) x route r.left)

@@ -4,8 +4,8 @@ ghost use Rattle.position.specs.Board.{board};
 ghost use Rattle.position.specs.Change.{makes};
 ghost use Rattle.position.specs.Laid.{Laid};
 ghost use Rattle.field.specs.Scene.{scene};
-ghost use Rattle.field.specs.Zone.{standsOn, vacant};
-ghost use Rattle.shoves.specs.Shoves.{shifts, stackTo, clears, out_of, ChainEnds};
+ghost use Rattle.field.specs.Zone.{stands_on, vacant};
+ghost use Rattle.shoves.specs.Shoves.{shifts, stack_to, clears, out_of, ChainEnds};
 
 use position::{View, read};
 
@@ -28,7 +28,7 @@ fn is_vacant(p: &[u8], v: View, h: usize) -> bool
 // Unit `u` goes to hex `z` if it stands on hex `h`.
 fn move_one(p: &mut [u8], v: View, h: usize, z: usize, u: usize)
     requires { Laid p.old v }
-    ensures { p.new ≡ makes p.old (cond (standsOn (scene (board p.old)) h u) (shifts z u) []) }
+    ensures { p.new ≡ makes p.old (cond (stands_on (scene (board p.old)) h u) (shifts z u) []) }
 {
     if read::hex(p, v, u) != h {
         return;
@@ -39,7 +39,7 @@ fn move_one(p: &mut [u8], v: View, h: usize, z: usize, u: usize)
 // The whole stack of hex `h` goes to hex `z`.
 fn move_stack(p: &mut [u8], v: View, h: usize, z: usize)
     requires { Laid p.old v }
-    ensures { p.new ≡ makes p.old (stackTo (board p.old) h z) }
+    ensures { p.new ≡ makes p.old (stack_to (board p.old) h z) }
 {
     let count = v.count;
     for u in 0..count {

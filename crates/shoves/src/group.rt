@@ -1,11 +1,11 @@
 // How the group takes a step, and has no role any more at its end.
 ghost use Rattle.std.specs.Prelude.{◌≡◌, cond, []};
 ghost use Rattle.position.specs.Board.{board};
-ghost use Rattle.position.specs.Crowd.{owesAt};
+ghost use Rattle.position.specs.Crowd.{owes_at};
 ghost use Rattle.position.specs.Change.{makes};
 ghost use Rattle.position.specs.Laid.{Laid};
 ghost use Rattle.shoves.specs.Group.{group, gather};
-ghost use Rattle.shoves.specs.Shoves.{goesTo, groupTo, frees};
+ghost use Rattle.shoves.specs.Shoves.{goes_to, group_to, frees};
 
 use position::kind::Kind;
 use position::{View, read, role};
@@ -13,7 +13,7 @@ use position::{View, read, role};
 // Whether unit `u` owes in hex `h`.
 pub fn owes_at(p: &[u8], v: View, h: usize, u: usize) -> bool
     requires { Laid p.now v }
-    ensures { result ≡ owesAt (board p.now) h u }
+    ensures { result ≡ owes_at (board p.now) h u }
 {
     if read::role(p, v, u) != role::OWES {
         return false;
@@ -24,7 +24,7 @@ pub fn owes_at(p: &[u8], v: View, h: usize, u: usize) -> bool
 // Unit `u` goes to hex `x`; a supply unit is destroyed.
 fn go(p: &mut [u8], v: View, x: usize, u: usize)
     requires { Laid p.old v }
-    ensures { p.new ≡ makes p.old (goesTo (board p.old) x u) }
+    ensures { p.new ≡ makes p.old (goes_to (board p.old) x u) }
 {
     if read::kind(p, v, u) == Kind::SUPPLY {
         write::destroy(p, v, u);
@@ -36,7 +36,7 @@ fn go(p: &mut [u8], v: View, x: usize, u: usize)
 // Unit `u` goes if it owes in hex `a`.
 fn step_one(p: &mut [u8], v: View, a: usize, x: usize, u: usize)
     requires { Laid p.old v }
-    ensures { p.new ≡ makes p.old (cond (owesAt (board p.old) a u) (goesTo (board p.old) x u) []) }
+    ensures { p.new ≡ makes p.old (cond (owes_at (board p.old) a u) (goes_to (board p.old) x u) []) }
 {
     if !owes_at(p, v, a, u) {
         return;
@@ -47,7 +47,7 @@ fn step_one(p: &mut [u8], v: View, a: usize, x: usize, u: usize)
 // The group of hex `a` goes to hex `x`.
 pub fn step_all(p: &mut [u8], v: View, a: usize, x: usize)
     requires { Laid p.old v }
-    ensures { p.new ≡ makes p.old (groupTo (board p.old) a x) }
+    ensures { p.new ≡ makes p.old (group_to (board p.old) a x) }
 {
     let count = v.count;
     for u in 0..count {
@@ -58,7 +58,7 @@ pub fn step_all(p: &mut [u8], v: View, a: usize, x: usize)
 // Unit `u` has no role any more if it owes in hex `a`.
 fn free_one(p: &mut [u8], v: View, a: usize, u: usize)
     requires { Laid p.old v }
-    ensures { p.new ≡ makes p.old (cond (owesAt (board p.old) a u) (frees u) []) }
+    ensures { p.new ≡ makes p.old (cond (owes_at (board p.old) a u) (frees u) []) }
 {
     if !owes_at(p, v, a, u) {
         return;

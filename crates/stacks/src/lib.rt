@@ -1,7 +1,7 @@
 // Stacks are at most three units, of one force, asked in one pass over the units for each block of the map: 0 if so, else at which unit not.
 ghost use Rattle.std.specs.Prelude.{◌≡◌, ℕ, ◌+◌, ◌<◌, length};
 ghost use Rattle.position.specs.Layout.{nowhere, hex, count, forces};
-ghost use Rattle.position.specs.Board.{board, forceOf};
+ghost use Rattle.position.specs.Board.{board, force_of};
 ghost use Rattle.position.specs.Laid.{Laid};
 ghost use Rattle.flaw.specs.Flaw.{Breaks, Flaw};
 ghost use Rattle.flaw.specs.Tells.{Tells};
@@ -35,7 +35,7 @@ fn adds(x: usize, f: usize) -> usize
 
 // Unit `u` takes its seat in the table of the block that begins at `base`, if it stands there; false if the hex is full or holds another force.
 fn seat(p: &[u8], v: View, seats: &mut [u8], base: usize, u: usize) -> bool
-    requires { Laid p.now v × (u < v.count) × (forceOf (board p.now) u < forces) × (length seats.old ≡ table) }
+    requires { Laid p.now v × (u < v.count) × (force_of (board p.now) u < forces) × (length seats.old ≡ table) }
     ensures { SeatedOf (board p.now) base u seats.old seats.new result }
 {
     let h = read::hex(p, v, u);
@@ -91,7 +91,7 @@ fn company(p: &[u8], v: View, h: usize) -> usize
 
 // The stacks on the block of hexes that begins at `base`, by a table that is empty yet.
 fn seat_all(p: &[u8], v: View, seats: &mut [u8], base: usize) -> usize
-    requires { Laid p.now v × ((u : ℕ) → u < count p.now → forceOf (board p.now) u < forces) × Empty seats.old × (base < v.hexes) }
+    requires { Laid p.now v × ((u : ℕ) → u < count p.now → force_of (board p.now) u < forces) × Empty seats.old × (base < v.hexes) }
     ensures { Tells (Flaw p.now) result (StacksIn (board p.now) base (base + block)) }
 {
     let count = v.count;
@@ -105,7 +105,7 @@ fn seat_all(p: &[u8], v: View, seats: &mut [u8], base: usize) -> usize
 
 // The same with a table of its own.
 fn block_ok(p: &[u8], v: View, base: usize) -> usize
-    requires { Laid p.now v × ((u : ℕ) → u < count p.now → forceOf (board p.now) u < forces) × (base < v.hexes) }
+    requires { Laid p.now v × ((u : ℕ) → u < count p.now → force_of (board p.now) u < forces) × (base < v.hexes) }
     ensures { Tells (Flaw p.now) result (StacksIn (board p.now) base (base + block)) }
 {
     let mut seats = [0u8; 256];

@@ -1,13 +1,13 @@
 // One step of a move: what it costs, and its questions in their order.
 ghost use Rattle.std.specs.Prelude.{◌≡◌, ◌+◌, ◌<◌};
-ghost use Rattle.position.specs.Board.{board, ground, forceOf};
+ghost use Rattle.position.specs.Board.{board, ground, force_of};
 ghost use Rattle.position.specs.Ground.{bearing};
 ghost use Rattle.position.specs.Laid.{Laid, Read};
 ghost use Rattle.field.specs.Scene.{scene};
-ghost use Rattle.field.specs.Zone.{holdsNeutral, enemyZone};
+ghost use Rattle.field.specs.Zone.{holds_neutral, enemy_zone};
 ghost use Rattle.paint.specs.Paint.{Marked};
-ghost use Rattle.march.specs.Step.{sideCost, stepCost};
-ghost use Rattle.march.specs.Move.{allowed, leavesZone, step, afterStep, leg};
+ghost use Rattle.march.specs.Step.{side_cost, step_cost};
+ghost use Rattle.march.specs.Move.{allowed, leaves_zone, step, after_step, leg};
 ghost use Rattle.march.specs.Judged.{WayOf};
 
 use field::{unit, zone};
@@ -25,7 +25,7 @@ pub fn allowed(p: &[u8], v: View, u: usize) -> usize
 
 fn side_cost(p: &[u8], v: View, s: usize) -> usize
     requires { Laid p.now v }
-    ensures { Read (sideCost (board p.now) s) 256 result }
+    ensures { Read (side_cost (board p.now) s) 256 result }
 {
     if s == ground::RIVER {
         return read::cost(p, v, layout::RIVER);
@@ -39,7 +39,7 @@ fn side_cost(p: &[u8], v: View, s: usize) -> usize
 // What a step from hex `h` to hex `x` costs, which lies in direction `d`.
 fn step_cost(p: &[u8], v: View, h: usize, x: usize, d: usize) -> usize
     requires { Laid p.now v × (d < 6) × (d ≡ bearing (ground p.now) h x) }
-    ensures { Read (stepCost (board p.now) h x) 512 result }
+    ensures { Read (step_cost (board p.now) h x) 512 result }
 {
     let terrain = read::terrain(p, v, x);
     read::cost(p, v, terrain) + side_cost(p, v, ground::between(p, v, h, x, d))
@@ -48,7 +48,7 @@ fn step_cost(p: &[u8], v: View, h: usize, x: usize, d: usize) -> usize
 // Whether hex `x`, which has the marks `m`, holds a force that is neutral to force `f`. Where nobody stands, no unit has to be asked.
 fn neutral_there(p: &[u8], v: View, f: usize, x: usize, m: usize) -> bool
     requires { Laid p.now v × Marked (scene (board p.now)) f x m }
-    ensures { result ≡ holdsNeutral (scene (board p.now)) f x }
+    ensures { result ≡ holds_neutral (scene (board p.now)) f x }
 {
     if bits::has(paint::HELD, m) {
         return zone::holds_neutral(p, v, f, x);
@@ -68,8 +68,8 @@ pub fn one_step(
     x: usize,
     k: usize,
 ) -> Way
-    requires { Laid p.now v × (spent < 256) × (leaves ≡ leavesZone (board p.now) u (leg at spent) k) }
-    ensures { WayOf p.now (step (board p.now) u (leg at spent) x k) (afterStep (board p.now) (leg at spent) x).spent (enemyZone (scene (board p.now)) (forceOf (board p.now) u) x) result }
+    requires { Laid p.now v × (spent < 256) × (leaves ≡ leaves_zone (board p.now) u (leg at spent) k) }
+    ensures { WayOf p.now (step (board p.now) u (leg at spent) x k) (after_step (board p.now) (leg at spent) x).spent (enemy_zone (scene (board p.now)) (force_of (board p.now) u) x) result }
 {
     if leaves {
         return Way::Stop(9, k);

@@ -32,7 +32,7 @@ pub record TileOf (b : Board) (h : ℕ) (r : Tile) : Type 0 where
 -- the desk, as the board shows it
 pub record DeskOf (b : Board) (r : Desk) : Type 0 where
   pub turn : r.turn ≡ b.desk.clock.turn
-  pub lastTurn : r.last ≡ b.desk.lastTurn
+  pub last_turn : r.last ≡ b.desk.last_turn
   pub force : r.force ≡ b.desk.clock.force
   pub phase : r.phase ≡ b.desk.clock.phase
   pub stage : r.stage ≡ b.desk.battle.stage

@@ -8,10 +8,10 @@ use lib.Dec.{ltb, eqb}
 use Rattle.position.specs.Board.{Board}
 use Rattle.position.specs.Kind.{canada}
 use Rattle.ruling.specs.Packed.Replies.{plainly}
-use Rattle.ruling.proofs.Bounded.{Bounded, bounded-past, bounded-ruled}
-use Rattle.supply.specs.Supply.{supplyRule}
+use Rattle.ruling.proofs.Bounded.{Bounded, bounded_past, bounded_ruled}
+use Rattle.supply.specs.Supply.{supply_rule}
 
-pub supply-bounded : {p l : List ℕ} (b : Board) (n long : ℕ) → Bounded plainly p l (supplyRule b n long)
-unfolding supplyRule
-supply-bounded b n long =
-    bounded-past (not (eqb long b.map.hexes)) refl (λ _. bounded-past (ltb canada n) refl (λ _. bounded-ruled refl))
+pub supply_bounded : {p l : List ℕ} (b : Board) (n long : ℕ) → Bounded plainly p l (supply_rule b n long)
+unfolding supply_rule
+supply_bounded b n long =
+    bounded_past (not (eqb long b.map.hexes)) refl (λ _. bounded_past (ltb canada n) refl (λ _. bounded_ruled refl))

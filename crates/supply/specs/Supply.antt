@@ -7,7 +7,7 @@ use Rattle.position.specs.Kind.{canada}
 use Rattle.ruling.specs.Values.{accepting}
 use Rattle.ruling.specs.Verdict.{Verdict}
 use Rattle.ruling.specs.Verdict.Judge.{rule}
-use Rattle.ruling.specs.Verdict.Verdict.{refuseIf, judge}
+use Rattle.ruling.specs.Verdict.Verdict.{refuse_if, judge}
 use Rattle.walk.specs.Chain.{Chain}
 use Rattle.walk.specs.Sweep.{chained, tab}
 use Rattle.field.specs.Scene.{Scene, scene}
@@ -26,13 +26,13 @@ unfoldable pub supplied : Scene → ℕ → ℕ → Bool
 supplied s n h = chained (next s.map) (grades s n) h
 
 -- "writes 1 or 0 per hex"
-unfoldable pub supplyMap : Scene → ℕ → List ℕ
-supplyMap s n = tab s.map.hexes (λ h. cond (supplied s n h) 1 0)
+unfoldable pub supply_map : Scene → ℕ → List ℕ
+supply_map s n = tab s.map.hexes (λ h. cond (supplied s n h) 1 0)
 
 -- "The supply call, allowed in any phase and stage, takes a nationality and writes 1 or 0 per hex into a buffer of exactly
 -- width x height bytes." Refusal 3 looks at the length first, then at the nationality.
-unfoldable pub supplyRule : Board → ℕ → ℕ → Verdict
-supplyRule b n long =
-    refuseIf (not (eqb long b.map.hexes)) 3 0
-    (refuseIf (ltb canada n) 3 0
-    (judge (rule accepting [] (supplyMap (scene b) n))))
+unfoldable pub supply_rule : Board → ℕ → ℕ → Verdict
+supply_rule b n long =
+    refuse_if (not (eqb long b.map.hexes)) 3 0
+    (refuse_if (ltb canada n) 3 0
+    (judge (rule accepting [] (supply_map (scene b) n))))

@@ -4,16 +4,16 @@ ghost use Rattle.position.specs.Kind.{force, us, canada};
 ghost use Rattle.position.specs.Board.{board};
 ghost use Rattle.position.specs.Laid.{Laid, Read};
 ghost use Rattle.field.specs.Scene.{scene};
-ghost use Rattle.supply.specs.Open.{homeSource, coastal, landing};
-ghost use Rattle.supply.specs.Traced.{Traced, regradeBy};
-ghost use Rattle.supply.specs.Graded.{MapShows, Grades, openBy, landedBy, sourceBy, gradeBy};
+ghost use Rattle.supply.specs.Open.{home_source, coastal, landing};
+ghost use Rattle.supply.specs.Traced.{Traced, regrade_by};
+ghost use Rattle.supply.specs.Graded.{MapShows, Grades, open_by, landed_by, source_by, grade_by};
 
 use position::{View, bits, kind, layout, read};
 
 // Whether hex `h`, which is painted `m`, is open.
 fn open_by(p: &[u8], v: View, h: usize, m: usize) -> bool
     requires { Laid p.now v }
-    ensures { result ≡ openBy (scene (board p.now)) h m }
+    ensures { result ≡ open_by (scene (board p.now)) h m }
 {
     if 1 < read::surface(p, v, h) {
         return false;
@@ -30,7 +30,7 @@ fn open_by(p: &[u8], v: View, h: usize, m: usize) -> bool
 // Whether hex `h` is a supply hex of country `c`.
 fn home_source(p: &[u8], v: View, c: usize, h: usize) -> bool
     requires { Laid p.now v }
-    ensures { result ≡ homeSource (scene (board p.now)) c h }
+    ensures { result ≡ home_source (scene (board p.now)) c h }
 {
     if bits::has(bits::SUPPLY, read::flags(p, v, h)) {
         return read::country(p, v, h) == c;
@@ -66,7 +66,7 @@ fn landing(p: &[u8], v: View, h: usize) -> bool
 // Whether hex `h`, which is painted `m`, is a source of a force that came over the sea.
 fn landed_by(p: &[u8], v: View, h: usize, m: usize) -> bool
     requires { Laid p.now v }
-    ensures { result ≡ landedBy (scene (board p.now)) h m }
+    ensures { result ≡ landed_by (scene (board p.now)) h m }
 {
     if coastal(p, v, h) {
         if bits::has(paint::DEPOT, m) {
@@ -82,7 +82,7 @@ fn landed_by(p: &[u8], v: View, h: usize, m: usize) -> bool
 // Whether hex `h`, which is painted `m`, is a source of nationality `n`.
 fn source_by(p: &[u8], v: View, n: usize, h: usize, m: usize) -> bool
     requires { Laid p.now v }
-    ensures { result ≡ sourceBy (scene (board p.now)) n h m }
+    ensures { result ≡ source_by (scene (board p.now)) n h m }
 {
     if n == kind::US {
         return home_source(p, v, 1, h);
@@ -96,7 +96,7 @@ fn source_by(p: &[u8], v: View, n: usize, h: usize, m: usize) -> bool
 // The grade of hex `h`, which is painted `m`: 0 closed, 1 open, 2 open and a source.
 fn grade_by(p: &[u8], v: View, n: usize, h: usize, m: usize) -> usize
     requires { Laid p.now v }
-    ensures { Read (gradeBy (scene (board p.now)) n h m) 3 result }
+    ensures { Read (grade_by (scene (board p.now)) n h m) 3 result }
 {
     if !open_by(p, v, h, m) {
         return 0;
@@ -122,7 +122,7 @@ pub fn grade(p: &[u8], v: View, buf: &mut [u8], n: usize)
 // The grade for Canada of hex `h`, which is traced `m` for the US: the same hexes are open for both.
 fn regrade_by(p: &[u8], v: View, h: usize, m: usize) -> usize
     requires { Laid p.now v }
-    ensures { Read (regradeBy (scene (board p.now)) h m) 3 result }
+    ensures { Read (regrade_by (scene (board p.now)) h m) 3 result }
 {
     if m <= 0 {
         return 0;

@@ -5,12 +5,12 @@ ghost use Rattle.std.specs.Prelude.{◌≡◌, ◌<◌, length};
 ghost use Rattle.position.specs.Board.{board};
 ghost use Rattle.position.specs.Laid.{Laid};
 ghost use Rattle.ruling.specs.Verdict.{Met};
-ghost use Rattle.ruling.specs.Answers.{answerAs};
+ghost use Rattle.ruling.specs.Answers.{answer_as};
 ghost use Rattle.field.specs.Scene.{scene};
 ghost use Rattle.position.specs.Kind.{us, canada};
 ghost use Rattle.supply.specs.Graded.{Grades};
 ghost use Rattle.supply.specs.Traced.{Traced};
-ghost use Rattle.supply.specs.Supply.{supplyMap, supplyRule};
+ghost use Rattle.supply.specs.Supply.{supply_map, supply_rule};
 
 use position::{View, kind};
 use ruling::Answer;
@@ -29,7 +29,7 @@ fn grades(p: &[u8], v: View, n: usize, out: &mut [u8])
 // 1 for each hex that is supplied for nationality `n` and 0 for each other, whatever the buffer held.
 pub fn fill(p: &[u8], v: View, n: usize, out: &mut [u8])
     requires { Laid p.now v × (length out.old ≡ v.hexes) }
-    ensures { out.new ≡ supplyMap (scene (board p.now)) n }
+    ensures { out.new ≡ supply_map (scene (board p.now)) n }
 {
     grades(p, v, n, out);
     walking::walk(p, v, out);
@@ -56,7 +56,7 @@ pub fn retrace(p: &[u8], v: View, out: &mut [u8])
 // The supply call on a checked position: 1 or 0 per hex for a nationality, into a buffer of exactly width x height bytes.
 pub fn supply(p: &[u8], v: View, nationality: usize, out: &mut [u8]) -> Answer
     requires { Laid p.now v }
-    ensures { Met p.now out.old (supplyRule (board p.now) nationality (length out.old)) (answerAs result) p.now out.new }
+    ensures { Met p.now out.old (supply_rule (board p.now) nationality (length out.old)) (answer_as result) p.now out.new }
 {
     let hexes = v.hexes;
     if out.len() != hexes {

@@ -10,17 +10,17 @@ use borrow.Author.Tests.{ltb-true, leb-true, le-leb, lt-leb, lt-ltb, le-ltb}
 use Rattle.grid.specs.declared.Beside.TheVariants.{At}
 use Rattle.survey.specs.declared.Spot.{Spot}
 use Rattle.survey.specs.declared.region.Region.{Region}
-use Rattle.grid.specs.Map.{On, onMap, neighbourOf}
+use Rattle.grid.specs.Map.{On, on_map, neighbour_of}
 use Rattle.grid.specs.Walk.{gap_of, depth, far, distance_of}
 use Rattle.survey.specs.Spot.{SpotOf}
 use Rattle.survey.specs.Region.{RegionOk, places_of, Inside, inside, place_of, place_in, HexOf, Alike, Whole, Round, Away, Before, Past}
-use Rattle.grid.proofs.Arith.{number, column-of, row_of}
+use Rattle.grid.proofs.Arith.{number, column_of_lem, row_of}
 use Rattle.grid.proofs.Arith as Map
-use Rattle.grid.proofs.Tests.{both_yes, on-facts, on_test}
+use Rattle.grid.proofs.Tests.{both_yes, on_facts, on_test}
 use Rattle.grid.proofs.Step.{Goes, stepped, steps}
-use Rattle.survey.proofs.Spots.{spot-column, spot-row}
-use Rattle.grid.proofs.Laws.{from-map}
-use Rattle.grid.proofs.Close.{Close, far-close, beside-close}
+use Rattle.survey.proofs.Spots.{spot_column, spot_row}
+use Rattle.grid.proofs.Laws.{from_map}
+use Rattle.grid.proofs.Close.{Close, far_close, beside_close}
 
 -- a test's answer is not both
 not_yes : ◌≡◌ {A = Bool} true false → ⊥
@@ -33,19 +33,19 @@ positive i (suc n) m l = omega arith
 
 module _ {w h : ℕ} {at : Region} {x : ℕ} (i : Inside w h at x) where
   -- the column and the row of a hex's place
-  in-column : x % w + 8 - at.left < at.wide
-  in-column = omega (arith, i.left, i.right)
+  in_column : x % w + 8 - at.left < at.wide
+  in_column = omega (arith, i.left, i.right)
 
   in_row : x / w + 8 - at.top < at.high
   in_row = omega (arith, i.top, i.bottom)
 
-  place-column : place_of w at x % at.wide ≡ x % w + 8 - at.left
+  place_column : place_of w at x % at.wide ≡ x % w + 8 - at.left
   unfolding place_of
-  place-column = column-of (x / w + 8 - at.top) in-column
+  place_column = column_of_lem (x / w + 8 - at.top) in_column
 
-  place-row : place_of w at x / at.wide ≡ x / w + 8 - at.top
+  place_row : place_of w at x / at.wide ≡ x / w + 8 - at.top
   unfolding place_of
-  place-row = row_of (x / w + 8 - at.top) in-column
+  place_row = row_of (x / w + 8 - at.top) in_column
 
   -- the place is one of the region's
   pub place-in : place_of w at x < places_of at
@@ -53,15 +53,15 @@ module _ {w h : ℕ} {at : Region} {x : ℕ} (i : Inside w h at x) where
   place-in =
       let r = x / w + 8 - at.top in
       let s : suc r * at.wide ≤ at.high * at.wide = mul-le-mul_right at.wide in_row in
-      omega (arith, suc-mul r at.wide, mul_comm at.wide at.high, in-column)
+      omega (arith, suc-mul r at.wide, mul_comm at.wide at.high, in_column)
 
 -- two hexes have two places
-pub place-one : {w h : ℕ} {at : Region} {x y : ℕ} → Inside w h at x → Inside w h at y → place_of w at x ≡ place_of w at y → x ≡ y
-place-one {w} {h} {at} {x} {y} i j e =
+pub place_one : {w h : ℕ} {at : Region} {x y : ℕ} → Inside w h at x → Inside w h at y → place_of w at x ≡ place_of w at y → x ≡ y
+place_one {w} {h} {at} {x} {y} i j e =
     let c : x % w + 8 - at.left ≡ y % w + 8 - at.left =
-    sym (place-column i) ∙ ap (λ (n : ℕ). n % at.wide) e ∙ place-column j in
+    sym (place_column i) ∙ ap (λ (n : ℕ). n % at.wide) e ∙ place_column j in
     let r : x / w + 8 - at.top ≡ y / w + 8 - at.top =
-    sym (place-row i) ∙ ap (λ (n : ℕ). n / at.wide) e ∙ place-row j in
+    sym (place_row i) ∙ ap (λ (n : ℕ). n / at.wide) e ∙ place_row j in
     let ec : x % w ≡ y % w = omega (arith, c, i.left, j.left) in
     let er : x / w ≡ y / w = omega (arith, r, i.top, j.top) in
     sym (number w x) ∙ ap₂ (λ (m n : ℕ). m * w + n) er ec ∙ number w y
@@ -71,8 +71,8 @@ pub placed :
     {w h : ℕ} {at : Region} {x i : ℕ} → Inside w h at x → place_of w at x ≡ i
     → (i % at.wide + at.left ≡ x % w + 8) × (i / at.wide + at.top ≡ x / w + 8)
 placed {w} {h} {at} {x} {i} k e =
-    let c : i % at.wide ≡ x % w + 8 - at.left = ap (λ (n : ℕ). n % at.wide) (sym e) ∙ place-column k in
-    let r : i / at.wide ≡ x / w + 8 - at.top = ap (λ (n : ℕ). n / at.wide) (sym e) ∙ place-row k in
+    let c : i % at.wide ≡ x % w + 8 - at.left = ap (λ (n : ℕ). n % at.wide) (sym e) ∙ place_column k in
+    let r : i / at.wide ≡ x / w + 8 - at.top = ap (λ (n : ℕ). n / at.wide) (sym e) ∙ place_row k in
     (omega (arith, c, k.left), omega (arith, r, k.top))
 
 -- so a place whose column and row lie on the map has the hex there
@@ -88,7 +88,7 @@ hex-there {w} {h} {at} {i} o l a b c d =
     let x = r * w + q in
     let ql : q < w = omega arith in
     let rl : r < h = omega arith in
-    let ec : x % w ≡ q = column-of r ql in
+    let ec : x % w ≡ q = column_of_lem r ql in
     let er : x / w ≡ r = row_of r ql in
     let cl : i % n < n = mod-lt i (positive i at.wide at.high l) in
     let rk : i / n < at.high = (div-lt_iff_lt-mul (positive i at.wide at.high l)).1 (omega (arith, mul_comm at.wide at.high)) in
@@ -108,28 +108,28 @@ hex-there {w} {h} {at} {i} o l a b c d =
 
 -- the test is true exactly of the hexes that the region has
 module _ (w h : ℕ) (at : Region) (x : ℕ) where
-  pub inside-facts : inside w h at x ≡ true → Inside w h at x
+  pub inside_facts : inside w h at x ≡ true → Inside w h at x
   unfolding inside
-  inside-facts e =
+  inside_facts e =
       let left = leb at.left (x % w + 8) in
       let right = ltb (x % w + 8) (at.left + at.wide) in
       let top = leb at.top (x / w + 8) in
       let bottom = ltb (x / w + 8) (at.top + at.high) in
-      let a = both_yes (onMap w h x) ((left && right) && (top && bottom)) e in
+      let a = both_yes (on_map w h x) ((left && right) && (top && bottom)) e in
       let b = both_yes (left && right) (top && bottom) a.1 in
       let c = both_yes left right b.0 in
       let d = both_yes top bottom b.1 in
       record {
-        on = on-facts w h x a.0;
+        on = on_facts w h x a.0;
         left = leb-true at.left (x % w + 8) c.0;
         right = ltb-true (x % w + 8) (at.left + at.wide) c.1;
         top = leb-true at.top (x / w + 8) d.0;
         bottom = ltb-true (x / w + 8) (at.top + at.high) d.1;
       }
 
-  pub inside-test : Inside w h at x → inside w h at x ≡ true
+  pub inside_test : Inside w h at x → inside w h at x ≡ true
   unfolding inside
-  inside-test i =
+  inside_test i =
       simp (
         on_test w h x i.on,
         le-leb at.left (x % w + 8) i.left,
@@ -138,38 +138,38 @@ module _ (w h : ℕ) (at : Region) (x : ℕ) where
         lt-ltb (x / w + 8) (at.top + at.high) i.bottom,
       )
 
-  pub inside-not : inside w h at x ≡ false → Inside w h at x → ⊥
-  inside-not e i = let z : ◌≡◌ {A = Bool} true false = sym (inside-test i) ∙ e in not_yes z
+  pub inside_not : inside w h at x ≡ false → Inside w h at x → ⊥
+  inside_not e i = let z : ◌≡◌ {A = Bool} true false = sym (inside_test i) ∙ e in not_yes z
 
   -- the place of a number by the test
-  pub place-some : Inside w h at x → place_in w h at x ≡ place_of w at x
+  pub place_some : Inside w h at x → place_in w h at x ≡ place_of w at x
   unfolding place_in
-  place-some i = simp (inside-test i)
+  place_some i = simp (inside_test i)
 
   pub place_none : inside w h at x ≡ false → place_in w h at x ≡ places_of at
   unfolding place_in
   place_none e = simp e
 
   -- what is no hex of the map
-  pub off-map : onMap w h x ≡ false → inside w h at x ≡ false
+  pub off_map_lem : on_map w h x ≡ false → inside w h at x ≡ false
   unfolding inside
-  off-map e = simp e
+  off_map_lem e = simp e
 
   -- a hex of the map, test by test
   module _ (o : On w h x) where
-    pub outside-left : x % w + 8 < at.left → inside w h at x ≡ false
+    pub outside_left : x % w + 8 < at.left → inside w h at x ≡ false
     unfolding inside
-    outside-left l = simp (on_test w h x o, lt-leb at.left (x % w + 8) l)
+    outside_left l = simp (on_test w h x o, lt-leb at.left (x % w + 8) l)
 
     module _ (a : at.left ≤ x % w + 8) where
-      pub outside-right : at.left + at.wide ≤ x % w + 8 → inside w h at x ≡ false
+      pub outside_right : at.left + at.wide ≤ x % w + 8 → inside w h at x ≡ false
       unfolding inside
-      outside-right l = simp (on_test w h x o, le-leb at.left (x % w + 8) a, le-ltb (x % w + 8) (at.left + at.wide) l)
+      outside_right l = simp (on_test w h x o, le-leb at.left (x % w + 8) a, le-ltb (x % w + 8) (at.left + at.wide) l)
 
       module _ (b : x % w + 8 < at.left + at.wide) where
-        pub outside-top : x / w + 8 < at.top → inside w h at x ≡ false
+        pub outside_top : x / w + 8 < at.top → inside w h at x ≡ false
         unfolding inside
-        outside-top l =
+        outside_top l =
             simp (
               on_test w h x o,
               le-leb at.left (x % w + 8) a,
@@ -177,9 +177,9 @@ module _ (w h : ℕ) (at : Region) (x : ℕ) where
               lt-leb at.top (x / w + 8) l,
             )
 
-        pub by-bottom : at.top ≤ x / w + 8 → inside w h at x ≡ ltb (x / w + 8) (at.top + at.high)
+        pub by_bottom : at.top ≤ x / w + 8 → inside w h at x ≡ ltb (x / w + 8) (at.top + at.high)
         unfolding inside
-        by-bottom l =
+        by_bottom l =
             simp (
               on_test w h x o,
               le-leb at.left (x % w + 8) a,
@@ -188,14 +188,14 @@ module _ (w h : ℕ) (at : Region) (x : ℕ) where
             )
 
 -- a number with a hex's place is that hex
-pub place-back : (w h : ℕ) (at : Region) (x z : ℕ) → Inside w h at x → place_in w h at z ≡ place_in w h at x → z ≡ x
-place-back w h at x z i e = go (inside w h at z) refl
+pub place_back : (w h : ℕ) (at : Region) (x z : ℕ) → Inside w h at x → place_in w h at z ≡ place_in w h at x → z ≡ x
+place_back w h at x z i e = go (inside w h at z) refl
   where
     go : (t : Bool) → inside w h at z ≡ t → z ≡ x
     go true q =
-        let j = inside-facts w h at z q in
-        place-one j i (sym (place-some w h at z j) ∙ e ∙ place-some w h at x i)
-    go false q = absurd (omega (arith, place_none w h at z q, e, place-some w h at x i, place-in i))
+        let j = inside_facts w h at z q in
+        place_one j i (sym (place_some w h at z j) ∙ e ∙ place_some w h at x i)
+    go false q = absurd (omega (arith, place_none w h at z q, e, place_some w h at x i, place-in i))
 
 -- numbers that are shifted alike are as far apart
 gap_same : (a b a' b' s t : ℕ) → a + s ≡ a' + t → b + s ≡ b' + t → gap_of a b ≡ gap_of a' b'
@@ -207,14 +207,14 @@ module _ {w h : ℕ} {at : Region} (even : at.left % 2 ≡ 0) where
   deep : {x : ℕ} → Inside w h at x → depth (place_of w at x % at.wide) (place_of w at x / at.wide) + 2 * at.top ≡ depth (x % w) (x / w) + 16
   deep {x} i =
       let p : (x % w + 8 - at.left) % 2 ≡ x % w % 2 = omega (arith, i.left) in
-      omega (arith, p, i.top, place-column i, place-row i)
+      omega (arith, p, i.top, place_column i, place_row i)
 
   over : {x : ℕ} → Inside w h at x → place_of w at x % at.wide + at.left ≡ x % w + 8
-  over i = omega (arith, i.left, place-column i)
+  over i = omega (arith, i.left, place_column i)
 
-  as-far : {x z : ℕ} → Inside w h at x → Inside w h at z → distance_of at.wide (place_of w at x) (place_of w at z) ≡ distance_of w x z
+  as_far : {x z : ℕ} → Inside w h at x → Inside w h at z → distance_of at.wide (place_of w at x) (place_of w at z) ≡ distance_of w x z
   unfolding distance_of far
-  as-far {x} {z} i j =
+  as_far {x} {z} i j =
       let a = place_of w at x in
       let b = place_of w at z in
       let n = at.wide in
@@ -223,8 +223,8 @@ module _ {w h : ℕ} {at : Region} (even : at.left % 2 ≡ 0) where
       (gap_same (depth (a % n) (a / n)) (depth (b % n) (b / n)) (depth (x % w) (x / w)) (depth (z % w) (z / w)) (2 * at.top) 16 (deep i) (deep j))
 
   as-steps :
-      RegionOk at → (x d z : ℕ) → Inside w h at x → Inside w h at z → neighbourOf w h x d ≡ At z
-      → neighbourOf at.wide at.high (place_of w at x) d ≡ At (place_of w at z)
+      RegionOk at → (x d z : ℕ) → Inside w h at x → Inside w h at z → neighbour_of w h x d ≡ At z
+      → neighbour_of at.wide at.high (place_of w at x) d ≡ At (place_of w at z)
   as-steps k x d z i j e =
       let a = place_of w at x in
       let b = place_of w at z in
@@ -235,18 +235,18 @@ module _ {w h : ℕ} {at : Region} (even : at.left % 2 ≡ 0) where
       in
       let o : On at.wide at.high a =
       record {
-        wide = omega (arith, in-column i);
+        wide = omega (arith, in_column i);
         wide64 = k.wide;
         high = omega (arith, in_row i);
         high64 = k.high;
         below = place-in i;
       }
       in
-      steps n at.high a d (b % n) (b / n) o (omega (arith, place-column j, in-column j)) (omega (arith, place-row j, in_row j)) g'
+      steps n at.high a d (b % n) (b / n) o (omega (arith, place_column j, in_column j)) (omega (arith, place_row j, in_row j)) g'
       ∙ ap At (number n b)
 
   pub alike : RegionOk at → Alike w h at
-  alike k = record { steps = as-steps k; far = λ x z i j. as-far i j }
+  alike k = record { steps = as-steps k; far = λ x z i j. as_far i j }
 
 -- hexes more than a row or a column outside the region, and numbers that are no hex, are away from it
 module _ {w h : ℕ} {at : Region} (x : ℕ) where
@@ -254,54 +254,54 @@ module _ {w h : ℕ} {at : Region} (x : ℕ) where
   apart f =
       record {
         other = λ i. f x i (record { east = omega arith; west = omega arith; south = omega arith; north = omega arith });
-        apart = λ y d i e. f y i (beside-close w h x d y e);
+        apart = λ y d i e. f y i (beside_close w h x d y e);
       }
 
-  pub away-above : x / w + 9 < at.top → Away w h at x
-  away-above l = apart (λ y i c. omega (arith, i.top, c.south))
+  pub away_above : x / w + 9 < at.top → Away w h at x
+  away_above l = apart (λ y i c. omega (arith, i.top, c.south))
 
-  pub away-below : at.top + at.high < x / w + 8 → Away w h at x
-  away-below l = apart (λ y i c. omega (arith, i.bottom, c.north))
+  pub away_below : at.top + at.high < x / w + 8 → Away w h at x
+  away_below l = apart (λ y i c. omega (arith, i.bottom, c.north))
 
-  pub away-left : x % w + 9 < at.left → Away w h at x
-  away-left l = apart (λ y i c. omega (arith, i.left, c.east))
+  pub away_left : x % w + 9 < at.left → Away w h at x
+  away_left l = apart (λ y i c. omega (arith, i.left, c.east))
 
-  pub away-right : at.left + at.wide < x % w + 8 → Away w h at x
-  away-right l = apart (λ y i c. omega (arith, i.right, c.west))
+  pub away_right : at.left + at.wide < x % w + 8 → Away w h at x
+  away_right l = apart (λ y i c. omega (arith, i.right, c.west))
 
-  pub away-off : w * h ≤ x → Away w h at x
-  away-off l =
+  pub away_off : w * h ≤ x → Away w h at x
+  away_off l =
       record {
         other = λ i. omega (arith, i.on.below);
-        apart = λ y d i e. omega (arith, (from-map w h x d y e).below);
+        apart = λ y d i e. omega (arith, (from_map w h x d y e).below);
       }
 
 -- the rows above and below the region, by the numbers of their hexes
 module _ {w h : ℕ} {at : Region} where
-  pub before-none : Before w h at 0
-  before-none = record { each = λ x l. absurd (omega arith) }
+  pub before_none : Before w h at 0
+  before_none = record { each = λ x l. absurd (omega arith) }
 
-  pub before-top : 1 ≤ w → 9 ≤ at.top → Before w h at ((at.top - 8 - 1) * w)
-  before-top p q =
-      record { each = λ x l. away-above x (let k : x / w < at.top - 8 - 1 = (div-lt_iff_lt-mul p).1 l in omega arith) }
+  pub before_top : 1 ≤ w → 9 ≤ at.top → Before w h at ((at.top - 8 - 1) * w)
+  before_top p q =
+      record { each = λ x l. away_above x (let k : x / w < at.top - 8 - 1 = (div-lt_iff_lt-mul p).1 l in omega arith) }
 
-  pub past-map : Past w h at (w * h)
-  past-map = record { most = omega arith; each = λ x l. away-off x l }
+  pub past_map : Past w h at (w * h)
+  past_map = record { most = omega arith; each = λ x l. away_off x l }
 
-  pub past-bottom : 1 ≤ w → RegionOk at → at.top + at.high - 8 < h → Past w h at ((at.top + at.high - 8 + 1) * w)
-  past-bottom p k q =
+  pub past_bottom : 1 ≤ w → RegionOk at → at.top + at.high - 8 < h → Past w h at ((at.top + at.high - 8 + 1) * w)
+  past_bottom p k q =
       let n = at.top + at.high - 8 + 1 in
       let s : n * w ≤ h * w = mul-le-mul_right w (omega arith) in
       record {
         most = omega (arith, mul_comm w h);
-        each = λ x l. away-below x (let m : n ≤ x / w = (le-div_iff_mul-le p).1 l in omega (arith, k.reaches));
+        each = λ x l. away_below x (let m : n ≤ x / w = (le-div_iff_mul-le p).1 l in omega (arith, k.reaches));
       }
 
 -- a spot's column and row, and its place by them
 module _ {w h : ℕ} {s : Spot} (o : SpotOf w h s) (at : Region) where
-  pub spot-place : (s.row + 8 - at.top) * at.wide + (s.column + 8 - at.left) ≡ place_of w at s.hex
+  pub spot_place : (s.row + 8 - at.top) * at.wide + (s.column + 8 - at.left) ≡ place_of w at s.hex
   unfolding place_of
-  spot-place = ap₂ (λ (r c : ℕ). (r + 8 - at.top) * at.wide + (c + 8 - at.left)) o.row o.column
+  spot_place = ap₂ (λ (r c : ℕ). (r + 8 - at.top) * at.wide + (c + 8 - at.left)) o.row o.column
 
 -- the whole map as a region
 pub whole_is :
@@ -339,8 +339,8 @@ pub round_is :
     → at.top ≡ s.row + 8 - far → at.wide ≡ 2 * far + 2 → at.high ≡ 2 * far + 1
     → Round w h s.hex far at
 round_is {w} {h} {far} {s} o l at left top wide high =
-    let c = spot-column o in
-    let r = spot-row o in
+    let c = spot_column o in
+    let r = spot_row o in
     let ok : RegionOk at =
     record {
       left = omega (arith, o.on.wide64);
@@ -355,7 +355,7 @@ round_is {w} {h} {far} {s} o l at left top wide high =
       wide = wide;
       high = high;
       near = λ x q n.
-          let k = far-close w s.hex x far n in
+          let k = far_close w s.hex x far n in
           record {
             on = q;
             left = omega (arith, o.column, k.west);

@@ -9,11 +9,11 @@ use native.Mathlib.Omega.{arith}
 use lib.Dec.{eqb}
 use borrow.Author.Tests.{eqb-true, eqb-false}
 use Rattle.grid.specs.declared.Beside.TheVariants.{At}
-use Rattle.grid.specs.Map.{On, neighbourOf}
+use Rattle.grid.specs.Map.{On, neighbour_of}
 use Rattle.grid.proofs.Arith.{small, number, column, row_of}
 use Rattle.grid.proofs.Step.{aside, down, stepped}
-use Rattle.grid.proofs.Laws.{on-map}
-use Rattle.grid.proofs.Close.{beside-close}
+use Rattle.grid.proofs.Laws.{on_map_lem}
+use Rattle.grid.proofs.Close.{beside_close}
 use Rattle.survey.specs.declared.Spot.{Spot}
 use Rattle.survey.specs.declared.run.Run.{Run}
 use Rattle.survey.specs.Spot.{SpotOf}
@@ -38,17 +38,17 @@ module _ {w h : ℕ} {r : Run} (o : RunOf w h r) where
   pub run_down : (r.row + 1) * w ≡ past_of w r
   run_down = omega (arith, add-mul r.row 1 w)
 
-  pub run-far : (r.row + 2) * w ≡ past_of w r + w
-  run-far = omega (arith, add-mul r.row 2 w)
+  pub run_far : (r.row + 2) * w ≡ past_of w r + w
+  run_far = omega (arith, add-mul r.row 2 w)
 
-  pub run-under : r.row + 1 < h → past_of w r + w ≤ w * h
-  run-under p =
+  pub run_under : r.row + 1 < h → past_of w r + w ≤ w * h
+  run_under p =
       let s : suc (r.row + 1) * w ≤ h * w = mul-le-mul_right w p in
       omega (arith, suc-mul (r.row + 1) w, run_down, mul_comm w h)
 
   -- only row 0 begins with hex 0
-  pub run-back : 0 < first_of w r → 1 ≤ r.row
-  run-back p = go (dec_lt r.row 1)
+  pub run_back : 0 < first_of w r → 1 ≤ r.row
+  run_back p = go (dec_lt r.row 1)
     where
       go : Dec (r.row < 1) → 1 ≤ r.row
       go (no l) = omega arith
@@ -71,24 +71,24 @@ module _ {w h : ℕ} {r : Run} (o : RunOf w h r) where
         let e : r.row * w + (k - r.row * w) ≡ k = omega arith in
         ap (λ (n : ℕ). n / w) (sym e) ∙ row_of r.row (omega arith)
 
-    run-near : (d b : ℕ) → neighbourOf w h k d ≡ At b → (first_of w r ≤ b + w) × (b < past_of w r + w)
-    run-near d b e =
-        let c = beside-close w h k d b e in
+    run_near : (d b : ℕ) → neighbour_of w h k d ≡ At b → (first_of w r ≤ b + w) × (b < past_of w r + w)
+    run_near d b e =
+        let c = beside_close w h k d b e in
         let up : r.row ≤ suc (b / w) = omega (arith, c.north, run_row) in
         let down : b / w ≤ suc r.row = omega (arith, c.south, run_row) in
         let n = number w b in
-        let m : b % w < w = column (on-map w h k d b e) in
+        let m : b % w < w = column (on_map_lem w h k d b e) in
         (omega (arith, mul-le-mul_right w up, suc-mul (b / w) w), omega (arith, mul-le-mul_right w down, suc-mul r.row w))
 
   pub near_up : (n : ℕ) → n + w ≤ first_of w r → NearFrom w h r n
-  near_up n l k d b p q e = omega (arith, (run-near p q d b e).0)
+  near_up n l k d b p q e = omega (arith, (run_near p q d b e).0)
 
   pub near_down : {n : ℕ} → n ≤ w * h → past_of w r + w ≤ n → NearTo w h r n
-  near_down m l = record { most = m; each = λ k d b p q e. omega (arith, (run-near p q d b e).1) }
+  near_down m l = record { most = m; each = λ k d b p q e. omega (arith, (run_near p q d b e).1) }
 
   -- no hex lies past the map's last
-  pub near-end : NearTo w h r (w * h)
-  near-end = record { most = omega arith; each = λ k d b p q e. (on-map w h k d b e).below }
+  pub near_end : NearTo w h r (w * h)
+  near_end = record { most = omega arith; each = λ k d b p q e. (on_map_lem w h k d b e).below }
 
 -- the last row ends with the last hex
 pub last_row : {w h : ℕ} → On w h 0 → (h - 1) * w + w ≡ w * h
@@ -98,7 +98,7 @@ last_row {w} {h} o =
 
 -- in an odd column NE leads to the next hex by number, in an even one SE
 module _ {w h : ℕ} {s : Spot} (o : SpotOf w h s) where
-  level : (d : ℕ) → aside d ≡ 2 → down d + s.column % 2 * 2 ≡ 3 → (b : ℕ) → neighbourOf w h s.hex d ≡ At b → b ≡ s.hex + 1
+  level : (d : ℕ) → aside d ≡ 2 → down d + s.column % 2 * 2 ≡ 3 → (b : ℕ) → neighbour_of w h s.hex d ≡ At b → b ≡ s.hex + 1
   level d u v b e =
       let g = (stepped w h s.hex d b e).goes in
       let c : b % w ≡ s.hex % w + 1 = omega (arith, g.over) in
@@ -106,7 +106,7 @@ module _ {w h : ℕ} {s : Spot} (o : SpotOf w h s) where
       let r : b / w ≡ s.hex / w = omega (arith, g.deeper) in
       omega (arith, number w b, number w s.hex, ap (λ (n : ℕ). n * w) r)
 
-  pub level-of : (t : Bool) → eqb (s.column % 2) 1 ≡ t → LevelOf w h s.hex t
+  pub level_of : (t : Bool) → eqb (s.column % 2) 1 ≡ t → LevelOf w h s.hex t
   unfolding aside down
-  level-of true e = let z = eqb-true (s.column % 2) 1 e in level 1 (omega arith) (omega arith)
-  level-of false e = let z = eqb-false (s.column % 2) 1 e in level 2 (omega arith) (omega arith)
+  level_of true e = let z = eqb-true (s.column % 2) 1 e in level 1 (omega arith) (omega arith)
+  level_of false e = let z = eqb-false (s.column % 2) 1 e in level 2 (omega arith) (omega arith)

@@ -5,7 +5,7 @@ use Rattle.std.specs.Prelude.{ℕ, ◌+◌, ◌-◌, ◌*◌, ◌/◌, ◌%◌, 
 use Rattle.grid.specs.declared.Beside.{Beside}
 use Rattle.grid.specs.declared.Beside.TheVariants.{At, Off}
 use Rattle.survey.specs.declared.region.Region.{Region}
-use Rattle.grid.specs.Map.{On, onMap, neighbourOf}
+use Rattle.grid.specs.Map.{On, on_map, neighbour_of}
 use Rattle.grid.specs.Walk.{distance_of}
 
 -- how many columns and rows of a region may lie beyond the map's edge
@@ -35,7 +35,7 @@ pub record Inside (w h : ℕ) (at : Region) (x : ℕ) : Type 0 where
 -- and as a test
 unfoldable pub inside : ℕ → ℕ → Region → ℕ → Bool
 inside w h at x =
-    onMap w h x
+    on_map w h x
     && ((leb at.left (x % w + margin) && ltb (x % w + margin) (at.left + at.wide))
     && (leb at.top (x / w + margin) && ltb (x / w + margin) (at.top + at.high)))
 
@@ -55,8 +55,8 @@ HexOf w h at i Off = (x : ℕ) → Inside w h at x → place_of w at x ≡ i →
 -- places lie to each other as their hexes do on the map: the region is a small map of its own
 pub record Alike (w h : ℕ) (at : Region) : Type 0 where
   pub steps :
-      (x d z : ℕ) → Inside w h at x → Inside w h at z → neighbourOf w h x d ≡ At z
-      → neighbourOf at.wide at.high (place_of w at x) d ≡ At (place_of w at z)
+      (x d z : ℕ) → Inside w h at x → Inside w h at z → neighbour_of w h x d ≡ At z
+      → neighbour_of at.wide at.high (place_of w at x) d ≡ At (place_of w at z)
   pub far :
       (x z : ℕ) → Inside w h at x → Inside w h at z → distance_of at.wide (place_of w at x) (place_of w at z) ≡ distance_of w x z
 
@@ -83,7 +83,7 @@ pub record Round (w h start far : ℕ) (at : Region) : Type 0 where
 -- hex x is away from it: the region has neither x nor a neighbour of x
 pub record Away (w h : ℕ) (at : Region) (x : ℕ) : Type 0 where
   pub other : Inside w h at x → ⊥
-  pub apart : (y d : ℕ) → Inside w h at y → neighbourOf w h x d ≡ At y → ⊥
+  pub apart : (y d : ℕ) → Inside w h at y → neighbour_of w h x d ≡ At y → ⊥
 
 -- so are the numbers before `from`, and those from `to` on; those between are hexes of the map
 pub record Before (w h : ℕ) (at : Region) (from : ℕ) : Type 0 where

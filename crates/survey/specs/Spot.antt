@@ -6,7 +6,7 @@ use Rattle.survey.specs.declared.Spot.{Spot}
 use Rattle.survey.specs.declared.Nearby.{Nearby}
 use Rattle.survey.specs.declared.Nearby.TheVariants.{At, Off}
 use Rattle.grid.specs.declared.Beside.TheVariants as B
-use Rattle.grid.specs.Map.{On, neighbourOf}
+use Rattle.grid.specs.Map.{On, neighbour_of}
 
 -- a spot is a hex of the map with its own column and row: "Hex number = row x width + column"
 pub record SpotOf (w h : ℕ) (s : Spot) : Type 0 where
@@ -16,5 +16,5 @@ pub record SpotOf (w h : ℕ) (s : Spot) : Type 0 where
 
 -- what lies beside a hex in a direction is the neighbour, with the neighbour's column and row
 abbrev pub NearOf : ℕ → ℕ → ℕ → ℕ → Nearby → Type 0
-NearOf w h hex dir (At t) = (neighbourOf w h hex dir ≡ B.At t.hex) × SpotOf w h t
-NearOf w h hex dir Off = neighbourOf w h hex dir ≡ B.Off
+NearOf w h hex dir (At t) = (neighbour_of w h hex dir ≡ B.At t.hex) × SpotOf w h t
+NearOf w h hex dir Off = neighbour_of w h hex dir ≡ B.Off

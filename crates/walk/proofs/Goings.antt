@@ -8,13 +8,13 @@ use lib.ListN.{set}
 use Rattle.grid.specs.declared.Beside.{Beside}
 use Rattle.survey.specs.declared.Nearby.{Nearby}
 use Rattle.survey.specs.declared.Nearby.TheVariants as N
-use Rattle.grid.specs.Map.{neighbourOf}
+use Rattle.grid.specs.Map.{neighbour_of}
 use Rattle.survey.specs.Spot.{NearOf}
 use Rattle.position.proofs.Sides.{off_at}
 use Rattle.walk.specs.declared.Going.{Going}
 use Rattle.walk.specs.declared.Going.TheVariants.{To, Over}
 use Rattle.walk.specs.Chain.{mark}
-use Rattle.walk.specs.Trail.{afterHome, Leads, First, arriving, HomeOf, EnterOf, StepOf}
+use Rattle.walk.specs.Trail.{after_home, Leads, First, arriving, HomeOf, EnterOf, StepOf}
 use Rattle.walk.specs.Trail.Step.{down, back}
 use Rattle.walk.proofs.Steps.{at_at, TwoWay}
 
@@ -24,7 +24,7 @@ pub goes-home :
     → d ≡ k
     → NearOf w h a k b
     → r ≡ arriving b c
-    → c ≡ afterHome k
+    → c ≡ after_home k
     → HomeOf w h a d r
 goes-home w h a d k c b r e n q z = subst (λ (d : ℕ). HomeOf w h a d r) (sym e) (subst (HomeOf w h a k) (sym q) (go b n))
   where
@@ -33,7 +33,7 @@ goes-home w h a d k c b r e n q z = subst (λ (d : ℕ). HomeOf w h a d r) (sym 
     go N.Off n = n
 
 module _
-    {next home : ℕ → ℕ → Beside} (g : TwoWay next home) (w h : ℕ) (is : (a d : ℕ) → neighbourOf w h a d ≡ home a d)
+    {next home : ℕ → ℕ → Beside} (g : TwoWay next home) (w h : ℕ) (is : (a d : ℕ) → neighbour_of w h a d ≡ home a d)
     (l : List ℕ) (a c d : ℕ) (o : First next (mark l) 1 a c 0 d) (out : List ℕ)
   where
     -- a step that finds no hex to enter leaves
@@ -49,9 +49,9 @@ module _
         go Over y = record { none = none; nowhere = sym (is a _) ∙ y; left = e }
 
     -- and one that finds one enters it
-    pub steps-in : (r : Going) → d < 6 → EnterOf w h l a d out r → StepOf w h next home l a c out r
-    steps-in (To t e) p y =
+    pub steps_in : (r : Going) → d < 6 → EnterOf w h l a d out r → StepOf w h next home l a c out r
+    steps_in (To t e) p y =
         let f = (o.found p).leads in
         let same = at_at (g.over a d _ f.there) (sym (is a d) ∙ y.0) in
         (down d o (subst (Leads next (mark l) 1 a d) same f) y.2 y.3, y.1)
-    steps-in Over p y = off_at (sym (is a d) ∙ y) (g.over a d _ (o.found p).leads.there)
+    steps_in Over p y = off_at (sym (is a d) ∙ y) (g.over a d _ (o.found p).leads.there)

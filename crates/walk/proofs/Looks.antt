@@ -14,34 +14,34 @@ use Rattle.position.specs.declared.View.{View}
 use Rattle.position.specs.Layout.{ViewOf}
 use Rattle.position.specs.Board.{Map, ground}
 use Rattle.position.specs.Ground as Ground
-use Rattle.position.specs.Ground.{blockedSide}
-use Rattle.position.proofs.Sides.{off_at, next-over, next-blocked, next-beside, beside-view, area-view}
+use Rattle.position.specs.Ground.{blocked_side}
+use Rattle.position.proofs.Sides.{off_at, next_over, next_blocked, next_beside, beside_view, area_view}
 use Rattle.position.proofs.Tallies.{same_or}
 use Rattle.walk.specs.Trail.{Opens, Shut, First}
 use Rattle.walk.proofs.Steps.{at_at}
 
 -- in direction d of hex a: off the map, over a blocked side, at a hex that is marked otherwise, and else
 module _ (m : Map) (f : ℕ → ℕ) (x a d : ℕ) where
-  pub shut-off : Ground.beside m a d ≡ Off → Shut (Ground.next m) f x a d
-  shut-off e n q = off_at e (next-over m a d n q)
+  pub shut_off : Ground.beside m a d ≡ Off → Shut (Ground.next m) f x a d
+  shut_off e n q = off_at e (next_over m a d n q)
 
-  pub shut-blocked : Ground.side m a d ≡ blockedSide → Shut (Ground.next m) f x a d
-  shut-blocked e n q = off_at (next-blocked m a d e) q
+  pub shut_blocked : Ground.side m a d ≡ blocked_side → Shut (Ground.next m) f x a d
+  shut_blocked e n q = off_at (next_blocked m a d e) q
 
   module _ (b : ℕ) (e : Ground.beside m a d ≡ At b) where
-    pub shut-other : (f b ≡ x → ⊥) → Shut (Ground.next m) f x a d
-    shut-other s n q = subst (λ (k : ℕ). f k ≡ x → ⊥) (at_at e (next-over m a d n q)) s
+    pub shut_other : (f b ≡ x → ⊥) → Shut (Ground.next m) f x a d
+    shut_other s n q = subst (λ (k : ℕ). f k ≡ x → ⊥) (at_at e (next_over m a d n q)) s
 
-    pub opens : (Ground.side m a d ≡ blockedSide → ⊥) → f b ≡ x → Opens (Ground.next m) f x a d
-    opens u n = record { hex = b; leads = record { there = next-beside m a d u ∙ e; marked = n } }
+    pub opens : (Ground.side m a d ≡ blocked_side → ⊥) → f b ≡ x → Opens (Ground.next m) f x a d
+    opens u n = record { hex = b; leads = record { there = next_beside m a d u ∙ e; marked = n } }
 
 -- the first direction, from the last to the first
 module _ {next : ℕ → ℕ → Beside} {f : ℕ → ℕ} {m a c : ℕ} where
-  pub first-none : First next f m a c 6 6
-  first-none = record { most = omega arith; past = λ e p q r. absurd (omega arith); found = λ p. absurd (omega arith) }
+  pub first_none : First next f m a c 6 6
+  first_none = record { most = omega arith; past = λ e p q r. absurd (omega arith); found = λ p. absurd (omega arith) }
 
-  pub first-here : (k : ℕ) → k < 6 → Opens next f m a k → First next f m a c k k
-  first-here k l o = record { most = omega arith; past = λ e p q r. absurd (omega arith); found = λ p. o }
+  pub first_here : (k : ℕ) → k < 6 → Opens next f m a k → First next f m a c k k
+  first_here k l o = record { most = omega arith; past = λ e p q r. absurd (omega arith); found = λ p. o }
 
   pub first_on : (k : ℕ) {r : ℕ} → (c ≤ k → Shut next f m a k) → First next f m a c (suc k) r → First next f m a c k r
   first_on k s o =
@@ -55,13 +55,13 @@ module _ {next : ℕ → ℕ → Beside} {f : ℕ → ℕ} {m a c : ℕ} where
 
 -- what lies near, on the ground
 module _ {p : List ℕ} {v : View} (o : ViewOf p v) (a d : ℕ) {b : Nearby} (n : NearOf v.width v.height a d b) where
-  pub near-beside : {t : Spot} → b ≡ N.At t → Ground.beside (ground p) a d ≡ At t.hex
-  near-beside {t} e = let q : NearOf v.width v.height a d (N.At t) = subst (NearOf v.width v.height a d) e n in sym (beside-view o a d) ∙ q.0
+  pub near_beside : {t : Spot} → b ≡ N.At t → Ground.beside (ground p) a d ≡ At t.hex
+  near_beside {t} e = let q : NearOf v.width v.height a d (N.At t) = subst (NearOf v.width v.height a d) e n in sym (beside_view o a d) ∙ q.0
 
   pub near_none : b ≡ N.Off → Ground.beside (ground p) a d ≡ Off
-  near_none e = let q : NearOf v.width v.height a d N.Off = subst (NearOf v.width v.height a d) e n in sym (beside-view o a d) ∙ q
+  near_none e = let q : NearOf v.width v.height a d N.Off = subst (NearOf v.width v.height a d) e n in sym (beside_view o a d) ∙ q
 
-  pub near-inside : {t : Spot} → b ≡ N.At t → t.hex < v.hexes
-  near-inside {t} e =
+  pub near_inside : {t : Spot} → b ≡ N.At t → t.hex < v.hexes
+  near_inside {t} e =
       let q : NearOf v.width v.height a d (N.At t) = subst (NearOf v.width v.height a d) e n in
-      omega (arith, q.1.on.below, area-view o)
+      omega (arith, q.1.on.below, area_view o)

@@ -15,26 +15,26 @@ use Rattle.grid.specs.declared.Beside.TheVariants.{At}
 use Rattle.position.proofs.Tallies.{same_or}
 use Rattle.walk.specs.Chain.{mark, Chain, OneIf, Reached}
 use Rattle.walk.specs.Chain.Chain.{source, beside}
-use Rattle.walk.specs.Trail.{enteredBy, Ready, Step, Last, Faith, Rest, Kept, Flooded, Apart, Sown, Seeded, Done, Settled}
+use Rattle.walk.specs.Trail.{entered_by, Ready, Step, Last, Faith, Rest, Kept, Flooded, Apart, Sown, Seeded, Done, Settled}
 use Rattle.walk.specs.Swept.{None, Joined, Swept, Walked}
 use Rattle.walk.specs.Trail.Step.{down, back}
-use Rattle.walk.proofs.Marks.{le-or, mark_set, mark-in, weigh, weigh-less}
+use Rattle.walk.proofs.Marks.{le_or, mark_set, mark_in_lem, weigh, weigh_less}
 use Rattle.position.proofs.Sides.{off_at}
 use Rattle.walk.proofs.Steps.{TwoWay}
-use Rattle.walk.proofs.Joins.{swept-grades, swept_kept, swept-on, swept-back}
-use Rattle.walk.proofs.Trails.{all-shut, faith-upd, Way, way-start, way_down, way_back, way-over, complete}
+use Rattle.walk.proofs.Joins.{swept_grades, swept_kept, swept_on, swept_back}
+use Rattle.walk.proofs.Trails.{all-shut, faith_upd, Way, way_start, way_down, way_back, way_over, complete}
 
 -- what is left to do at a hex, by its mark: to enter it, and to leave it
 unfoldable pub work : ℕ → ℕ
 work m = cond (ltb m 8) 2 (1 - m % 8)
 
-work-new : (m : ℕ) → m < 8 → work m ≡ 2
+work_new : (m : ℕ) → m < 8 → work m ≡ 2
 unfolding work
-work-new m p = simp (lt-ltb m 8 p)
+work_new m p = simp (lt-ltb m 8 p)
 
-work-entered : (m : ℕ) → 8 ≤ m → work m ≡ 1 - m % 8
+work_entered : (m : ℕ) → 8 ≤ m → work m ≡ 1 - m % 8
 unfolding work
-work-entered m p = simp (le-ltb m 8 p)
+work_entered m p = simp (le-ltb m 8 p)
 
 -- what is kept where nothing is done, where two runs of steps follow on each other, and where a hex is entered or a mark of one changed
 module _ {next : ℕ → ℕ → Beside} where
@@ -61,66 +61,66 @@ module _ {next : ℕ → ℕ → Beside} where
       record {
         same = ap length e ∙ length-set l i v;
         grown = λ k q. same_or k i (λ c. let z = ap (mark out) c ∙ u.at in absurd (omega arith)) (λ n. u.off k n);
-        faith = λ f₀ t. faith-upd next u b t (s f₀ t);
+        faith = λ f₀ t. faith_upd next u b t (s f₀ t);
       }
 
 -- a step, over the list of the marks
 module _ {next home : ℕ → ℕ → Beside} (g : TwoWay next home) (l : List ℕ) (a c : ℕ) (y : Way next home (mark l) a c) where
   way_in : a < length l
-  way_in = let e : 8 ≤ mark l a = y.entered in mark-in l a (omega arith)
+  way_in = let e : 8 ≤ mark l a = y.entered in mark_in_lem l a (omega arith)
 
-  pub way-ready : Ready l a
-  way-ready = record { inside = way_in; entered = y.entered; still = y.still }
+  pub way_ready : Ready l a
+  way_ready = record { inside = way_in; entered = y.entered; still = y.still }
 
-  left-kept : {out : List ℕ} → out ≡ set l a (mark l a + 7) → Kept next l out
-  left-kept e = let o : 8 ≤ mark l a = y.entered in kept_set l a (mark l a + 7) e way_in (omega arith) (λ f₀ t. t.sound a o)
+  left_kept : {out : List ℕ} → out ≡ set l a (mark l a + 7) → Kept next l out
+  left_kept e = let o : 8 ≤ mark l a = y.entered in kept_set l a (mark l a + 7) e way_in (omega arith) (λ f₀ t. t.sound a o)
 
   pub step_kept : {out : List ℕ} {b e : ℕ} → Step next home l a c out b e → Kept next l out
   step_kept {b = b} (down d p w z e) =
       let o = w.marked in
-      kept_set l b (enteredBy d) e (mark-in l b (omega arith)) (omega arith)
+      kept_set l b (entered_by d) e (mark_in_lem l b (omega arith)) (omega arith)
       (λ f₀ t.
       let k : mark l b ≡ f₀ b = t.kept b (omega arith) in
       beside ((d + 3) % 6) (omega arith) (g.turn a d b w.there) (t.sound a y.entered))
-  step_kept (back p h z e) = left-kept e
+  step_kept (back p h z e) = left_kept e
 
-  pub step-way : {out : List ℕ} {b e : ℕ} → Step next home l a c out b e → Way next home (mark out) b e
-  step-way {out} {b} (down d p w z e) =
+  pub step_way : {out : List ℕ} {b e : ℕ} → Step next home l a c out b e → Way next home (mark out) b e
+  step_way {out} {b} (down d p w z e) =
       let o = w.marked in
       subst (Way next home (mark out) b) (sym z)
-      (way_down next home d y (mark_set l b (enteredBy d) e (mark-in l b (omega arith))) p w.there (under-six b d w.there) w.marked
+      (way_down next home d y (mark_set l b (entered_by d) e (mark_in_lem l b (omega arith))) p w.there (under_six b d w.there) w.marked
       (g.over b ((d + 3) % 6) a (g.turn a d b w.there)))
     where
-      under-six : (b d : ℕ) → next a d ≡ At b → d < 6
-      under-six b d e = le-or 6 d (λ q. off_at (g.six a d q) e) (λ q. q)
-  step-way {out} {b} (back p h z e) =
+      under_six : (b d : ℕ) → next a d ≡ At b → d < 6
+      under_six b d e = le_or 6 d (λ q. off_at (g.six a d q) e) (λ q. q)
+  step_way {out} {b} (back p h z e) =
       subst (Way next home (mark out) b) (sym z)
       (way_back next home y (mark_set l a (mark l a + 7) e way_in) (all-shut g y.below p) b h)
 
-  pub last-kept : {out : List ℕ} → Last next home l a c out → Kept next l out
-  last-kept s = left-kept s.left
+  pub last_kept : {out : List ℕ} → Last next home l a c out → Kept next l out
+  last_kept s = left_kept s.left
 
   pub last_rest : {out : List ℕ} → Last next home l a c out → Rest next (mark out)
-  last_rest s = way-over next home y (mark_set l a (mark l a + 7) s.left way_in) (all-shut g y.below s.none) s.nowhere
+  last_rest s = way_over next home y (mark_set l a (mark l a + 7) s.left way_in) (all-shut g y.below s.none) s.nowhere
 
   pub step_falls : {out : List ℕ} {b e : ℕ} → Step next home l a c out b e → weigh work out < weigh work l
   step_falls {b = b} (down d p w z e) =
       let o = w.marked in
-      weigh-less work l b (enteredBy d) e (mark-in l b (omega arith))
-      (omega (arith, work-new (mark l b) (omega arith), work-entered (enteredBy d) (omega arith)))
+      weigh_less work l b (entered_by d) e (mark_in_lem l b (omega arith))
+      (omega (arith, work_new (mark l b) (omega arith), work_entered (entered_by d) (omega arith)))
   step_falls (back p h z e) =
       let o : 8 ≤ mark l a = y.entered in
       let s : mark l a % 8 ≡ 0 = y.still in
-      weigh-less work l a (mark l a + 7) e way_in
-      (omega (arith, work-entered (mark l a) o, work-entered (mark l a + 7) (omega arith)))
+      weigh_less work l a (mark l a + 7) e way_in
+      (omega (arith, work_entered (mark l a) o, work_entered (mark l a + 7) (omega arith)))
 
 -- a walk from an open hex that has a source beside it
 module _ {next home : ℕ → ℕ → Beside} (g : TwoWay next home) (l : List ℕ) (i : ℕ) (one : mark l i ≡ 1) where
-  pub start-in : i < length l
-  start-in = mark-in l i (omega arith)
+  pub start_in : i < length l
+  start_in = mark_in_lem l i (omega arith)
 
-  pub start-way : Rest next (mark l) → Way next home (mark (set l i 56)) i 0
-  start-way y = way-start g y (mark_set l i 56 refl start-in)
+  pub start_way : Rest next (mark l) → Way next home (mark (set l i 56)) i 0
+  start_way y = way_start g y (mark_set l i 56 refl start_in)
 
   pub flooded :
       {buf out : List ℕ} {a c : ℕ}
@@ -130,13 +130,13 @@ module _ {next home : ℕ → ℕ → Beside} (g : TwoWay next home) (l : List �
       → Last next home buf a c out
       → Flooded next l i out
   flooded {buf} {out} {a} {c} j k y s =
-      let u = mark_set l i 56 refl start-in in
-      let k' = kept_trans k (last-kept g buf a c y s) in
+      let u = mark_set l i 56 refl start_in in
+      let k' = kept_trans k (last_kept g buf a c y s) in
       let o = j.opens.leads in
       let two = o.marked in
       let b = j.opens.hex in
       let start : Kept next l (set l i 56) =
-      kept_set l i 56 refl start-in (omega arith)
+      kept_set l i 56 refl start_in (omega arith)
       (λ f₀ t.
       let z : mark l i ≡ f₀ i = t.kept i (omega arith) in
       let x : mark l b ≡ f₀ b = t.kept b (omega arith) in
@@ -144,23 +144,23 @@ module _ {next home : ℕ → ℕ → Beside} (g : TwoWay next home) (l : List �
       record {
         kept = kept_trans start k';
         rest = last_rest g buf a c y s;
-        start = le-or 8 (mark out i) (λ p. p) (λ p. let z = u.at in absurd (omega (arith, k'.grown i p)));
+        start = le_or 8 (mark out i) (λ p. p) (λ p. let z = u.at in absurd (omega (arith, k'.grown i p)));
       }
 
 -- the walks from the hexes from a up to b
 module _ {next : ℕ → ℕ → Beside} where
   -- marks that a run of steps leaves below 8 are those that were
-  apart-kept : {l out : List ℕ} → Kept next l out → (k : ℕ) → Apart next (mark l) k → Apart next (mark out) k
-  apart-kept {l} {out} t k n e d b x y = n (sym (t.grown k (omega arith)) ∙ e) d b x (sym (t.grown b (omega arith)) ∙ y)
+  apart_kept : {l out : List ℕ} → Kept next l out → (k : ℕ) → Apart next (mark l) k → Apart next (mark out) k
+  apart_kept {l} {out} t k n e d b x y = n (sym (t.grown k (omega arith)) ∙ e) d b x (sym (t.grown b (omega arith)) ∙ y)
 
-  pub sown-none : {l : List ℕ} {a b : ℕ} → Rest next (mark l) → ((k : ℕ) → a ≤ k → k < b → Apart next (mark l) k) → Sown next l a b l
-  sown-none {l} y n = record { kept = kept_refl l; rest = y; none = n }
+  pub sown_none : {l : List ℕ} {a b : ℕ} → Rest next (mark l) → ((k : ℕ) → a ≤ k → k < b → Apart next (mark l) k) → Sown next l a b l
+  sown_none {l} y n = record { kept = kept_refl l; rest = y; none = n }
 
-  pub sown-one : {l : List ℕ} {a : ℕ} → Rest next (mark l) → Apart next (mark l) a → Sown next l a (a + 1) l
-  sown-one {l} {a} y n = sown-none y (λ k p q. subst (Apart next (mark l)) (omega arith) n)
+  pub sown_one : {l : List ℕ} {a : ℕ} → Rest next (mark l) → Apart next (mark l) a → Sown next l a (a + 1) l
+  sown_one {l} {a} y n = sown_none y (λ k p q. subst (Apart next (mark l)) (omega arith) n)
 
-  pub sown-flood : {l out : List ℕ} {a : ℕ} → Flooded next l a out → Sown next l a (a + 1) out
-  sown-flood {out = out} {a = a} f =
+  pub sown_flood : {l out : List ℕ} {a : ℕ} → Flooded next l a out → Sown next l a (a + 1) out
+  sown_flood {out = out} {a = a} f =
       record {
         kept = f.kept;
         rest = f.rest;
@@ -178,35 +178,35 @@ module _ {next : ℕ → ℕ → Beside} where
       record {
         kept = kept_trans s.kept t.kept;
         rest = t.rest;
-        none = λ k x y. le-or b k (λ z. t.none k (omega arith) (omega arith)) (λ z. apart-kept t.kept k (s.none k x z));
+        none = λ k x y. le_or b k (λ z. t.none k (omega arith) (omega arith)) (λ z. apart_kept t.kept k (s.none k x z));
       }
 
-  pub sown-less : {l out : List ℕ} {a b c : ℕ} → c ≤ b → Sown next l a b out → Sown next l a c out
-  sown-less p s = record { kept = s.kept; rest = s.rest; none = λ k x y. s.none k x (omega arith) }
+  pub sown_less : {l out : List ℕ} {a b c : ℕ} → c ≤ b → Sown next l a b out → Sown next l a c out
+  sown_less p s = record { kept = s.kept; rest = s.rest; none = λ k x y. s.none k x (omega arith) }
 
-  pub sown-all : {l out : List ℕ} (n : ℕ) → length l ≤ n → Sown next l 0 n out → Seeded next l out
-  sown-all {out = out} n p s =
+  pub sown_all : {l out : List ℕ} (n : ℕ) → length l ≤ n → Sown next l 0 n out → Seeded next l out
+  sown_all {out = out} n p s =
       record {
         kept = s.kept;
         rest = s.rest;
-        none = λ k e. s.none k (omega arith) (omega (arith, s.kept.same, mark-in out k (omega arith))) e;
+        none = λ k e. s.none k (omega arith) (omega (arith, s.kept.same, mark_in_lem out k (omega arith))) e;
       }
 
   -- where there is no source, and where there is no open hex but sources, there is nothing to walk from
-  pub seeded-sourceless : {l : List ℕ} {n : ℕ} → Rest next (mark l) → length l ≡ n → None (mark l) 0 n 2 → Seeded next l l
-  seeded-sourceless {l} y e s =
+  pub seeded_sourceless : {l : List ℕ} {n : ℕ} → Rest next (mark l) → length l ≡ n → None (mark l) 0 n 2 → Seeded next l l
+  seeded_sourceless {l} y e s =
       record {
         kept = kept_refl l;
         rest = y;
-        none = λ k o d b x t. s b (omega arith) (omega (arith, mark-in l b (omega arith))) t;
+        none = λ k o d b x t. s b (omega arith) (omega (arith, mark_in_lem l b (omega arith))) t;
       }
 
-  pub seeded-full : {l : List ℕ} {n : ℕ} → Rest next (mark l) → length l ≡ n → None (mark l) 0 n 1 → Seeded next l l
-  seeded-full {l} y e s =
+  pub seeded_full : {l : List ℕ} {n : ℕ} → Rest next (mark l) → length l ≡ n → None (mark l) 0 n 1 → Seeded next l l
+  seeded_full {l} y e s =
       record {
         kept = kept_refl l;
         rest = y;
-        none = λ k o. absurd (s k (omega arith) (omega (arith, mark-in l k (omega arith))) o);
+        none = λ k o. absurd (s k (omega arith) (omega (arith, mark_in_lem l k (omega arith))) o);
       }
 
 -- the last pass, up to hex i
@@ -216,8 +216,8 @@ pub record Settling (l : List ℕ) (i : ℕ) (out : List ℕ) : Type 0 where
   pub left : (k : ℕ) → i ≤ k → mark out k ≡ mark l k
   pub most : i ≤ length out
 
-pub settle-none : (l : List ℕ) → Settling l 0 l
-settle-none l = record { same = refl; done = λ k p. absurd (omega arith); left = λ k p. refl; most = omega arith }
+pub settle_none : (l : List ℕ) → Settling l 0 l
+settle_none l = record { same = refl; done = λ k p. absurd (omega arith); left = λ k p. refl; most = omega arith }
 
 pub settle-turn :
     {l out out' : List ℕ} {i : ℕ} (v : ℕ)
@@ -238,12 +238,12 @@ settle-turn {l} {out} {out'} {i} v e p s d =
       most = omega arith;
     }
 
-pub settle-all : {l out : List ℕ} {i : ℕ} → length out ≤ i → Settling l i out → Settled l out
-settle-all p s = record { same = s.same; each = λ k q. s.done k (omega (arith, s.same)) }
+pub settle_all : {l out : List ℕ} {i : ℕ} → length out ≤ i → Settling l i out → Settled l out
+settle_all p s = record { same = s.same; each = λ k q. s.done k (omega (arith, s.same)) }
 
 -- the whole, from grades
-pub graded-rest : {next : ℕ → ℕ → Beside} (l : List ℕ) → ((k : ℕ) → mark l k ≤ 2) → Rest next (mark l)
-graded-rest l grades =
+pub graded_rest : {next : ℕ → ℕ → Beside} (l : List ℕ) → ((k : ℕ) → mark l k ≤ 2) → Rest next (mark l)
+graded_rest l grades =
     record {
       looked = λ k d p q. absurd (omega (arith, grades k));
       over = λ k p. absurd (omega (arith, grades k));
@@ -255,22 +255,22 @@ module _ {next home : ℕ → ℕ → Beside} (g : TwoWay next home) {l mid : Li
   walked {out} s =
       record {
         same = s.kept.same ∙ w.same;
-        each = λ k. le-or 2 (mark out k)
+        each = λ k. le_or 2 (mark out k)
             (λ p. inl (p, sound k p))
-            (λ p. inr (p, λ y. absurd (omega (arith, complete g (swept-grades w grades) faith s.rest s.none (swept-on w y)))));
+            (λ p. inr (p, λ y. absurd (omega (arith, complete g (swept_grades w grades) faith s.rest s.none (swept_on w y)))));
         kept = λ k p. s.kept.grown k (omega arith) ∙ swept_kept w k (omega (arith, s.kept.grown k (omega arith)));
       }
     where
       faith : Faith next (mark mid) (mark out)
       faith =
           s.kept.faith (mark mid)
-          (record { kept = λ k p. refl; sound = λ k p. absurd (omega (arith, swept-grades w grades k)) })
+          (record { kept = λ k p. refl; sound = λ k p. absurd (omega (arith, swept_grades w grades k)) })
 
       sound : (k : ℕ) → 2 ≤ mark out k → Chain next (mark l) k
       sound k p =
-          le-or 8 (mark out k)
-          (λ q. swept-back w (faith.sound k q))
-          (λ q. w.sound k (omega (arith, faith.kept k q, swept-grades w grades k)))
+          le_or 8 (mark out k)
+          (λ q. swept_back w (faith.sound k q))
+          (λ q. w.sound k (omega (arith, faith.kept k q, swept_grades w grades k)))
 
 -- and the marks settled
 pub reached : {next : ℕ → ℕ → Beside} {l mid out : List ℕ} → Walked next l mid → Settled mid out → Reached next l out

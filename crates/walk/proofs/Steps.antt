@@ -5,18 +5,18 @@ use mathlib.Core.Path.{◌≡◌, refl, ◌∙◌}
 use native.Mathlib.Omega.{arith}
 use Rattle.grid.specs.declared.Beside.{Beside}
 use Rattle.grid.specs.declared.Beside.TheVariants.{At, Off}
-use Rattle.grid.specs.Map.{neighbourOf}
+use Rattle.grid.specs.Map.{neighbour_of}
 use Rattle.grid.proofs.Laws.{opposite, direction}
 use Rattle.position.specs.Board.{Map}
 use Rattle.position.specs.Ground.{beside, next}
-use Rattle.position.proofs.Sides.{next-beside, side-symmetric, unblocked, next-over, next-dir}
+use Rattle.position.proofs.Sides.{next_beside, side_symmetric, unblocked, next_over, next_dir}
 
 pub at_at : {r : Beside} {a b : ℕ} → r ≡ At a → r ≡ At b → a ≡ b
 at_at p q = cc
 
-no-hex : (r : Beside) → ((b : ℕ) → r ≡ At b → ⊥) → r ≡ Off
-no-hex (At b) f = absurd (f b refl)
-no-hex Off f = refl
+no_hex : (r : Beside) → ((b : ℕ) → r ≡ At b → ⊥) → r ≡ Off
+no_hex (At b) f = absurd (f b refl)
+no_hex Off f = refl
 
 -- every step can be made back, in the opposite direction, and `home` leads where `next` does, and from where a walk began nowhere
 pub record TwoWay (next home : ℕ → ℕ → Beside) : Type 0 where
@@ -26,24 +26,24 @@ pub record TwoWay (next home : ℕ → ℕ → Beside) : Type 0 where
   pub edge : (a : ℕ) → home a 6 ≡ Off
 
 -- what is no direction leads nowhere
-pub beyond : (w h a d : ℕ) → 6 ≤ d → neighbourOf w h a d ≡ Off
-beyond w h a d p = no-hex _ (λ b e. absurd (omega (arith, direction w h a d b e)))
+pub beyond : (w h a d : ℕ) → 6 ≤ d → neighbour_of w h a d ≡ Off
+beyond w h a d p = no_hex _ (λ b e. absurd (omega (arith, direction w h a d b e)))
 
 -- the ground's steps are such
 module _ (m : Map) where
-  pub next-six : (a d : ℕ) → 6 ≤ d → next m a d ≡ Off
-  next-six a d p = no-hex _ (λ b e. absurd (omega (arith, next-dir m a d b e)))
+  pub next_six : (a d : ℕ) → 6 ≤ d → next m a d ≡ Off
+  next_six a d p = no_hex _ (λ b e. absurd (omega (arith, next_dir m a d b e)))
 
-  next-back : (a d b : ℕ) → next m a d ≡ At b → next m b ((d + 3) % 6) ≡ At a
-  next-back a d b e =
-      let o = next-over m a d b e in
-      next-beside m b ((d + 3) % 6) (λ p. unblocked m a d b e (side-symmetric m a d b o ∙ p)) ∙ opposite m.width m.height a d b o
+  next_back : (a d b : ℕ) → next m a d ≡ At b → next m b ((d + 3) % 6) ≡ At a
+  next_back a d b e =
+      let o = next_over m a d b e in
+      next_beside m b ((d + 3) % 6) (λ p. unblocked m a d b e (side_symmetric m a d b o ∙ p)) ∙ opposite m.width m.height a d b o
 
-  pub two-way : TwoWay (next m) (beside m)
-  two-way =
+  pub two_way : TwoWay (next m) (beside m)
+  two_way =
       record {
-        six = next-six;
-        turn = next-back;
-        over = next-over m;
+        six = next_six;
+        turn = next_back;
+        over = next_over m;
         edge = λ a. beyond m.width m.height a 6 (omega arith);
       }

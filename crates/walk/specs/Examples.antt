@@ -4,34 +4,34 @@
 use Rattle.std.specs.Prelude.{ℕ, ◌≡◌, refl, true, ◌&&◌, cond, List, [], ◌∷◌, map, eqb}
 use Rattle.grid.specs.declared.Beside.{Beside}
 use Rattle.grid.specs.declared.Beside.TheVariants.{Off}
-use Rattle.grid.specs.Map.{neighbourOf}
-use Rattle.grid.specs.Rulings.{gridOpen}
+use Rattle.grid.specs.Map.{neighbour_of}
+use Rattle.grid.specs.Rulings.{grid_open}
 use Rattle.position.specs.Tally.{any}
 use Rattle.walk.specs.Chain.{mark}
-use Rattle.walk.specs.Sweep.{sourceAt, joins, touch, sweep, sweeps, chained, tab, reach}
+use Rattle.walk.specs.Sweep.{source_at, joins, touch, sweep, sweeps, chained, tab, reach}
 
 -- 'unfolding sweeping' opens all that the test computes by
 unfoldable pub sweeping : ℕ
-unfolding gridOpen mark any sourceAt joins touch sweep sweeps chained tab reach
+unfolding grid_open mark any source_at joins touch sweep sweeps chained tab reach
 sweeping = 0
 
 -- "a chain of one hex counts": a source alone is supplied, an open hex alone is not
-pub alone : map (reach (neighbourOf 1 1)) ((2 ∷ []) ∷ (1 ∷ []) ∷ (0 ∷ []) ∷ []) ≡ (1 ∷ []) ∷ (0 ∷ []) ∷ (0 ∷ []) ∷ []
+pub alone : map (reach (neighbour_of 1 1)) ((2 ∷ []) ∷ (1 ∷ []) ∷ (0 ∷ []) ∷ []) ≡ (1 ∷ []) ∷ (0 ∷ []) ∷ (0 ∷ []) ∷ []
 unfolding sweeping
 alone = refl
 
 -- three hexes in a row: a closed one cuts the last off, and so does a blocked side
-pub row : reach (neighbourOf 3 1) (2 ∷ 1 ∷ 1 ∷ []) ≡ 1 ∷ 1 ∷ 1 ∷ []
+pub row : reach (neighbour_of 3 1) (2 ∷ 1 ∷ 1 ∷ []) ≡ 1 ∷ 1 ∷ 1 ∷ []
 unfolding sweeping
 row = refl
 
-pub closed : reach (neighbourOf 3 1) (2 ∷ 0 ∷ 1 ∷ []) ≡ 1 ∷ 0 ∷ 0 ∷ []
+pub closed : reach (neighbour_of 3 1) (2 ∷ 0 ∷ 1 ∷ []) ≡ 1 ∷ 0 ∷ 0 ∷ []
 unfolding sweeping
 closed = refl
 
 -- the steps on a map of w by h hexes, but for one from hex a in direction d and one from hex b in direction e: a side seen from either hex
 abbrev pub but : ℕ → ℕ → ℕ → ℕ → ℕ → ℕ → ℕ → ℕ → Beside
-but w h a d b e k c = cond (eqb k a && eqb c d) Off (cond (eqb k b && eqb c e) Off (neighbourOf w h k c))
+but w h a d b e k c = cond (eqb k a && eqb c d) Off (cond (eqb k b && eqb c e) Off (neighbour_of w h k c))
 
 pub blocked : reach (but 3 1 1 1 2 4) (2 ∷ 1 ∷ 1 ∷ []) ≡ 1 ∷ 1 ∷ 0 ∷ []
 unfolding sweeping
@@ -51,6 +51,6 @@ winding =
     1 ∷ 0 ∷ 0 ∷ 0 ∷ 0 ∷
     1 ∷ 1 ∷ 1 ∷ 1 ∷ 2 ∷ []
 
-pub far-end : chained (neighbourOf 5 5) winding 0 ≡ true
+pub far_end : chained (neighbour_of 5 5) winding 0 ≡ true
 unfolding sweeping
-far-end = refl
+far_end = refl

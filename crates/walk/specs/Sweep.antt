@@ -8,13 +8,13 @@ use Rattle.position.specs.Tally.{any}
 use Rattle.walk.specs.Chain.{mark}
 
 -- a source lies there
-unfoldable pub sourceAt : List ℕ → Beside → Bool
-sourceAt l (At b) = eqb (mark l b) 2
-sourceAt l Off = false
+unfoldable pub source_at : List ℕ → Beside → Bool
+source_at l (At b) = eqb (mark l b) 2
+source_at l Off = false
 
 -- hex a is open and no source, and a source lies beside it
 unfoldable pub joins : (ℕ → ℕ → Beside) → List ℕ → ℕ → Bool
-joins next l a = ltb 0 (mark l a) && (not (eqb (mark l a) 2) && any (λ d. sourceAt l (next a d)) 6)
+joins next l a = ltb 0 (mark l a) && (not (eqb (mark l a) 2) && any (λ d. source_at l (next a d)) 6)
 
 unfoldable pub touch : (ℕ → ℕ → Beside) → List ℕ → ℕ → List ℕ
 touch next l a = cond (joins next l a) (set l a 2) l

@@ -4,7 +4,7 @@
 -- Assumes nothing.
 use Rattle.std.specs.Prelude.{ℕ, ◌≤◌, ◌<◌, ◌≡◌, List, ◌⊎◌, length}
 use Rattle.grid.specs.declared.Beside.{Beside}
-use Rattle.grid.specs.Map.{neighbourOf}
+use Rattle.grid.specs.Map.{neighbour_of}
 use Rattle.survey.specs.declared.run.Run.{Run}
 use Rattle.survey.specs.Run.{first_of, past_of}
 use Rattle.walk.specs.Chain.{mark, Chain}
@@ -16,7 +16,7 @@ None f a b m = (k : ℕ) → a ≤ k → k < b → f k ≡ m → ⊥
 
 -- no open hex of run r has a source beside it, on whichever side
 abbrev pub RunApart : ℕ → ℕ → (ℕ → ℕ) → Run → Type 0
-RunApart w h f r = (k : ℕ) → first_of w r ≤ k → k < past_of w r → Apart (neighbourOf w h) f k
+RunApart w h f r = (k : ℕ) → first_of w r ≤ k → k < past_of w r → Apart (neighbour_of w h) f k
 
 -- a source lies beside hex a
 pub record Joined (next : ℕ → ℕ → Beside) (f : ℕ → ℕ) (a : ℕ) : Type 0 where

@@ -8,19 +8,19 @@ use Rattle.grid.specs.declared.Beside.{Beside}
 use Rattle.grid.specs.declared.Beside.TheVariants.{At, Off}
 use Rattle.survey.specs.declared.Nearby.{Nearby}
 use Rattle.survey.specs.declared.Nearby.TheVariants as N
-use Rattle.grid.specs.Map.{neighbourOf}
+use Rattle.grid.specs.Map.{neighbour_of}
 use Rattle.survey.specs.Spot.{SpotOf}
 use Rattle.walk.specs.declared.Going.{Going}
 use Rattle.walk.specs.declared.Going.TheVariants.{To, Over}
 use Rattle.walk.specs.Chain.{mark, Chain}
 
 -- the mark of a hex that was entered in direction d
-abbrev pub enteredBy : ℕ → ℕ
-enteredBy d = 8 * ((d + 3) % 6 + 1)
+abbrev pub entered_by : ℕ → ℕ
+entered_by d = 8 * ((d + 3) % 6 + 1)
 
 -- the direction after the opposite one of d: where the walk goes on when it came home in direction d
-abbrev pub afterHome : ℕ → ℕ
-afterHome d = (d + 3) % 6 + 1
+abbrev pub after_home : ℕ → ℕ
+after_home d = (d + 3) % 6 + 1
 
 -- the step from hex a in direction d leads to hex n, which is marked m: 1 an open hex that was not entered, 2 a source
 pub record Leads (next : ℕ → ℕ → Beside) (f : ℕ → ℕ) (m a d n : ℕ) : Type 0 where
@@ -58,13 +58,13 @@ arriving N.Off c = Over
 
 -- home from hex a, in direction d
 abbrev pub HomeOf : ℕ → ℕ → ℕ → ℕ → Going → Type 0
-HomeOf w h a d (To t c) = (neighbourOf w h a d ≡ At t.hex) × SpotOf w h t × (c ≡ afterHome d)
-HomeOf w h a d Over = neighbourOf w h a d ≡ Off
+HomeOf w h a d (To t c) = (neighbour_of w h a d ≡ At t.hex) × SpotOf w h t × (c ≡ after_home d)
+HomeOf w h a d Over = neighbour_of w h a d ≡ Off
 
 -- into the hex beside hex a in direction d
 abbrev pub EnterOf : ℕ → ℕ → List ℕ → ℕ → ℕ → List ℕ → Going → Type 0
-EnterOf w h l a d out (To t c) = (neighbourOf w h a d ≡ At t.hex) × SpotOf w h t × (c ≡ 0) × (out ≡ set l t.hex (enteredBy d))
-EnterOf w h l a d out Over = neighbourOf w h a d ≡ Off
+EnterOf w h l a d out (To t c) = (neighbour_of w h a d ≡ At t.hex) × SpotOf w h t × (c ≡ 0) × (out ≡ set l t.hex (entered_by d))
+EnterOf w h l a d out Over = neighbour_of w h a d ≡ Off
 
 -- what one step from hex a, which was done with the directions below c, does to the marks l: it goes to hex b, to look in direction e there
 pub data Step (next home : ℕ → ℕ → Beside) (l : List ℕ) (a c : ℕ) (out : List ℕ) (b e : ℕ) : Type 0 where
@@ -73,12 +73,12 @@ pub data Step (next home : ℕ → ℕ → Beside) (l : List ℕ) (a c : ℕ) (o
       → First next (mark l) 1 a c 0 d
       → Leads next (mark l) 1 a d b
       → e ≡ 0
-      → out ≡ set l b (enteredBy d)
+      → out ≡ set l b (entered_by d)
       → Step next home l a c out b e
   back :
       First next (mark l) 1 a c 0 6
       → home a (mark l a / 8 - 1) ≡ At b
-      → e ≡ afterHome (mark l a / 8 - 1)
+      → e ≡ after_home (mark l a / 8 - 1)
       → out ≡ set l a (mark l a + 7)
       → Step next home l a c out b e
 

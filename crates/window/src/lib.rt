@@ -8,7 +8,7 @@ ghost use Rattle.position.specs.Laid.{Laid};
 ghost use Rattle.survey.specs.Region.{Inside};
 ghost use Rattle.routes.specs.Bears.{refuge};
 ghost use Rattle.routes.specs.Legal.{enters};
-ghost use Rattle.routes.specs.Search.{step_of, firstRoute, found};
+ghost use Rattle.routes.specs.Search.{step_of, first_route, found};
 ghost use Rattle.routes.specs.Window.{free, Window};
 
 pub mod sent;
@@ -97,7 +97,7 @@ fn step(
 // The first legal route of n hexes, directions tried clockwise: three nested loops left by a label.
 fn search(p: &[u8], v: View, at: Region, painted: &[u8], f: usize, start: usize, n: usize) -> Found
     requires { Laid p.now v × (start < v.hexes) × (1 ≤ n) × (n ≤ 3) × Window p.now v f start at painted.now }
-    ensures { result ≡ firstRoute (board p.now) f start n }
+    ensures { result ≡ first_route (board p.now) f start n }
 {
     let mut found = Found::Nothing;
     'search: for d1 in 0..6 {
@@ -138,7 +138,7 @@ pub fn finds(
     n: usize,
 ) -> bool
     requires { Laid p.now v × (start < v.hexes) × (1 ≤ n) × (n ≤ 3) × Window p.now v f start at painted.now }
-    ensures { result ≡ found (firstRoute (board p.now) f start n) }
+    ensures { result ≡ found (first_route (board p.now) f start n) }
 {
     if let Found::Nothing = search(p, v, at, painted, f, start, n) {
         return false;

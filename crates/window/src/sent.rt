@@ -2,7 +2,7 @@
 ghost use Rattle.std.specs.Prelude.{◌≡◌, ◌<◌, ◌≤◌};
 ghost use Rattle.position.specs.Board.{board};
 ghost use Rattle.position.specs.Laid.{Laid};
-ghost use Rattle.routes.specs.Legal.{stepsTo, legal};
+ghost use Rattle.routes.specs.Legal.{steps_to, legal};
 ghost use Rattle.routes.specs.Window.{Window};
 
 use position::View;
@@ -21,7 +21,7 @@ fn steps_to(
     x: usize,
 ) -> bool
     requires { Laid p.now v × Window p.now v f start at painted.now × (start < v.hexes) × (i < 3) }
-    ensures { result ≡ stepsTo (board p.now) f start i a x }
+    ensures { result ≡ steps_to (board p.now) f start i a x }
 {
     if !ground::joined(p, v, a, x) {
         return false;

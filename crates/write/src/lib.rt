@@ -1,6 +1,6 @@
 // All that a call may do to a position: one function for each kind of change. Each does nothing for a unit, a hex or a route that is not there.
 ghost use Rattle.std.specs.Prelude.{◌≡◌, ◌<◌};
-ghost use Rattle.position.specs.Layout.{routeCount, routeHexes, setHex, setRouteHex};
+ghost use Rattle.position.specs.Layout.{route_count, route_hexes, set_hex, set_route_hex};
 ghost use Rattle.position.specs.Change.{make, turned};
 ghost use Rattle.position.specs.Change.Change.{placed, destroyed, marked, assigned, timed, staged, routed, unrouted};
 ghost use Rattle.position.specs.Laid.{Laid};
@@ -9,7 +9,7 @@ use position::{View, bits, layout, read, role};
 
 fn set_hex(p: &mut [u8], v: View, u: usize, h: usize)
     requires { Laid p.old v × (h < 65536) }
-    ensures { p.new ≡ setHex p.old u h }
+    ensures { p.new ≡ set_hex p.old u h }
 {
     layout::set_unit(p, v, u, layout::HEX, h % 256);
     layout::set_unit(p, v, u, layout::HEX + 1, h / 256);
@@ -83,8 +83,8 @@ pub fn set_stage(p: &mut [u8], v: View, stage: usize, owed: usize, need: usize)
 }
 
 fn set_route_hex(p: &mut [u8], v: View, r: usize, j: usize, h: usize)
-    requires { Laid p.old v × (r < routeCount) × (j < routeHexes) × (h < 65536) }
-    ensures { p.new ≡ setRouteHex p.old r j h }
+    requires { Laid p.old v × (r < route_count) × (j < route_hexes) × (h < 65536) }
+    ensures { p.new ≡ set_route_hex p.old r j h }
 {
     let at = layout::ROUTES + layout::ROUTE_SIZE * r + layout::PLACE_SIZE * j;
     layout::set_desk(p, v, at, h % 256);

@@ -5,7 +5,7 @@ use borrow.Author.Rules.{rules}
 use borrow.Author.Tests.{not-false, not-true}
 use Rattle.position.specs.Board.{board}
 use Rattle.position.specs.Ground.{joined}
-use Rattle.aftermath.proofs.Advancing.{follow-apart, follow-beside}
+use Rattle.aftermath.proofs.Advancing.{follow_apart, follow-beside}
 use Rattle.advance.proofs.can_follow.Statement.{statement}
 use Rattle.advance.proofs.can_follow.Tie as tie
 
@@ -28,7 +28,7 @@ joined-requires : tie.Need-joined-requires
 joined-requires c κs = search rules
 
 returns : tie.Need-returns
-returns c = sym (follow-apart _ _ _ _ (beside c.before ∙ not-true _ c.if1.true))
+returns c = sym (follow_apart _ _ _ _ (beside c.before ∙ not-true _ c.if1.true))
 
 leads-to-requires : tie.Need-leads-to-requires
 leads-to-requires c κs = search rules

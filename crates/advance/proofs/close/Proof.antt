@@ -9,11 +9,11 @@ use Rattle.position.specs.Board.{board}
 use Rattle.position.specs.Change.{makes}
 use Rattle.position.specs.Stage as Stage
 use Rattle.position.specs.Role as Role
-use Rattle.position.proofs.Changes.{laid-makes}
+use Rattle.position.proofs.Changes.{laid_makes}
 use Rattle.ruling.proofs.Meets.{pass, ruled, stop}
 use Rattle.aftermath.proofs.Advancing.{closed_is}
 use Rattle.aftermath.proofs.Stages.{then-on}
-use Rattle.aftermath.specs.Advance.{closeChanges, closeRule}
+use Rattle.aftermath.specs.Advance.{close_changes, close_rule}
 use Rattle.aftermath.specs.Stage.{reassigned}
 use Rattle.advance.proofs.close.Statement.{statement}
 use Rattle.advance.proofs.close.Tie as tie
@@ -25,7 +25,7 @@ same_length : tie.Need-same-length
 same_length c = search rules
 
 returns : tie.Need-returns
-unfolding closeRule
+unfolding close_rule
 returns c =
     let b = board c.before.before.before.before.args.p.now in
     stop (ap not (ne_eqb b.desk.battle.stage Stage.advances (λ e. c.if1.true (c.before.stage.ensures.is ∙ e))))
@@ -35,18 +35,18 @@ reassign-requires c κs = (c.before.before.before.before.before.requires, omega 
 
 pass-on-requires : tie.Need-pass-on-requires
 pass-on-requires c κs =
-    laid-makes (reassigned (board c.before.before.before.before.before.before.before.before.before.args.p.now) Role.advances Role.none) c.before.before.before.before.before.before.before.before.before.requires c.before.before.before.reassign.ensures
+    laid_makes (reassigned (board c.before.before.before.before.before.before.before.before.before.args.p.now) Role.advances Role.none) c.before.before.before.before.before.before.before.before.before.requires c.before.before.before.reassign.ensures
 
 same-length-2 : tie.Need-same-length-2
 same-length-2 c = search rules
 
 returns-2 : tie.Need-returns-2
-unfolding closeRule
+unfolding close_rule
 returns-2 c =
     let p = c.before.before.before.before.before.before.before.before.before.before.before.before.args.p.now in
     pass (ap not (eq-eqb (board p).desk.battle.stage Stage.advances (sym c.before.before.before.before.before.before.before.before.before.stage.ensures.is ∙ c.before.before.before.before.before.before.before.before.if1.false)))
     (ruled
-    (then-on c.before.before.before.before.before.before.before.before.before.before.before.before.requires.shaped (closeChanges (board p)) (c.before.before.before.before.before.before.reassign.ensures ∙ ap (makes p) (closed_is (board p)))
+    (then-on c.before.before.before.before.before.before.before.before.before.before.before.before.requires.shaped (close_changes (board p)) (c.before.before.before.before.before.before.reassign.ensures ∙ ap (makes p) (closed_is (board p)))
     c.before.before.pass_on.ensures))
 
 pub close_spec : {M : Type 1} → statement M

@@ -4,7 +4,7 @@ use Prim.Native.Nat.{◌-◌}
 use mathlib.Core.Path.{◌∙◌, sym}
 use native.Mathlib.Omega.{arith}
 use borrow.Author.Rules.{rules}
-use Rattle.position.proofs.Tallies.{any-true}
+use Rattle.position.proofs.Tallies.{any_true}
 use Rattle.position.specs.Board.{board}
 use Rattle.field.proofs.Zones.{None, none_at_all, none_yet, one_more}
 use Rattle.aftermath.specs.Advance.{held_at}
@@ -24,7 +24,7 @@ held-at-requires : tie.Need-held-at-requires invariant-loop decreases-loop
 held-at-requires c κs = c.before.before.before.requires.0
 
 returns : tie.Need-returns invariant-loop decreases-loop
-returns c = sym (any-true _ _ c.before.before.before.loop.i (omega arith) (sym c.before.held-at.ensures ∙ c.if1.true))
+returns c = sym (any_true _ _ c.before.before.before.loop.i (omega arith) (sym c.before.held-at.ensures ∙ c.if1.true))
 
 add-i : tie.Need-overflow-add-i invariant-loop decreases-loop
 add-i c = search rules

@@ -10,7 +10,7 @@ use Rattle.position.specs.Board.{board}
 use Rattle.position.specs.Stage as Stage
 use Rattle.ruling.proofs.Going.{tested-through}
 use Rattle.ruling.proofs.Meets.{pass, stop}
-use Rattle.aftermath.specs.Advance.{advanceChecks}
+use Rattle.aftermath.specs.Advance.{advance_checks}
 use Rattle.advance.proofs.judge_advance.Statement.{statement}
 use Rattle.advance.proofs.judge_advance.Tie as tie
 
@@ -29,13 +29,13 @@ mapped c =
     lt-leb (board a.p.now).map.hexes a.hex (omega arith)
 
 returns : tie.Need-returns
-unfolding advanceChecks
+unfolding advance_checks
 returns c =
     let a = c.before.before.args in
     λ l v. stop (le-leb (board a.p.now).units.count a.u (omega arith))
 
 returns-2 : tie.Need-returns-2
-unfolding advanceChecks
+unfolding advance_checks
 returns-2 c =
     let a = c.before.before.before.args in
     λ l v. pass (lt-leb (board a.p.now).units.count a.u (omega arith))
@@ -45,7 +45,7 @@ stage-requires : tie.Need-stage-requires
 stage-requires c κs = search rules
 
 returns-3 : tie.Need-returns-3
-unfolding advanceChecks
+unfolding advance_checks
 returns-3 c =
     let a = c.before.before.before.before.before.args in
     λ l v.
@@ -57,7 +57,7 @@ judge-unit-requires : tie.Need-judge-unit-requires
 judge-unit-requires c κs = search rules
 
 returns-4 : tie.Need-returns-4
-unfolding advanceChecks
+unfolding advance_checks
 returns-4 c =
     let a = c.before.before.before.before.before.before.args in
     tested-through

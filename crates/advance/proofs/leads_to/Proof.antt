@@ -4,19 +4,19 @@ use Prim.Native.Nat.{◌-◌}
 use mathlib.Core.Path.{◌∙◌, sym}
 use native.Mathlib.Omega.{arith}
 use borrow.Author.Rules.{rules}
-use Rattle.position.proofs.Tallies.{any-true}
-use Rattle.position.specs.Layout.{routeHexes}
+use Rattle.position.proofs.Tallies.{any_true}
+use Rattle.position.specs.Layout.{route_hexes}
 use Rattle.position.specs.Board.{board}
 use Rattle.field.proofs.Zones.{None, none_at_all, none_yet, one_more}
-use Rattle.aftermath.specs.Advance.{clearTo}
+use Rattle.aftermath.specs.Advance.{clear_to}
 use Rattle.advance.proofs.leads_to.Statement.{statement}
 use Rattle.advance.proofs.leads_to.Tie as tie
 
 abbrev invariant-loop : tie.invariant-loop
-invariant-loop p v u hex r j₀ j = None (clearTo (board p) u hex r) j routeHexes
+invariant-loop p v u hex r j₀ j = None (clear_to (board p) u hex r) j route_hexes
 
 abbrev decreases-loop : tie.decreases-loop
-decreases-loop p v u hex r j₀ j = routeHexes - j
+decreases-loop p v u hex r j₀ j = route_hexes - j
 
 loop-holds : tie.Need-loop-init invariant-loop decreases-loop
 loop-holds c = none_yet
@@ -25,7 +25,7 @@ clear-to-requires : tie.Need-clear-to-requires invariant-loop decreases-loop
 clear-to-requires c κs = (c.before.before.before.requires, omega arith)
 
 returns : tie.Need-returns invariant-loop decreases-loop
-returns c = sym (any-true _ _ c.before.before.before.loop.j (omega arith) (sym c.before.clear-to.ensures ∙ c.if1.true))
+returns c = sym (any_true _ _ c.before.before.before.loop.j (omega arith) (sym c.before.clear-to.ensures ∙ c.if1.true))
 
 add-j : tie.Need-overflow-add-j invariant-loop decreases-loop
 add-j c = search rules

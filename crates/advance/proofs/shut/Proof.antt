@@ -3,19 +3,19 @@
 use Prim.Native.Nat.{ℕ}
 use mathlib.Core.Path.{◌≡◌, sym, ap, ◌∙◌}
 use borrow.Author.Rules.{rules}
-use Rattle.position.specs.Board.{board, forceOf}
+use Rattle.position.specs.Board.{board, force_of}
 use Rattle.field.specs.Scene.{scene}
-use Rattle.field.specs.Zone.{holdsEnemy, holdsNeutral}
+use Rattle.field.specs.Zone.{holds_enemy, holds_neutral}
 use Rattle.aftermath.specs.Advance.{shut}
 use Rattle.advance.proofs.shut.Statement.{statement}
 use Rattle.advance.proofs.shut.Tie as tie
 
 foe : (c : tie.After-holds-enemy) →
     let a = c.before.before.before.args in
-    holdsEnemy (scene (board a.p.now)) (forceOf (board a.p.now) a.u) a.h ≡ c.holds-enemy.result
+    holds_enemy (scene (board a.p.now)) (force_of (board a.p.now) a.u) a.h ≡ c.holds-enemy.result
 foe c =
     let a = c.before.before.before.args in
-    sym (c.holds-enemy.ensures ∙ ap (λ (f : ℕ). holdsEnemy (scene (board a.p.now)) f a.h) c.before.force-of.ensures)
+    sym (c.holds-enemy.ensures ∙ ap (λ (f : ℕ). holds_enemy (scene (board a.p.now)) f a.h) c.before.force-of.ensures)
 
 force-of-requires : tie.Need-force-of-requires
 force-of-requires c κs = search rules
@@ -36,7 +36,7 @@ returns-2 c =
     let e = c.before.before in
     let a = e.before.before.before.args in
     c.holds-neutral.ensures
-    ∙ ap (λ (f : ℕ). holdsNeutral (scene (board a.p.now)) f a.h) e.before.force-of.ensures
+    ∙ ap (λ (f : ℕ). holds_neutral (scene (board a.p.now)) f a.h) e.before.force-of.ensures
     ∙ simp (foe e ∙ c.before.if1.false)
 
 pub shut-spec : {M : Type 1} → statement M

@@ -2,14 +2,14 @@
 -- Assumes nothing.
 use borrow.Author.Rules.{rules}
 use native.Mathlib.Omega.{arith}
-use Rattle.position.proofs.Changes.{laid-make}
+use Rattle.position.proofs.Changes.{laid_make}
 use Rattle.position.specs.Board.{board}
 use Rattle.position.specs.Change.Change.{assigned, placed}
 use Rattle.position.specs.Laid.{Laid}
 use Rattle.position.specs.Role as Role
 use Rattle.aftermath.proofs.Advancing.{both-made}
 use Rattle.aftermath.proofs.Stages.{then-on}
-use Rattle.aftermath.specs.Advance.{advanceChanges}
+use Rattle.aftermath.specs.Advance.{advance_changes}
 use Rattle.advance.proofs.step_up.Statement.{statement}
 use Rattle.advance.proofs.step_up.Tie as tie
 
@@ -18,7 +18,7 @@ laid : (c : tie.After-place) →
     Laid c.place.new.0 a.v
 laid c =
     let a = c.before.before.before.args in
-    rw c.place.ensures (laid-make c.before.before.before.requires (placed a.u a.hex))
+    rw c.place.ensures (laid_make c.before.before.before.requires (placed a.u a.hex))
 
 place-requires : tie.Need-place-requires
 place-requires c κs = c.before.before.requires
@@ -29,7 +29,7 @@ assign-requires c κs = (laid c.before.before.before, omega arith)
 pass-on-requires : tie.Need-pass-on-requires
 pass-on-requires c κs =
     let a = c.before.before.before.before.before.before.before.before.before.before.args in
-    rw c.before.before.before.assign.ensures (laid-make (laid c.before.before.before.before.before.before.before) (assigned a.u Role.none))
+    rw c.before.before.before.assign.ensures (laid_make (laid c.before.before.before.before.before.before.before) (assigned a.u Role.none))
 
 same_length : tie.Need-same-length
 same_length c = search rules
@@ -37,7 +37,7 @@ same_length c = search rules
 returns : tie.Need-returns
 returns c =
     let a = c.before.before.before.before.before.before.before.before.before.before.before.before.before.args in
-    then-on c.before.before.before.before.before.before.before.before.before.before.before.before.before.requires.shaped (advanceChanges (board a.p.now) a.u a.hex)
+    then-on c.before.before.before.before.before.before.before.before.before.before.before.before.before.requires.shaped (advance_changes (board a.p.now) a.u a.hex)
     (both-made a.p.now a.u a.hex
     c.before.before.before.before.before.before.before.before.before.before.place.ensures
     c.before.before.before.before.before.before.assign.ensures)

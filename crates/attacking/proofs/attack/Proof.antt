@@ -3,7 +3,7 @@
 use mathlib.Core.Path.{subst}
 use borrow.Author.Rules.{rules}
 use Rattle.ruling.specs.Judged.{TestedOf}
-use Rattle.battle.specs.Battle.{attackRule}
+use Rattle.battle.specs.Battle.{attack_rule}
 use Rattle.attacking.proofs.attack.Statement.{statement}
 use Rattle.attacking.proofs.attack.Tie as tie
 
@@ -17,7 +17,7 @@ same_length : tie.Need-same-length
 same_length c = search rules
 
 returns : tie.Need-returns
-unfolding attackRule
+unfolding attack_rule
 returns c = subst (TestedOf _ _ _) c.before.n.given.1 c.before.before.before.judge-attack.ensures _ _
 
 enum_told : tie.Need-enum-told
@@ -34,7 +34,7 @@ same-length-3 : tie.Need-same-length-3
 same-length-3 c = search rules
 
 returns-2 : tie.Need-returns-2
-unfolding attackRule
+unfolding attack_rule
 returns-2 c =
     (subst (TestedOf _ _ _) c.before.before.before.before.before.before.before.enum_told.given.1 c.before.before.before.before.before.before.before.before.before.judge-attack.ensures).0 _ _ _ _ _ c.before.before.before.before.fight.ensures
 

@@ -5,28 +5,28 @@ use mathlib.Core.List.{List, map}
 use mathlib.Core.Path.{◌∙◌, ap, ap₂, refl, sym}
 use native.Mathlib.Omega.{arith}
 use borrow.Author.Rules.{rules}
-use Rattle.position.proofs.Shapes.{hexes-most}
+use Rattle.position.proofs.Shapes.{hexes_most}
 use Rattle.position.specs.Board.{board}
 use Rattle.position.specs.Change.{makes}
 use Rattle.position.specs.Layout.{strength}
-use Rattle.position.proofs.Cells.{all-clear}
-use Rattle.ruling.specs.Verdict.{turnedAll}
-use Rattle.line.specs.Line.{fightingTotal, printedTotal}
-use Rattle.battle.proofs.Asks.{all-adjacent}
-use Rattle.battle.proofs.Fights.{all-standing, battled, decides, defence-fits, few-defend, lent-all, need-fits, sides}
-use Rattle.results.proofs.Upshots.{upshot-fits}
+use Rattle.position.proofs.Cells.{all_clear}
+use Rattle.ruling.specs.Verdict.{turned_all}
+use Rattle.line.specs.Line.{fighting_total, printed_total}
+use Rattle.battle.proofs.Asks.{all_adjacent}
+use Rattle.battle.proofs.Fights.{all-standing, battled, decides, defence_fits, few_defend, lent-all, need_fits, sides}
+use Rattle.results.proofs.Upshots.{upshot_fits}
 use Rattle.results.specs.Participants.{participants}
-use Rattle.results.specs.Results.{battleChanges, need_of}
+use Rattle.results.specs.Results.{battle_changes, need_of}
 use Rattle.results.specs.declared.Upshot.{Upshot}
 use Rattle.attacking.proofs.fight.Statement.{statement}
 use Rattle.attacking.proofs.fight.Tie as tie
 
 -- the map is small
 small : (c : tie.Start) → (board c.args.p.now).map.hexes ≤ 4096
-small c = hexes-most c.requires.0.shaped
+small c = hexes_most c.requires.0.shaped
 
 muster-requires : tie.Need-muster-requires
-muster-requires c κs = (c.before.before.before.before.before.requires.0, c.before.before.before.before.before.requires.2.range.most, few-defend c.before.before.before.before.before.requires.1.lawful (small c.before.before.before.before.before) c.before.before.before.before.before.args.target c.before.before.before.before.before.requires.2.range.aimed, refl)
+muster-requires c κs = (c.before.before.before.before.before.requires.0, c.before.before.before.before.before.requires.2.range.most, few_defend c.before.before.before.before.before.requires.1.lawful (small c.before.before.before.before.before) c.before.before.before.before.before.args.target c.before.before.before.before.before.requires.2.range.aimed, refl)
 
 strengths-requires : tie.Need-strengths-requires
 strengths-requires c κs = search rules
@@ -44,13 +44,13 @@ sum-up-requires-2 : tie.Need-sum-up-requires-2
 sum-up-requires-2 c κs = search rules
 
 multiple-at-requires : tie.Need-multiple-at-requires
-multiple-at-requires c κs = (c.before.before.before.before.before.before.before.before.before.before.before.before.before.before.before.before.before.before.before.before.before.before.before.before.before.requires.0, c.before.before.before.before.before.before.before.before.before.before.before.before.before.before.before.before.before.before.before.before.before.before.before.before.before.requires.2.range.some, all-adjacent c.before.before.before.before.before.before.before.before.before.before.before.before.before.before.before.before.before.before.before.before.before.before.before.before.before.requires.2)
+multiple-at-requires c κs = (c.before.before.before.before.before.before.before.before.before.before.before.before.before.before.before.before.before.before.before.before.before.before.before.before.before.requires.0, c.before.before.before.before.before.before.before.before.before.before.before.before.before.before.before.before.before.before.before.before.before.before.before.before.before.requires.2.range.some, all_adjacent c.before.before.before.before.before.before.before.before.before.before.before.before.before.before.before.before.before.before.before.before.before.before.before.before.before.requires.2)
 
 mul-defence : tie.Need-overflow-mul-defence
-mul-defence c = omega (arith, defence-fits c.before.before.before.sum-up2.ensures.fighting.small c.before.multiple-at.ensures.small)
+mul-defence c = omega (arith, defence_fits c.before.before.before.sum-up2.ensures.fighting.small c.before.multiple-at.ensures.small)
 
 column-requires : tie.Need-column-requires
-column-requires c κs = (c.before.before.before.before.before.before.before.before.before.before.before.before.before.before.before.before.before.before.before.before.before.before.before.before.before.before.before.before.requires.0, omega (arith, c.before.before.before.before.before.sum-up.ensures.fighting.small), defence-fits c.before.before.before.before.sum-up2.ensures.fighting.small c.before.before.multiple-at.ensures.small)
+column-requires c κs = (c.before.before.before.before.before.before.before.before.before.before.before.before.before.before.before.before.before.before.before.before.before.before.before.before.before.before.before.before.requires.0, omega (arith, c.before.before.before.before.before.sum-up.ensures.fighting.small), defence_fits c.before.before.before.before.sum-up2.ensures.fighting.small c.before.before.multiple-at.ensures.small)
 
 code-requires : tie.Need-code-requires
 code-requires c κs = c.before.before.before.before.before.before.before.before.before.before.before.before.before.before.before.before.before.before.before.before.before.before.before.before.before.before.before.before.before.before.requires.0
@@ -79,8 +79,8 @@ settle-requires c κs = (
   c.before.before.before.before.before.before.before.before.before.before.before.before.before.before.before.before.before.before.before.before.before.before.before.before.before.before.before.before.before.before.before.before.before.before.before.before.before.before.requires.2.range.most,
   omega (arith, small c.before.before.before.before.before.before.before.before.before.before.before.before.before.before.before.before.before.before.before.before.before.before.before.before.before.before.before.before.before.before.before.before.before.before.before.before.before.before, c.before.before.before.before.before.before.before.before.before.before.before.before.before.before.before.before.before.before.before.before.before.before.before.before.before.before.before.before.before.before.before.before.before.before.before.before.before.before.requires.2.range.aimed),
   lent-all _ _ c.before.before.before.before.before.before.before.before.before.before.before.before.before.before.before.before.before.before.before.before.before.before.before.before.before.before.before.before.before.before.before.before.muster.ensures c.before.before.before.before.before.before.before.before.before.before.before.before.before.before.before.before.draw-up.ensures c.before.before.before.units_of.ensures,
-  rw c.before.before.before.before.before.before.upshot.ensures (upshot-fits c.before.before.before.before.before.before.before.code.result c.before.before.before.before.before.before.before.code.ensures.small),
-  rw c.before.before.before.before.before.need-of.ensures (need-fits c.before.before.before.before.before.before.upshot.result c.before.before.before.before.before.before.before.before.before.before.before.before.before.before.before.sum-up.result.printed c.before.before.before.before.before.before.before.before.before.before.before.before.before.before.sum-up2.result.printed c.before.before.before.before.before.before.before.before.before.before.before.before.before.before.before.sum-up.ensures.printed.small c.before.before.before.before.before.before.before.before.before.before.before.before.before.before.sum-up2.ensures.printed.small),
+  rw c.before.before.before.before.before.before.upshot.ensures (upshot_fits c.before.before.before.before.before.before.before.code.result c.before.before.before.before.before.before.before.code.ensures.small),
+  rw c.before.before.before.before.before.need-of.ensures (need_fits c.before.before.before.before.before.before.upshot.result c.before.before.before.before.before.before.before.before.before.before.before.before.before.before.before.sum-up.result.printed c.before.before.before.before.before.before.before.before.before.before.before.before.before.before.sum-up2.result.printed c.before.before.before.before.before.before.before.before.before.before.before.before.before.before.before.sum-up.ensures.printed.small c.before.before.before.before.before.before.before.before.before.before.before.before.before.before.sum-up2.ensures.printed.small),
 )
 
 clear-requires : tie.Need-clear-requires
@@ -105,12 +105,12 @@ returns c =
     let g = c.before.before.before.before.before.before.before.before.before.before.before.before.before.before.before.before.before.before.before.before.before.sum-up2.ensures in
     battled c.before.before.before.before.before.before.before.before.before.before.before.before.before.before.before.before.before.before.before.before.before.before.before.before.before.before.before.before.before.before.before.before.before.before.before.before.before.before.before.before.before.before.before.before.before.requires.0.shaped
     (decides b a.target a.units.now a.die (map (strength p) (participants b a.target a.units.now))
-    (f.fighting.is ∙ ap fightingTotal s.attackers) (g.fighting.is ∙ ap fightingTotal s.defenders) c.before.before.before.before.before.before.before.before.before.before.before.before.before.before.before.before.before.before.before.multiple-at.ensures.is c.before.before.before.before.before.before.before.before.before.before.before.before.before.before.before.before.column.ensures.is c.before.before.before.before.before.before.before.before.before.before.before.before.before.before.code.ensures.is
-    (f.printed.is ∙ ap printedTotal s.attackers) (g.printed.is ∙ ap printedTotal s.defenders)
+    (f.fighting.is ∙ ap fighting_total s.attackers) (g.fighting.is ∙ ap fighting_total s.defenders) c.before.before.before.before.before.before.before.before.before.before.before.before.before.before.before.before.before.before.before.multiple-at.ensures.is c.before.before.before.before.before.before.before.before.before.before.before.before.before.before.before.before.column.ensures.is c.before.before.before.before.before.before.before.before.before.before.before.before.before.before.code.ensures.is
+    (f.printed.is ∙ ap printed_total s.attackers) (g.printed.is ∙ ap printed_total s.defenders)
     (c.before.before.before.before.before.before.before.before.before.before.before.before.need-of.ensures ∙ ap (λ (o : Upshot). need_of o c.before.before.before.before.before.before.before.before.before.before.before.before.before.before.before.before.before.before.before.before.before.before.sum-up.result.printed c.before.before.before.before.before.before.before.before.before.before.before.before.before.before.before.before.before.before.before.before.before.sum-up2.result.printed) c.before.before.before.before.before.before.before.before.before.before.before.before.before.upshot.ensures))
     (c.before.before.before.before.before.before.settle.ensures
-    ∙ ap₂ (λ (x : List ℕ) (o : Upshot). makes (turnedAll p x) (battleChanges b a.target a.units.now o c.before.before.before.before.before.before.before.before.before.before.before.before.need-of.result)) (lent-all _ _ c.before.before.before.before.before.before.before.before.before.before.before.before.before.before.before.before.before.before.before.before.before.before.before.before.before.before.before.before.before.before.before.before.before.before.before.before.before.before.before.muster.ensures c.before.before.before.before.before.before.before.before.before.before.before.before.before.before.before.before.before.before.before.before.before.before.before.draw-up.ensures c.before.before.before.before.before.before.before.before.before.before.units_of.ensures) c.before.before.before.before.before.before.before.before.before.before.before.before.before.upshot.ensures)
-    (all-clear c.before.before.before.before.before.before.before.before.before.before.before.before.before.before.before.before.before.before.before.before.before.before.before.before.before.before.before.before.before.arm-all.new.1.1.1.1.1.1.0 b.map.hexes c.before.before.clear.ensures (omega (arith, c.before.before.before.before.before.before.before.before.before.before.before.before.before.before.before.before.before.before.before.before.before.before.before.before.before.before.before.before.before.before.before.before.before.before.before.before.before.before.before.before.before.before.before.before.before.requires.2.range.scratch, c.before.before.before.before.before.before.before.before.before.before.before.before.before.before.before.before.before.before.before.before.before.before.before.before.before.before.before.before.before.arm-all.auto.1.1.1.1.1.1.0)))
+    ∙ ap₂ (λ (x : List ℕ) (o : Upshot). makes (turned_all p x) (battle_changes b a.target a.units.now o c.before.before.before.before.before.before.before.before.before.before.before.before.need-of.result)) (lent-all _ _ c.before.before.before.before.before.before.before.before.before.before.before.before.before.before.before.before.before.before.before.before.before.before.before.before.before.before.before.before.before.before.before.before.before.before.before.before.before.before.before.muster.ensures c.before.before.before.before.before.before.before.before.before.before.before.before.before.before.before.before.before.before.before.before.before.before.before.draw-up.ensures c.before.before.before.before.before.before.before.before.before.before.units_of.ensures) c.before.before.before.before.before.before.before.before.before.before.before.before.before.upshot.ensures)
+    (all_clear c.before.before.before.before.before.before.before.before.before.before.before.before.before.before.before.before.before.before.before.before.before.before.before.before.before.before.before.before.before.arm-all.new.1.1.1.1.1.1.0 b.map.hexes c.before.before.clear.ensures (omega (arith, c.before.before.before.before.before.before.before.before.before.before.before.before.before.before.before.before.before.before.before.before.before.before.before.before.before.before.before.before.before.before.before.before.before.before.before.before.before.before.before.before.before.before.before.before.before.requires.2.range.scratch, c.before.before.before.before.before.before.before.before.before.before.before.before.before.before.before.before.before.before.before.before.before.before.before.before.before.before.before.before.before.arm-all.auto.1.1.1.1.1.1.0)))
 
 pub fight-spec : {M : Type 1} → statement M
 fight-spec =

@@ -3,7 +3,7 @@
 use mathlib.Core.Path.{subst}
 use borrow.Author.Rules.{rules}
 use Rattle.flaw.specs.Tells.{LaidOf}
-use Rattle.checking.proofs.Flaws.{why-flaw, why-told}
+use Rattle.checking.proofs.Flaws.{why_flaw, why_told}
 use Rattle.checking.proofs.why.Statement.{statement}
 use Rattle.checking.proofs.why.Tie as tie
 
@@ -20,10 +20,10 @@ enum-known-f : tie.Need-enum-known-f
 enum-known-f c = search rules
 
 returns : tie.Need-returns
-returns c = why-told c.bodies-ok.ensures
+returns c = why_told c.bodies-ok.ensures
 
 returns-2 : tie.Need-returns-2
-returns-2 c = why-flaw (subst (LaidOf _) c.before.f.given.1 c.before.before.before.shape.ensures)
+returns-2 c = why_flaw (subst (LaidOf _) c.before.f.given.1 c.before.before.before.shape.ensures)
 
 pub why-spec : {M : Type 1} → statement M
 why-spec = tie.close (tie.spec shape-requires enum-known-v bodies-ok-requires enum-known-f returns returns-2)

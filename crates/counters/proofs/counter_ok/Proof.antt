@@ -6,10 +6,10 @@ use native.Mathlib.Omega.{arith}
 use borrow.Author.Rules.{rules}
 use Rattle.position.specs.Bits.{has, tried}
 use Rattle.position.specs.Board.{board}
-use Rattle.position.specs.Kind.{mayBelong, mayAllow, alwaysTried}
+use Rattle.position.specs.Kind.{may_belong, may_allow, always_tried}
 use Rattle.position.specs.Layout as Layout
 use Rattle.position.proofs.Answers.{holds, fails}
-use Rattle.position.proofs.Tallies.{not-both}
+use Rattle.position.proofs.Tallies.{not_both}
 use Rattle.acceptance.specs.Accepted.{CounterOk}
 use Rattle.flaw.specs.Flaw as Flaw
 use Rattle.flaw.proofs.Tellings.{fine, broken}
@@ -18,13 +18,13 @@ use Rattle.counters.proofs.counter_ok.Tie as tie
 
 belongs : (c : tie.After-may-belong) →
     let a = c.before.before.before.before.before.args in
-    c.may-belong.result ≡ mayBelong (Layout.kind a.p.now a.u) (Layout.nationality a.p.now a.u)
-belongs c = c.may-belong.ensures ∙ ap₂ mayBelong c.before.before.before.kind.ensures.is c.before.nationality.ensures.is
+    c.may-belong.result ≡ may_belong (Layout.kind a.p.now a.u) (Layout.nationality a.p.now a.u)
+belongs c = c.may-belong.ensures ∙ ap₂ may_belong c.before.before.before.kind.ensures.is c.before.nationality.ensures.is
 
 allows : (c : tie.After-may-allow) →
     let a = c.before.before.before.before.before.before.before.before.args in
-    c.may-allow.result ≡ mayAllow (Layout.kind a.p.now a.u) (Layout.allowance a.p.now a.u)
-allows c = c.may-allow.ensures ∙ ap₂ mayAllow c.before.before.before.before.before.before.kind.ensures.is c.before.allowance.ensures.is
+    c.may-allow.result ≡ may_allow (Layout.kind a.p.now a.u) (Layout.allowance a.p.now a.u)
+allows c = c.may-allow.ensures ∙ ap₂ may_allow c.before.before.before.before.before.before.kind.ensures.is c.before.allowance.ensures.is
 
 is-tried : (c : tie.After-has) →
     let a = c.before.before.before.before.before.before.before.before.before.before.before.args in
@@ -33,14 +33,14 @@ is-tried c = sym (c.has.ensures ∙ ap (has tried) c.before.before.before.before
 
 is-always : (c : tie.After-always-tried) →
     let a = c.before.before.before.before.before.before.before.before.before.before.before.before.before.args in
-    alwaysTried (Layout.kind a.p.now a.u) ≡ c.always-tried.result
-is-always c = sym (c.always-tried.ensures ∙ ap alwaysTried c.before.before.before.before.before.before.before.before.before.before.before.kind.ensures.is)
+    always_tried (Layout.kind a.p.now a.u) ≡ c.always-tried.result
+is-always c = sym (c.always-tried.ensures ∙ ap always_tried c.before.before.before.before.before.before.before.before.before.before.before.kind.ensures.is)
 
 -- all but the last question
 counter : (c : tie.Else3) →
     let p = c.before.before.before.before.before.before.before.before.before.before.args.p.now in
     let u = c.before.before.before.before.before.before.before.before.before.before.args.u in
-    (alwaysTried (Layout.kind p u) ≡ true → has tried (Layout.marks p u) ≡ true) → CounterOk (board p) u
+    (always_tried (Layout.kind p u) ≡ true → has tried (Layout.marks p u) ≡ true) → CounterOk (board p) u
 counter c always =
     let q2 = c.before in
     let q1 = q2.before.before.before in
@@ -91,11 +91,11 @@ returns-5 : tie.Need-returns-5
 returns-5 c =
     let q4 = c.before.before in
     broken
-    (Flaw.alwaysTried refl c.before.before.before.before.before.before.before.before.before.before.before.before.before.before.requires.1
-    (λ t. not-both _ (t (is-always c.before ∙ c.if5.true)) (is-tried q4.before ∙ q4.if4.false)))
+    (Flaw.always_tried refl c.before.before.before.before.before.before.before.before.before.before.before.before.before.before.requires.1
+    (λ t. not_both _ (t (is-always c.before ∙ c.if5.true)) (is-tried q4.before ∙ q4.if4.false)))
 
 returns-6 : tie.Need-returns-6
-returns-6 c = fine (counter c.before.before.before.before (λ e. not-both _ e (is-always c.before ∙ c.if5.false)))
+returns-6 c = fine (counter c.before.before.before.before (λ e. not_both _ e (is-always c.before ∙ c.if5.false)))
 
 pub counter-ok-spec : {M : Type 1} → statement M
 counter-ok-spec = tie.close (tie.spec kind-requires marks-requires nationality-requires may-belong-requires returns allowance-requires may-allow-requires returns-2 returns-3 has-requires returns-4 always-tried-requires returns-5 returns-6)

@@ -12,13 +12,13 @@ role-requires : tie.Need-role-requires
 role-requires c κs = search rules
 
 returns : tie.Need-returns
-returns c = broken (Flaw.destroyedRole refl c.before.before.before.requires.1 c.before.before.before.requires.2 (λ e. omega arith))
+returns c = broken (Flaw.destroyed_role refl c.before.before.before.requires.1 c.before.before.before.requires.2 (λ e. omega arith))
 
 marks-requires : tie.Need-marks-requires
 marks-requires c κs = search rules
 
 returns-2 : tie.Need-returns-2
-returns-2 c = broken (Flaw.destroyedMarks refl c.before.before.before.before.before.requires.1 c.before.before.before.before.before.requires.2 (λ l. omega arith))
+returns-2 c = broken (Flaw.destroyed_marks refl c.before.before.before.before.before.requires.1 c.before.before.before.before.before.requires.2 (λ l. omega arith))
 
 returns-3 : tie.Need-returns-3
 returns-3 c = fine (record { role = omega arith; marks = omega arith })

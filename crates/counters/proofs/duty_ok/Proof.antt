@@ -29,7 +29,7 @@ hex-requires : tie.Need-hex-requires
 hex-requires c κs = c.before.before.before.before.requires.0
 
 returns-3 : tie.Need-returns-3
-returns-3 c = broken (Flaw.roleMapped refl c.before.before.before.before.before.before.requires.1 (λ t. t (λ e. omega arith) (omega arith)))
+returns-3 c = broken (Flaw.role_mapped refl c.before.before.before.before.before.before.requires.1 (λ t. t (λ e. omega arith) (omega arith)))
 
 marks-requires : tie.Need-marks-requires
 marks-requires c κs = c.before.before.before.before.before.before.requires.0
@@ -38,7 +38,7 @@ has-requires : tie.Need-has-requires
 has-requires c κs = search rules
 
 returns-4 : tie.Need-returns-4
-returns-4 c = broken (Flaw.roleTried refl c.before.before.before.before.before.before.before.before.before.requires.1 (λ t. fails (is-tried c.before) c.if4.true (t (λ e. omega arith))))
+returns-4 c = broken (Flaw.role_tried refl c.before.before.before.before.before.before.before.before.before.requires.1 (λ t. fails (is-tried c.before) c.if4.true (t (λ e. omega arith))))
 
 returns-5 : tie.Need-returns-5
 returns-5 c =

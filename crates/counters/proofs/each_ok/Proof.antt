@@ -6,7 +6,7 @@ use borrow.Author.Rules.{rules}
 use Rattle.position.specs.Board.{board}
 use Rattle.position.proofs.Answers.{Passed, none_yet, one_more, all}
 use Rattle.acceptance.specs.Asked.{AloneOk}
-use Rattle.flaw.proofs.Tellings.{fine, line_small, broken-there}
+use Rattle.flaw.proofs.Tellings.{fine, line_small, broken_there}
 use Rattle.counters.proofs.each_ok.Statement.{statement}
 use Rattle.counters.proofs.each_ok.Tie as tie
 
@@ -29,7 +29,7 @@ add-result : tie.Need-overflow-add-result invariant-loop decreases-loop
 add-result c = omega (arith, line_small (c.before.alone-ok.ensures.named c.if1.true))
 
 returns : tie.Need-returns invariant-loop decreases-loop
-returns c = broken-there (c.before.alone-ok.ensures.named c.if1.true)
+returns c = broken_there (c.before.alone-ok.ensures.named c.if1.true)
 
 add-u : tie.Need-overflow-add-u invariant-loop decreases-loop
 add-u c = search rules

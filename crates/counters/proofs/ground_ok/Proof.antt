@@ -32,7 +32,7 @@ standable-requires c κs = c.before.before.before.requires.0
 returns-2 : tie.Need-returns-2
 returns-2 c =
     broken
-    (Flaw.unitGround refl c.before.before.before.before.before.requires.1
+    (Flaw.unit_ground refl c.before.before.before.before.before.requires.1
     (λ t. fails (stands c.before) c.if2.true (t (λ e. omega (arith, c.before.before.before.hex.ensures.is)))))
 
 returns-3 : tie.Need-returns-3

@@ -9,7 +9,7 @@ use Rattle.position.specs.Shape.{In}
 use Rattle.position.specs.Layout.{strength}
 use Rattle.position.proofs.Answers.{said, unsaid, carry, Passed, none_yet, one_more, all}
 use Rattle.flaw.specs.Flaw as Flaw
-use Rattle.flaw.proofs.Tellings.{fine, broken-there}
+use Rattle.flaw.proofs.Tellings.{fine, broken_there}
 use Rattle.counters.proofs.strengths_ok.Statement.{statement}
 use Rattle.counters.proofs.strengths_ok.Tie as tie
 
@@ -39,7 +39,7 @@ add-result c = search rules
 
 returns : tie.Need-returns invariant-loop decreases-loop
 returns c =
-    broken-there
+    broken_there
     (Flaw.strength refl (omega arith)
     (λ i. unsaid c.before.within.result c.if1.true c.before.within.ensures (carry (sym c.before.before.strength.ensures.is) i)))
 

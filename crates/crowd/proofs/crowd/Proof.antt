@@ -9,8 +9,8 @@ use borrow.Author.Rules.{rules}
 use Rattle.position.specs.Tally.{tally}
 use Rattle.position.specs.Board.{board}
 use Rattle.position.specs.Layout.{hex}
-use Rattle.position.proofs.Tallies.{equals, equals-yes, equals-no, tally-zero, tally-hit, tally-miss}
-use Rattle.position.proofs.Crowds.{crowd-is}
+use Rattle.position.proofs.Tallies.{equals, equals_yes, equals_no, tally_zero, tally_hit, tally_miss}
+use Rattle.position.proofs.Crowds.{crowd_is}
 use Rattle.crowd.proofs.crowd.Statement.{statement}
 use Rattle.crowd.proofs.crowd.Tie as tie
 
@@ -21,7 +21,7 @@ abbrev decreases-loop : tie.decreases-loop
 decreases-loop p v h count n₀ u₀ n u = count - u
 
 loop-holds : tie.Need-loop-init invariant-loop decreases-loop
-loop-holds c = (omega arith, omega arith, sym (tally-zero _))
+loop-holds c = (omega arith, omega arith, sym (tally_zero _))
 
 hex-requires : tie.Need-hex-requires invariant-loop decreases-loop
 hex-requires c κs = search rules
@@ -41,8 +41,8 @@ loop-again c =
     let u = c.before.before.before.loop.u in
     let f = hex a.p.now in
     ⊎_elim
-    (λ w. omega (arith, tally-hit (equals f a.h) u (equals-yes f a.h u (omega arith))))
-    (λ w. omega (arith, tally-miss (equals f a.h) u (equals-no f a.h u (λ e. w.0.left (omega arith)))))
+    (λ w. omega (arith, tally_hit (equals f a.h) u (equals_yes f a.h u (omega arith))))
+    (λ w. omega (arith, tally_miss (equals f a.h) u (equals_no f a.h u (λ e. w.0.left (omega arith)))))
     c.if1.branch
 
 returns : tie.Need-returns invariant-loop decreases-loop
@@ -50,7 +50,7 @@ returns c =
     let a = c.before.before.before.args in
     let t = equals (hex a.p.now) a.h in
     record {
-      is = c.before.loop.invariant.2 ∙ ap (tally t) (omega arith) ∙ sym (crowd-is (board a.p.now) a.h);
+      is = c.before.loop.invariant.2 ∙ ap (tally t) (omega arith) ∙ sym (crowd_is (board a.p.now) a.h);
       small = omega arith;
     }
 

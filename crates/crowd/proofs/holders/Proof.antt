@@ -9,8 +9,8 @@ use borrow.Author.Rules.{rules}
 use Rattle.position.specs.Tally.{tally}
 use Rattle.position.specs.Board.{board}
 use Rattle.position.specs.Layout.{role}
-use Rattle.position.proofs.Tallies.{equals, equals-yes, equals-no, tally-zero, tally-hit, tally-miss}
-use Rattle.position.proofs.Crowds.{holders-is}
+use Rattle.position.proofs.Tallies.{equals, equals_yes, equals_no, tally_zero, tally_hit, tally_miss}
+use Rattle.position.proofs.Crowds.{holders_is}
 use Rattle.crowd.proofs.holders.Statement.{statement}
 use Rattle.crowd.proofs.holders.Tie as tie
 
@@ -21,7 +21,7 @@ abbrev decreases-loop : tie.decreases-loop
 decreases-loop p v r count n₀ u₀ n u = count - u
 
 loop-holds : tie.Need-loop-init invariant-loop decreases-loop
-loop-holds c = (omega arith, omega arith, sym (tally-zero _))
+loop-holds c = (omega arith, omega arith, sym (tally_zero _))
 
 role-requires : tie.Need-role-requires invariant-loop decreases-loop
 role-requires c κs = search rules
@@ -41,8 +41,8 @@ loop-again c =
     let u = c.before.before.before.loop.u in
     let f = role a.p.now in
     ⊎_elim
-    (λ w. omega (arith, tally-hit (equals f a.r) u (equals-yes f a.r u (omega arith))))
-    (λ w. omega (arith, tally-miss (equals f a.r) u (equals-no f a.r u (λ e. w.0.left (omega arith)))))
+    (λ w. omega (arith, tally_hit (equals f a.r) u (equals_yes f a.r u (omega arith))))
+    (λ w. omega (arith, tally_miss (equals f a.r) u (equals_no f a.r u (λ e. w.0.left (omega arith)))))
     c.if1.branch
 
 returns : tie.Need-returns invariant-loop decreases-loop
@@ -50,7 +50,7 @@ returns c =
     let a = c.before.before.before.args in
     let t = equals (role a.p.now) a.r in
     record {
-      is = c.before.loop.invariant.2 ∙ ap (tally t) (omega arith) ∙ sym (holders-is (board a.p.now) a.r);
+      is = c.before.loop.invariant.2 ∙ ap (tally t) (omega arith) ∙ sym (holders_is (board a.p.now) a.r);
       small = omega arith;
     }
 

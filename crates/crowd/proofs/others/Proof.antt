@@ -9,8 +9,8 @@ use borrow.Author.Rules.{rules}
 use Rattle.position.specs.Tally.{tally}
 use Rattle.position.specs.Board.{board}
 use Rattle.position.specs.Layout.{hex}
-use Rattle.position.proofs.Tallies.{equals, equals-yes, equals-no, but, but-other, but-self, but-fails, tally-zero, tally-hit, tally-miss}
-use Rattle.position.proofs.Crowds.{others-is}
+use Rattle.position.proofs.Tallies.{equals, equals_yes, equals_no, but, but_other, but_self, but_fails, tally_zero, tally_hit, tally_miss}
+use Rattle.position.proofs.Crowds.{others_is}
 use Rattle.crowd.proofs.others.Statement.{statement}
 use Rattle.crowd.proofs.others.Tie as tie
 
@@ -21,7 +21,7 @@ abbrev decreases-loop : tie.decreases-loop
 decreases-loop p v w h count n₀ u₀ n u = count - u
 
 loop-holds : tie.Need-loop-init invariant-loop decreases-loop
-loop-holds c = (omega arith, omega arith, sym (tally-zero _))
+loop-holds c = (omega arith, omega arith, sym (tally_zero _))
 
 hex-requires : tie.Need-hex-requires invariant-loop decreases-loop
 hex-requires c κs = search rules
@@ -42,10 +42,10 @@ loop-again c =
     let f = hex a.p.now in
     let t = equals f a.h in
     ⊎_elim
-    (λ w. omega (arith, tally-hit (but t a.w) u (but-other t a.w u w.1.taken ∙ equals-yes f a.h u (omega arith))))
+    (λ w. omega (arith, tally_hit (but t a.w) u (but_other t a.w u w.1.taken ∙ equals_yes f a.h u (omega arith))))
     (⊎_elim
-    (λ w. omega (arith, tally-miss (but t a.w) u (but-self t a.w u w.1.left)))
-    (λ w. omega (arith, tally-miss (but t a.w) u (but-fails t a.w u (equals-no f a.h u (λ e. w.0.left (omega arith)))))))
+    (λ w. omega (arith, tally_miss (but t a.w) u (but_self t a.w u w.1.left)))
+    (λ w. omega (arith, tally_miss (but t a.w) u (but_fails t a.w u (equals_no f a.h u (λ e. w.0.left (omega arith)))))))
     c.if1.branch
 
 returns : tie.Need-returns invariant-loop decreases-loop
@@ -53,7 +53,7 @@ returns c =
     let a = c.before.before.before.args in
     let t = but (equals (hex a.p.now) a.h) a.w in
     record {
-      is = c.before.loop.invariant.2 ∙ ap (tally t) (omega arith) ∙ sym (others-is (board a.p.now) a.w a.h);
+      is = c.before.loop.invariant.2 ∙ ap (tally t) (omega arith) ∙ sym (others_is (board a.p.now) a.w a.h);
       small = omega arith;
     }
 

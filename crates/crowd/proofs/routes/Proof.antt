@@ -7,21 +7,21 @@ use mathlib.Core.Logic.{⊎_elim}
 use native.Mathlib.Omega.{arith}
 use borrow.Author.Rules.{rules}
 use Rattle.position.specs.Tally.{tally}
-use Rattle.position.specs.Layout.{routeCount}
+use Rattle.position.specs.Layout.{route_count}
 use Rattle.position.specs.Board.{board}
 use Rattle.position.specs.Crowd.{filled, routes}
-use Rattle.position.proofs.Tallies.{tally-zero, tally-hit, tally-miss}
+use Rattle.position.proofs.Tallies.{tally_zero, tally_hit, tally_miss}
 use Rattle.crowd.proofs.routes.Statement.{statement}
 use Rattle.crowd.proofs.routes.Tie as tie
 
 abbrev invariant-loop : tie.invariant-loop
-invariant-loop p v n₀ r₀ n r = (r ≤ routeCount) × (n ≤ r) × (n ≡ tally (filled (board p)) r)
+invariant-loop p v n₀ r₀ n r = (r ≤ route_count) × (n ≤ r) × (n ≡ tally (filled (board p)) r)
 
 abbrev decreases-loop : tie.decreases-loop
-decreases-loop p v n₀ r₀ n r = routeCount - r
+decreases-loop p v n₀ r₀ n r = route_count - r
 
 loop-holds : tie.Need-loop-init invariant-loop decreases-loop
-loop-holds c = (omega arith, omega arith, sym (tally-zero _))
+loop-holds c = (omega arith, omega arith, sym (tally_zero _))
 
 filled-requires : tie.Need-filled-requires invariant-loop decreases-loop
 filled-requires c κs = search rules
@@ -41,8 +41,8 @@ loop-again c =
     let r = c.before.before.before.loop.r in
     let e = sym c.before.filled.ensures in
     ⊎_elim
-    (λ w. omega (arith, tally-hit (filled (board a.p.now)) r (e ∙ w.0.taken)))
-    (λ w. omega (arith, tally-miss (filled (board a.p.now)) r (e ∙ w.0.left)))
+    (λ w. omega (arith, tally_hit (filled (board a.p.now)) r (e ∙ w.0.taken)))
+    (λ w. omega (arith, tally_miss (filled (board a.p.now)) r (e ∙ w.0.left)))
     c.if1.branch
 
 returns : tie.Need-returns invariant-loop decreases-loop

@@ -6,7 +6,7 @@ use borrow.Author.Rules.{rules}
 use Rattle.clock.specs.Phase as Phase
 use Rattle.position.specs.Stage as Stage
 use Rattle.position.specs.Board.{desk}
-use Rattle.position.proofs.Answers.{said, unsaid, carry, carry-both}
+use Rattle.position.proofs.Answers.{said, unsaid, carry, carry_both}
 use Rattle.acceptance.specs.Accepted.{ClockOk}
 use Rattle.flaw.specs.Flaw as Flaw
 use Rattle.flaw.proofs.Tellings.{fine, broken}
@@ -20,7 +20,7 @@ clock : (c : tie.Else5) →
 clock c combat =
     record {
       turn = carry c.before.before.before.before.before.before.before.before.before.before.before.turn.ensures.is (said c.before.before.before.before.before.before.before.before.before.within.result c.before.before.before.before.before.before.before.before.if1.false c.before.before.before.before.before.before.before.before.before.within.ensures);
-      lastTurn = carry-both c.before.before.before.before.before.before.before.before.before.before.before.turn.ensures.is c.before.before.before.before.before.before.before.last_turn.ensures.is (said c.before.before.before.before.before.before.within2.result c.before.before.before.before.before.if2.false c.before.before.before.before.before.before.within2.ensures);
+      last_turn = carry_both c.before.before.before.before.before.before.before.before.before.before.before.turn.ensures.is c.before.before.before.before.before.before.before.last_turn.ensures.is (said c.before.before.before.before.before.before.within2.result c.before.before.before.before.before.if2.false c.before.before.before.before.before.before.within2.ensures);
       force = omega arith;
       phase = omega arith;
       stage = omega arith;
@@ -48,8 +48,8 @@ within-requires-2 c κs = search rules
 returns-2 : tie.Need-returns-2
 returns-2 c =
     broken
-    (Flaw.lastTurn refl refl
-    (λ i. unsaid c.before.within2.result c.if2.true c.before.within2.ensures (carry-both (sym c.before.before.before.before.before.before.turn.ensures.is) (sym c.before.before.last_turn.ensures.is) i)))
+    (Flaw.last_turn refl refl
+    (λ i. unsaid c.before.within2.result c.if2.true c.before.within2.ensures (carry_both (sym c.before.before.before.before.before.before.turn.ensures.is) (sym c.before.before.last_turn.ensures.is) i)))
 
 phasing-requires : tie.Need-phasing-requires
 phasing-requires c κs = search rules
@@ -73,7 +73,7 @@ phase-requires-2 : tie.Need-phase-requires-2
 phase-requires-2 c κs = search rules
 
 returns-7 : tie.Need-returns-7
-returns-7 c = broken (Flaw.battlePhase refl refl (λ t. omega (arith, t (λ e. omega arith))))
+returns-7 c = broken (Flaw.battle_phase refl refl (λ t. omega (arith, t (λ e. omega arith))))
 
 returns-8 : tie.Need-returns-8
 returns-8 c = fine (clock c.before.before.before (λ n. omega arith))

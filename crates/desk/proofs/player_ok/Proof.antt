@@ -22,7 +22,7 @@ player-requires-2 c κs = c.before.before.before.before.requires.0
 returns-3 : tie.Need-returns-3
 returns-3 c =
     broken
-    (Flaw.homePlayer refl c.before.before.before.before.before.before.requires.1
+    (Flaw.home_player refl c.before.before.before.before.before.before.requires.1
     (λ t. t c.before.before.if2.false (sym c.before.before.before.before.player.ensures ∙ c.if3.true ∙ c.before.player2.ensures)))
 
 returns-4 : tie.Need-returns-4

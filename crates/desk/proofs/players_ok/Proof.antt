@@ -6,7 +6,7 @@ use borrow.Author.Rules.{rules}
 use Rattle.position.specs.Board.{desk}
 use Rattle.position.proofs.Answers.{Passed, none_yet, one_more, all}
 use Rattle.acceptance.specs.Accepted.{PlayerOk}
-use Rattle.flaw.proofs.Tellings.{fine, line_small, broken-there}
+use Rattle.flaw.proofs.Tellings.{fine, line_small, broken_there}
 use Rattle.desk.proofs.players_ok.Statement.{statement}
 use Rattle.desk.proofs.players_ok.Tie as tie
 
@@ -29,7 +29,7 @@ add-result : tie.Need-overflow-add-result invariant-loop decreases-loop
 add-result c = omega (arith, line_small (c.before.player-ok.ensures.named c.if1.true))
 
 returns : tie.Need-returns invariant-loop decreases-loop
-returns c = broken-there (c.before.player-ok.ensures.named c.if1.true)
+returns c = broken_there (c.before.player-ok.ensures.named c.if1.true)
 
 add-f : tie.Need-overflow-add-f invariant-loop decreases-loop
 add-f c = search rules

@@ -3,14 +3,14 @@
 use mathlib.Core.Path.{sym, ap₂, ◌∙◌}
 use borrow.Author.Rules.{rules}
 use Rattle.ruling.proofs.Meets.{pass, stop, ruled}
-use Rattle.supply.proofs.Supplies.{other_length, own-length}
+use Rattle.supply.proofs.Supplies.{other_length, own_length}
 use Rattle.clock.specs.Clock.{is_last}
-use Rattle.march.specs.EndPhase.{endRule}
+use Rattle.march.specs.EndPhase.{end_rule}
 use Rattle.ending.proofs.end_phase.Statement.{statement}
 use Rattle.ending.proofs.end_phase.Tie as tie
 
 returns : tie.Need-returns
-unfolding endRule
+unfolding end_rule
 returns c = stop (other_length (λ e. c.if1.true (e ∙ sym c.before.before.before.requires.0.view.hexes)))
 
 stage-requires : tie.Need-stage-requires
@@ -20,9 +20,9 @@ same_length : tie.Need-same-length
 same_length c = search rules
 
 returns-2 : tie.Need-returns-2
-unfolding endRule
+unfolding end_rule
 returns-2 c =
-    pass (own-length (c.before.before.before.if1.false ∙ c.before.before.before.before.before.before.requires.0.view.hexes)) (stop (other_length (λ e. c.if2.true (c.before.stage.ensures.is ∙ e))))
+    pass (own_length (c.before.before.before.if1.false ∙ c.before.before.before.before.before.before.requires.0.view.hexes)) (stop (other_length (λ e. c.if2.true (c.before.stage.ensures.is ∙ e))))
 
 clock-of-requires : tie.Need-clock-of-requires
 clock-of-requires c κs = c.before.before.before.before.before.before.before.requires.0
@@ -37,11 +37,11 @@ same-length-2 : tie.Need-same-length-2
 same-length-2 c = search rules
 
 returns-3 : tie.Need-returns-3
-unfolding endRule
+unfolding end_rule
 returns-3 c =
     let e = ap₂ is_last c.before.before.before.before.clock-of.ensures.is c.before.before.last_turn.ensures.is in
-    pass (own-length (c.before.before.before.before.before.before.before.before.before.if1.false ∙ c.before.before.before.before.before.before.before.before.before.before.before.before.requires.0.view.hexes))
-    (pass (own-length (sym c.before.before.before.before.before.before.before.stage.ensures.is ∙ c.before.before.before.before.before.before.if2.false)) (stop (sym e ∙ sym c.before.is-last.ensures ∙ c.if3.true)))
+    pass (own_length (c.before.before.before.before.before.before.before.before.before.if1.false ∙ c.before.before.before.before.before.before.before.before.before.before.before.before.requires.0.view.hexes))
+    (pass (own_length (sym c.before.before.before.before.before.before.before.stage.ensures.is ∙ c.before.before.before.before.before.before.if2.false)) (stop (sym e ∙ sym c.before.is-last.ensures ∙ c.if3.true)))
 
 pass-on-requires : tie.Need-pass-on-requires
 pass-on-requires c κs = (c.before.before.before.before.before.before.before.before.before.before.before.before.before.before.requires.0, c.before.before.before.before.before.before.before.before.before.before.before.before.before.before.requires.1, c.before.before.before.before.before.before.before.before.before.before.before.if1.false)
@@ -53,12 +53,12 @@ same-length-4 : tie.Need-same-length-4
 same-length-4 c = search rules
 
 returns-4 : tie.Need-returns-4
-unfolding endRule
+unfolding end_rule
 returns-4 c =
     let e = ap₂ is_last c.before.before.before.before.before.before.before.before.before.before.before.clock-of.ensures.is c.before.before.before.before.before.before.before.before.before.last_turn.ensures.is in
     let o = c.before.before.before.before.pass_on.ensures in
-    pass (own-length (c.before.before.before.before.before.before.before.before.before.before.before.before.before.before.before.before.if1.false ∙ c.before.before.before.before.before.before.before.before.before.before.before.before.before.before.before.before.before.before.before.requires.0.view.hexes))
-    (pass (own-length (sym c.before.before.before.before.before.before.before.before.before.before.before.before.before.before.stage.ensures.is ∙ c.before.before.before.before.before.before.before.before.before.before.before.before.before.if2.false))
+    pass (own_length (c.before.before.before.before.before.before.before.before.before.before.before.before.before.before.before.before.if1.false ∙ c.before.before.before.before.before.before.before.before.before.before.before.before.before.before.before.before.before.before.before.requires.0.view.hexes))
+    (pass (own_length (sym c.before.before.before.before.before.before.before.before.before.before.before.before.before.before.stage.ensures.is ∙ c.before.before.before.before.before.before.before.before.before.before.before.before.before.if2.false))
     (pass (sym e ∙ sym c.before.before.before.before.before.before.before.before.is-last.ensures ∙ c.before.before.before.before.before.before.before.if3.false) (rw (sym o.clear) (ruled o.made))))
 
 pub end-phase-spec : {M : Type 1} → statement M

@@ -3,7 +3,7 @@
 use mathlib.Core.Path.{sym, ◌∙◌}
 use borrow.Author.Rules.{rules}
 use borrow.Author.Tests.{not-true, not-false}
-use Rattle.march.proofs.Ends.{judges-not, judges-then}
+use Rattle.march.proofs.Ends.{judges_not, judges_then}
 use Rattle.ending.proofs.enter.Statement.{statement}
 use Rattle.ending.proofs.enter.Tie as tie
 
@@ -11,7 +11,7 @@ judges-supply-requires : tie.Need-judges-supply-requires
 judges-supply-requires c κs = search rules
 
 returns : tie.Need-returns
-returns c = judges-not (sym c.before.judges-supply.ensures ∙ not-true _ c.if1.true)
+returns c = judges_not (sym c.before.judges-supply.ensures ∙ not-true _ c.if1.true)
 
 judge-force-requires : tie.Need-judge-force-requires
 judge-force-requires c κs = search rules
@@ -23,7 +23,7 @@ same-length-2 : tie.Need-same-length-2
 same-length-2 c = search rules
 
 returns-2 : tie.Need-returns-2
-returns-2 c = judges-then (sym c.before.before.before.before.before.before.before.before.judges-supply.ensures ∙ not-false _ c.before.before.before.before.before.before.before.if1.false) c.before.before.before.before.judge-force.ensures
+returns-2 c = judges_then (sym c.before.before.before.before.before.before.before.before.judges-supply.ensures ∙ not-false _ c.before.before.before.before.before.before.before.if1.false) c.before.before.before.before.judge-force.ensures
 
 pub enter_spec : {M : Type 1} → statement M
 enter_spec =

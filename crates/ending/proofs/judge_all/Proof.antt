@@ -6,7 +6,7 @@ use native.Mathlib.Omega.{arith}
 use borrow.Author.Rules.{rules}
 use Rattle.position.specs.Laid.{Laid}
 use Rattle.march.specs.Ending.{JudgesAll}
-use Rattle.march.proofs.Ends.{judges-none, judges-next}
+use Rattle.march.proofs.Ends.{judges_none, judges-next}
 use Rattle.ending.proofs.judge_all.Statement.{statement}
 use Rattle.ending.proofs.judge_all.Tie as tie
 
@@ -17,7 +17,7 @@ abbrev decreases-loop : tie.decreases-loop
 decreases-loop p₀ v n map count u₀ p u = count - u
 
 loop-holds : tie.Need-loop-init invariant-loop decreases-loop
-loop-holds c = (omega arith, c.before.before.requires.0, judges-none _ _)
+loop-holds c = (omega arith, c.before.before.requires.0, judges_none _ _)
 
 judge-unit-requires : tie.Need-judge-unit-requires invariant-loop decreases-loop
 judge-unit-requires c κs = (c.before.before.loop.invariant.1, c.before.before.before.before.before.requires.1.long ∙ sym c.before.before.before.before.before.requires.0.view.hexes)

@@ -1,7 +1,7 @@
 -- `ending::judge_force` judges a force's units: two nationalities one after the other for force 3, else one.
 -- Assumes nothing.
 use borrow.Author.Rules.{rules}
-use Rattle.march.proofs.Ends.{judges-home, judges-one}
+use Rattle.march.proofs.Ends.{judges_home, judges_one}
 use Rattle.ending.proofs.judge_force.Statement.{statement}
 use Rattle.ending.proofs.judge_force.Tie as tie
 
@@ -15,7 +15,7 @@ same-length-2 : tie.Need-same-length-2
 same-length-2 c = search rules
 
 returns : tie.Need-returns
-returns c = judges-home c.before.before.before.before.before.before.before.if1.true c.before.before.before.before.judge-home.ensures
+returns c = judges_home c.before.before.before.before.before.before.before.if1.true c.before.before.before.before.judge-home.ensures
 
 trace-requires : tie.Need-trace-requires
 trace-requires c κs = search rules
@@ -30,7 +30,7 @@ same-length-4 : tie.Need-same-length-4
 same-length-4 c = search rules
 
 returns-2 : tie.Need-returns-2
-returns-2 c = judges-one _ c.before.before.before.before.before.before.before.before.before.before.before.before.before.requires.0.view.count c.before.before.before.before.before.before.before.before.before.before.if1.false c.before.before.judge-all.ensures.1
+returns-2 c = judges_one _ c.before.before.before.before.before.before.before.before.before.before.before.before.before.requires.0.view.count c.before.before.before.before.before.before.before.before.before.before.if1.false c.before.before.judge-all.ensures.1
 
 pub judge-force-spec : {M : Type 1} → statement M
 judge-force-spec =

@@ -8,9 +8,9 @@ use Rattle.position.specs.Bits.{with, without, supplied}
 use Rattle.position.specs.Layout.{nationality, hex, hexes}
 use Rattle.position.specs.Change.{make}
 use Rattle.position.specs.Change.Change.{marked}
-use Rattle.position.proofs.Changes.{laid-make}
+use Rattle.position.proofs.Changes.{laid_make}
 use Rattle.walk.specs.Chain.{mark}
-use Rattle.march.proofs.Ends.{with_byte, without-byte, left_other, left-off, judged-in, judged-out}
+use Rattle.march.proofs.Ends.{with_byte, without_byte, left_other, left_off, judged_in, judged_out}
 use Rattle.ending.proofs.judge_unit.Statement.{statement}
 use Rattle.ending.proofs.judge_unit.Tie as tie
 
@@ -40,7 +40,7 @@ same-length-2 c = search rules
 returns-2 : tie.Need-returns-2
 returns-2 c =
     let s = c.before.before.before.before.before.before.before.before in
-    (s.requires.0, left-off (nation c.before.before.before) (omega (arith, c.before.hex.ensures.is, s.requires.0.view.hexes)))
+    (s.requires.0, left_off (nation c.before.before.before) (omega (arith, c.before.hex.ensures.is, s.requires.0.view.hexes)))
 
 marks-requires : tie.Need-marks-requires
 marks-requires c κs = search rules
@@ -62,8 +62,8 @@ unfolding mark
 returns-3 c =
     let k = c.before.before.before.before.before in
     let s = k.before.before.before.before.before.before.before.before.before.before.before.before in (
-      rw c.before.before.mark.ensures (laid-make s.requires.0 _),
-      judged-in (nation k.before.before.before.before.before.before.before) s.requires.0.shaped (mapped k.before.before.before.before)
+      rw c.before.before.mark.ensures (laid_make s.requires.0 _),
+      judged_in (nation k.before.before.before.before.before.before.before) s.requires.0.shaped (mapped k.before.before.before.before)
           (rw (sym k.before.before.before.before.before.hex.ensures.is) k.if3.true)
           (c.before.before.mark.ensures ∙ ap (λ x. make s.args.p.now (marked s.args.u x)) (c.before.before.before.with.ensures ∙ ap (with supplied) k.before.before.marks.ensures.is)),
     )
@@ -72,7 +72,7 @@ without-requires : tie.Need-without-requires
 without-requires c κs = search rules
 
 mark-requires-2 : tie.Need-mark-requires-2
-mark-requires-2 c κs = (c.before.before.before.before.before.before.before.before.before.before.before.before.before.before.requires.0, rw c.without.ensures (without-byte _ c.before.before.before.before.marks.ensures.small))
+mark-requires-2 c κs = (c.before.before.before.before.before.before.before.before.before.before.before.before.before.before.requires.0, rw c.without.ensures (without_byte _ c.before.before.before.before.marks.ensures.small))
 
 same-length-4 : tie.Need-same-length-4
 same-length-4 c = search rules
@@ -82,8 +82,8 @@ unfolding mark
 returns-4 c =
     let k = c.before.before.before.before.before in
     let s = k.before.before.before.before.before.before.before.before.before.before.before.before in (
-      rw c.before.before.mark2.ensures (laid-make s.requires.0 _),
-      judged-out (nation k.before.before.before.before.before.before.before) s.requires.0.shaped (mapped k.before.before.before.before)
+      rw c.before.before.mark2.ensures (laid_make s.requires.0 _),
+      judged_out (nation k.before.before.before.before.before.before.before) s.requires.0.shaped (mapped k.before.before.before.before)
           (rw (sym k.before.before.before.before.before.hex.ensures.is) k.if3.false)
           (c.before.before.mark2.ensures ∙ ap (λ x. make s.args.p.now (marked s.args.u x)) (c.before.before.before.without.ensures ∙ ap (without supplied) k.before.before.marks.ensures.is)),
     )

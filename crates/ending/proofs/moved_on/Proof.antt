@@ -41,7 +41,7 @@ use denote.Triple.Spec.{Meets, triple_of}
 use denote.Triple.Table.{entered, cited}
 use denote.Triple.Walked.{says, needs, Stays, stay_none, walk_of, Goes-none, Walks, ends_at, walked, walk_Meets}
 use denote.Exit.{yes}
-use Rattle.clock.specs.Clock.{nextClock}
+use Rattle.clock.specs.Clock.{next_clock}
 use Rattle.clock.specs.declared.Clock.{Clock}
 use Rattle.clock.specs.contracts.Clock as T
 use Rattle.clock.proofs.Clock.TheLaws as T'
@@ -69,11 +69,11 @@ module _ {M : Type 1} {𝓤 : Ura M} (𝓛 : Logic 𝓤) (mem : Memory → SProp
   Move-on = triple_of 𝓛 move-on.signature (move-on.spec 𝓛 mem run)
 
   -- of `move_on`'s `ensured`: the last value under the name of the reference that was passed
-  told : (κs : Lfts 1) (x : MutBor Clock) (r : Unit {0}) → ent 𝓤 (ensured 𝓛 move-on.ended (move-on.clauses 𝓛 mem run) κs (x, tt) tt r) (A.res x.ghost_name ((T.the_row).coded.code (nextClock x.now)))
+  told : (κs : Lfts 1) (x : MutBor Clock) (r : Unit {0}) → ent 𝓤 (ensured 𝓛 move-on.ended (move-on.clauses 𝓛 mem run) κs (x, tt) tt r) (A.res x.ghost_name ((T.the_row).coded.code (next_clock x.now)))
   told κs x r = ex_e 𝓤 _ (λ ws.
       let L : SProp 𝓤 = sep 𝓤 (A.res x.ghost_name ((T.the_row).coded.code ws.0)) (emp 𝓤) in
-      let E : SProp 𝓤 = fact 𝓤 (ws.0 ≡ nextClock x.now) in
-      fact_use 𝓤 (ws.0 ≡ nextClock x.now) (snd∗ 𝓤 L E) (λ e.
+      let E : SProp 𝓤 = fact 𝓤 (ws.0 ≡ next_clock x.now) in
+      fact_use 𝓤 (ws.0 ≡ next_clock x.now) (snd∗ 𝓤 L E) (λ e.
       subst (λ (w : Clock). ent 𝓤 (sep 𝓤 L E) (A.res x.ghost_name ((T.the_row).coded.code w))) e (via 𝓤 L (fst∗ 𝓤 L E) (fst∗ 𝓤 (A.res x.ghost_name ((T.the_row).coded.code ws.0)) (emp 𝓤)))))
 
 module _ {M : Type 1} {𝓤 : Ura M} (𝓛 : Logic 𝓤) (at_mem : Memory → SProp 𝓤) (run : Routine → Fun 𝓤) (h : Clock) (ok : Bytes h) (made : Is T.the_row h (LL.val T.the_type T'.the_laws h ∷ [])) where
@@ -81,7 +81,7 @@ module _ {M : Type 1} {𝓤 : Ura M} (𝓛 : Logic 𝓤) (at_mem : Memory → SP
   open 𝓛 use {H, A}
 
   abbrev h' : Clock
-  h' = nextClock h
+  h' = next_clock h
 
   abbrev bound : (walk_of 𝓛 self.ended stayed (self.clauses 𝓛 at_mem run)).Ghost
   bound = ((tt, tt, tt, (h, tt), (LL.val T.the_type T'.the_laws h ∷ [], tt)), tt)
@@ -99,19 +99,19 @@ module _ {M : Type 1} {𝓤 : Ura M} (𝓛 : Logic 𝓤) (at_mem : Memory → SP
   abbrev x : ℕ → GName → MutBor Clock
   x b γ = record { ref_ptr = (b, 0); ghost_name = γ; now = h }
 
-  abbrev own-at : ℕ → ℕ → GName → Fml
-  own-at α b γ = (MutRef (named 0) (α ∷ []) T.the_row).own_val (x b γ) (vptr b 0 ∷ [])
+  abbrev own_at : ℕ → ℕ → GName → Fml
+  own_at α b γ = (MutRef (named 0) (α ∷ []) T.the_row).own_val (x b γ) (vptr b 0 ∷ [])
 
-  abbrev to-move-on : ℕ → ℕ → GName → (Move-on 𝓛 at_mem run).Ghost
-  to-move-on α b γ = (((α ∷ [], tt), (full_share, tt), tt, (x b γ, tt), (vptr b 0 ∷ [], tt)), tt)
+  abbrev to_move_on : ℕ → ℕ → GName → (Move-on 𝓛 at_mem run).Ghost
+  to_move_on α b γ = (((α ∷ [], tt), (full_share, tt), tt, (x b γ, tt), (vptr b 0 ∷ [], tt)), tt)
 
-  goes : (α b : ℕ) (γ : GName) → ent 𝓤 (sep 𝓤 (A.lft (α ∷ []) full_share) (sem 𝓛 (own-at α b γ))) ((Move-on 𝓛 at_mem run).pre (to-move-on α b γ))
-  goes α b γ = qed 𝓛 (‵ (flft (α ∷ []) full_share) ∷ ‵ (own-at α b γ) ∷ []) ∵ says ! ok $ nothing ! $ move ! (1 ∷ 0 ∷ []) $ join ! $ frame ! $ nothing ! $ move ! (1 ∷ 0 ∷ []) $ done !
+  goes : (α b : ℕ) (γ : GName) → ent 𝓤 (sep 𝓤 (A.lft (α ∷ []) full_share) (sem 𝓛 (own_at α b γ))) ((Move-on 𝓛 at_mem run).pre (to_move_on α b γ))
+  goes α b γ = qed 𝓛 (‵ (flft (α ∷ []) full_share) ∷ ‵ (own_at α b γ) ∷ []) ∵ says ! ok $ nothing ! $ move ! (1 ∷ 0 ∷ []) $ join ! $ frame ! $ nothing ! $ move ! (1 ∷ 0 ∷ []) $ done !
 
   -- what the caller has of the call: the token, and the last value
-  gives : (α b : ℕ) (γ : GName) (v : Val) → ent 𝓤 ((Move-on 𝓛 at_mem run).post (to-move-on α b γ) v) (H.⇛ (guard 𝓤 (v ≡ vunit) (sep 𝓤 (A.lft (α ∷ []) full_share) (A.res γ ((T.the_row).coded.code h')))))
+  gives : (α b : ℕ) (γ : GName) (v : Val) → ent 𝓤 ((Move-on 𝓛 at_mem run).post (to_move_on α b γ) v) (H.⇛ (guard 𝓤 (v ≡ vunit) (sep 𝓤 (A.lft (α ∷ []) full_share) (A.res γ ((T.the_row).coded.code h')))))
   gives α b γ v =
-      qed 𝓛 (raw ((Move-on 𝓛 at_mem run).post (to-move-on α b γ) v) ∷ []) ∵ updating ! $
+      qed 𝓛 (raw ((Move-on 𝓛 at_mem run).post (to_move_on α b γ) v) ∷ []) ∵ updating ! $
       use1 𝓛 (later (some (λ (r : Unit {0}). ((‵ (flft (α ∷ []) full_share) ⊛ ‵ ftrue) ⊛ ‵ (Nothing.own r (v ∷ []))) ⊛ raw (ensured 𝓛 move-on.ended (move-on.clauses 𝓛 at_mem run) (α ∷ [], tt) (x b γ, tt) tt r)))) (id⊢ 𝓤 _) $ await ! tt $ pick ! (λ r.
       split ! $ move ! (1 ∷ []) $ use1 𝓛 (‵ (fres γ ((T.the_row).coded.code h'))) (told 𝓛 at_mem run (α ∷ [], tt) (x b γ) r) $ move ! (1 ∷ []) $ split ! $ move ! (1 ∷ []) $ feq_l ! (λ e. at_once ! $ check ! (ap only e) $ split ! $ keep ! (0 ∷ 2 ∷ []) $ done !))
 
@@ -138,10 +138,10 @@ module _ {M : Type 1} {𝓤 : Ura M} (𝓛 : Logic 𝓤) (at_mem : Memory → SP
         assigns ! (addr ! (from ! (stop !))) (from ! (stop !)) (init ! 0 refl (tt, tt)) $
         -- the local is lent for a lifetime α
         move ! (4 ∷ []) $ use1 𝓛 (‵ ((mem T.the_row).own_at h l₂ 0)) (lies_in l₂) $ lft_new ! tt (λ α. move ! (1 ∷ []) $
-        use1 𝓛 (later (some (λ (γ : GName). ‵ (own-at α l₂ γ) ⊛ ‵ (flent (α ∷ []) (Body (mem T.the_row) l₂ 0 γ))))) (lends_ref 𝓛 T.the_row (named 0) (α ∷ []) h l₂ 0) $ await ! tt $ pick ! (λ γ. split ! $
+        use1 𝓛 (later (some (λ (γ : GName). ‵ (own_at α l₂ γ) ⊛ ‵ (flent (α ∷ []) (Body (mem T.the_row) l₂ 0 γ))))) (lends_ref 𝓛 T.the_row (named 0) (α ∷ []) h l₂ 0) $ await ! tt $ pick ! (λ γ. split ! $
         -- [the reference; the lender's part; the token; _4 @3; …; room for _3 @5; …; _2 dies @7; _1 @8; …; room for _0 @10; …]
-        move ! (2 ∷ 0 ∷ []) $ use2 𝓛 (raw ((Move-on 𝓛 at_mem run).pre (to-move-on α l₂ γ))) (goes α l₂ γ) $
-        calls_at ! fm (Move-on 𝓛 at_mem run) known (to-move-on α l₂ γ) (and_then ! (load ! (from ! (stop !)) (look ! 2 refl)) (no_more !)) (λ v.
+        move ! (2 ∷ 0 ∷ []) $ use2 𝓛 (raw ((Move-on 𝓛 at_mem run).pre (to_move_on α l₂ γ))) (goes α l₂ γ) $
+        calls_at ! fm (Move-on 𝓛 at_mem run) known (to_move_on α l₂ γ) (and_then ! (load ! (from ! (stop !)) (look ! 2 refl)) (no_more !)) (λ v.
         use1 𝓛 (later (given (v ≡ vunit) (‵ (flft (α ∷ []) full_share) ⊛ ‵ (fres γ ((T.the_row).coded.code h'))))) (gives α l₂ γ v) $ await ! tt $ learn ! (λ e. split ! $
         -- [the token; the last clock; the lender's part; _4 @3; …; room for _3 @5; …]
         land ! (from ! (stop !)) (init ! 5 refl (subst (λ (y : Val). Holds (has_ty ty_unit y) × WT y) (sym e) (tt, tt))) $
@@ -160,14 +160,14 @@ module _ {M : Type 1} {𝓤 : Ura M} (𝓛 : Logic 𝓤) (at_mem : Memory → SP
 module _ {M : Type 1} {𝓤 : Ura M} (𝓛 : Logic 𝓤) (mem : Memory → SProp 𝓤) (run : Routine → Fun 𝓤) where
   open 𝓛 use {H}
 
-  moved-on-walks : (C : Calls 𝓤 H) (Λ : Loops 𝓤 H) → FmC 𝓤 H 𝓛.laws C → Triple 𝓤 (C #move-on) (Move-on 𝓛 mem run) → Walks 𝓛 self.ended stayed (WpFn 𝓤 H C Λ code.function) (self.clauses 𝓛 mem run)
-  moved-on-walks C Λ fm known = walked 𝓛 self.ended stayed (self.clauses 𝓛 mem run) (WpFn 𝓤 H C Λ code.function) (λ κs. (LL.vals T.the_type T'.the_laws, tt)) (λ κs. (LL.tells T.the_type T'.the_laws, tt))
+  moved_on_walks : (C : Calls 𝓤 H) (Λ : Loops 𝓤 H) → FmC 𝓤 H 𝓛.laws C → Triple 𝓤 (C #move-on) (Move-on 𝓛 mem run) → Walks 𝓛 self.ended stayed (WpFn 𝓤 H C Λ code.function) (self.clauses 𝓛 mem run)
+  moved_on_walks C Λ fm known = walked 𝓛 self.ended stayed (self.clauses 𝓛 mem run) (WpFn 𝓤 H C Λ code.function) (λ κs. (LL.vals T.the_type T'.the_laws, tt)) (λ κs. (LL.tells T.the_type T'.the_laws, tt))
       (λ κs qs bounds a _ are. needs 𝓤 (Bytes a.0) _ (λ ok. walk 𝓛 mem run a.0 ok are.0 C Λ fm known))
 
 moved-on-meets : {M : Type 1} {𝓤 : Ura M} (𝓛 : Logic 𝓤) → (mem : Memory → SProp 𝓤) (run : Routine → Fun 𝓤) (𝓣 : Tables 𝓤 𝓛.H) → Triple 𝓤 (𝓣.C #move-on) (Move-on 𝓛 mem run)
     → Meets 𝓛 self.signature (WpFn 𝓤 𝓛.H 𝓣.C 𝓣.Λ code.function) (self.spec 𝓛 mem run)
 moved-on-meets {𝓤 = 𝓤} 𝓛 mem run 𝓣 known = walk_Meets 𝓛 self.ended stayed (Goes-none 𝓛 0 (λ _. T.the_row) yes (λ κs x f. refl), tt) (self.clauses 𝓛 mem run)
-    (WpFn 𝓤 𝓛.H 𝓣.C 𝓣.Λ code.function) (WpFn-mono 𝓤 𝓛.H 𝓛.laws 𝓣 code.function) (moved-on-walks 𝓛 mem run 𝓣.C 𝓣.Λ (fm_of 𝓤 𝓛.H 𝓛.laws 𝓣) known)
+    (WpFn 𝓤 𝓛.H 𝓣.C 𝓣.Λ code.function) (WpFn-mono 𝓤 𝓛.H 𝓛.laws 𝓣 code.function) (moved_on_walks 𝓛 mem run 𝓣.C 𝓣.Λ (fm_of 𝓤 𝓛.H 𝓛.laws 𝓣) known)
 
 pub moved-on-spec : {M : Type 1} → stated.statement M
 unfolding code.routine tables_of

@@ -5,16 +5,16 @@ use native.Mathlib.Omega.{arith}
 use borrow.Author.Rules.{rules}
 use Rattle.position.specs.Layout.{hexes}
 use Rattle.position.specs.Board.{board}
-use Rattle.position.proofs.Changes.{laid-make, laid-makes}
-use Rattle.position.proofs.Cells.{all-clear}
-use Rattle.clock.specs.Clock.{nextClock}
-use Rattle.march.proofs.Ends.{next-bytes, all-ended}
+use Rattle.position.proofs.Changes.{laid_make, laid_makes}
+use Rattle.position.proofs.Cells.{all_clear}
+use Rattle.clock.specs.Clock.{next_clock}
+use Rattle.march.proofs.Ends.{next_bytes, all-ended}
 use Rattle.ending.proofs.pass_on.Statement.{statement}
 use Rattle.ending.proofs.pass_on.Tie as tie
 
 -- the clock that is set is the board's next
-upcoming : (c : tie.After-moved-on) → c.moved_on.result ≡ nextClock (board c.before.before.before.before.before.args.p.now).desk.clock
-upcoming c = c.moved_on.ensures ∙ ap nextClock c.before.clock-of.ensures.is
+upcoming : (c : tie.After-moved-on) → c.moved_on.result ≡ next_clock (board c.before.before.before.before.before.args.p.now).desk.clock
+upcoming c = c.moved_on.ensures ∙ ap next_clock c.before.clock-of.ensures.is
 
 clock-of-requires : tie.Need-clock-of-requires
 clock-of-requires c κs = search rules
@@ -29,13 +29,13 @@ set-clock-requires : tie.Need-set-clock-requires
 set-clock-requires c κs =
     let s = c.before.before.before.before.before.before.before.before.before.before in
     let e = upcoming c.before.before.before.before.before in
-    let k = next-bytes s.requires.1.lawful in
-    (laid-makes _ s.requires.0 c.before.before.before.rest_all.ensures, rw e k.turn, rw e k.force, rw e k.phase)
+    let k = next_bytes s.requires.1.lawful in
+    (laid_makes _ s.requires.0 c.before.before.before.rest_all.ensures, rw e k.turn, rw e k.force, rw e k.phase)
 
 enter-requires : tie.Need-enter-requires
 enter-requires c κs =
     let s = c.before.before.before.before.before.before.before.before.before.before.before.before.before.before.before in
-    (rw c.before.before.before.before.set-clock.ensures (laid-make (laid-makes _ s.requires.0 c.before.before.before.before.before.before.before.before.rest_all.ensures) _), omega (arith, s.requires.2))
+    (rw c.before.before.before.before.set-clock.ensures (laid_make (laid_makes _ s.requires.0 c.before.before.before.before.before.before.before.before.rest_all.ensures) _), omega (arith, s.requires.2))
 
 clear-requires : tie.Need-clear-requires
 clear-requires c κs = search rules
@@ -54,7 +54,7 @@ returns c =
     let v = s.requires.0.view in
     record {
       made = all-ended s.requires.1 v.count (upcoming n) c.before.before.before.before.before.before.before.before.before.before.before.before.before.before.before.before.before.rest_all.ensures c.before.before.before.before.before.before.before.before.before.before.before.before.before.set-clock.ensures g.ensures;
-      clear = all-clear g.new.1.1.1.0 (hexes s.args.p.now) c.before.before.clear.ensures (omega (arith, s.requires.2, v.hexes));
+      clear = all_clear g.new.1.1.1.0 (hexes s.args.p.now) c.before.before.clear.ensures (omega (arith, s.requires.2, v.hexes));
     }
 
 pub pass-on-spec : {M : Type 1} → statement M

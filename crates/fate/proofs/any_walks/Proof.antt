@@ -5,16 +5,16 @@ use Prim.Native.Nat.{◌-◌}
 use mathlib.Core.Path.{◌∙◌, ap, sym}
 use native.Mathlib.Omega.{arith}
 use borrow.Author.Rules.{rules}
-use Rattle.position.proofs.Tallies.{any-true}
+use Rattle.position.proofs.Tallies.{any_true}
 use Rattle.position.specs.Board.{board}
 use Rattle.position.specs.Tally.{any}
-use Rattle.retreat.specs.Retreat.{walksFrom}
+use Rattle.retreat.specs.Retreat.{walks_from}
 use Rattle.field.proofs.Zones.{None, none_at_all, none_yet, one_more}
 use Rattle.fate.proofs.any_walks.Statement.{statement}
 use Rattle.fate.proofs.any_walks.Tie as tie
 
 abbrev invariant-loop : tie.invariant-loop
-invariant-loop p v h count u₀ u = None (walksFrom (board p) h) u count
+invariant-loop p v h count u₀ u = None (walks_from (board p) h) u count
 
 abbrev decreases-loop : tie.decreases-loop
 decreases-loop p v h count u₀ u = count - u
@@ -26,7 +26,7 @@ walks-from-requires : tie.Need-walks-from-requires invariant-loop decreases-loop
 walks-from-requires c κs = search rules
 
 returns : tie.Need-returns invariant-loop decreases-loop
-returns c = sym (any-true _ _ c.before.before.before.loop.u (omega arith) (sym c.before.Walks-from.ensures ∙ c.if1.true))
+returns c = sym (any_true _ _ c.before.before.before.loop.u (omega arith) (sym c.before.Walks-from.ensures ∙ c.if1.true))
 
 add-u : tie.Need-overflow-add-u invariant-loop decreases-loop
 add-u c = search rules
@@ -41,7 +41,7 @@ returns-2 : tie.Need-returns-2 invariant-loop decreases-loop
 returns-2 c =
     let s = c.before.before.before in
     sym
-    (ap (any (walksFrom (board s.args.p.now) s.args.h)) (sym s.requires.view.count)
+    (ap (any (walks_from (board s.args.p.now) s.args.h)) (sym s.requires.view.count)
     ∙ none_at_all c.before.loop.invariant (omega arith))
 
 pub any-walks-spec : {M : Type 1} → statement M

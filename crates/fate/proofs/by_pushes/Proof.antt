@@ -4,10 +4,10 @@ use mathlib.Core.Bool.{Bool}
 use mathlib.Core.Path.{◌≡◌, ap, sym, ◌∙◌}
 use borrow.Author.Rules.{rules}
 use Rattle.position.specs.Board.{board}
-use Rattle.routes.specs.Part.{partRoute}
+use Rattle.routes.specs.Part.{part_route}
 use Rattle.pushes.specs.Pushes.{served}
-use Rattle.shoves.specs.Group.{groupForce}
-use Rattle.retreat.specs.Fate.{lostFate, servedFate}
+use Rattle.shoves.specs.Group.{group_force}
+use Rattle.retreat.specs.Fate.{lost_fate, served_fate}
 use Rattle.retreat.proofs.Groups.{served-as}
 use Rattle.fate.proofs.by_pushes.Statement.{statement}
 use Rattle.fate.proofs.by_pushes.Tie as tie
@@ -17,7 +17,7 @@ known :
     (c : tie.After-judge)
     → let s = c.before.before.before.before.before.before.args in
     let b = board s.p.now in
-    c.judge.result ≡ served b (groupForce b s.h) s.h b.desk.battle.owed s.route.now s.pushes.now
+    c.judge.result ≡ served b (group_force b s.h) s.h b.desk.battle.owed s.route.now s.pushes.now
 known c =
     let s = c.before.before.before.before.before.before.args in
     served-as (board s.p.now) s.h s.route.now s.pushes.now c.before.before.group-force.ensures
@@ -54,26 +54,26 @@ returns c =
     let j = i.before.before.before in
     let s = j.before.before.before.before.before.before.args in
     let b = board s.p.now in
-    let lost = lostFate (partRoute b (groupForce b s.h) s.h s.route.now) s.pushes.now in
+    let lost = lost_fate (part_route b (group_force b s.h) s.h s.route.now) s.pushes.now in
     c.by_part.ensures
-    ∙ ap (λ (t : Bool). lostFate t s.pushes.now) i.is-part.ensures
-    ∙ ap (servedFate lost) (sym i.before.enum_told.given.1 ∙ known j)
+    ∙ ap (λ (t : Bool). lost_fate t s.pushes.now) i.is-part.ensures
+    ∙ ap (served_fate lost) (sym i.before.enum_told.given.1 ∙ known j)
 
 returns-2 : tie.Need-returns-2
 returns-2 c =
     let j = c.before.before in
     let s = j.before.before.before.before.before.before.args in
     let b = board s.p.now in
-    let lost = lostFate (partRoute b (groupForce b s.h) s.h s.route.now) s.pushes.now in
-    ap (servedFate lost) (sym c.enum-told2.given.1 ∙ known j)
+    let lost = lost_fate (part_route b (group_force b s.h) s.h s.route.now) s.pushes.now in
+    ap (served_fate lost) (sym c.enum-told2.given.1 ∙ known j)
 
 returns-3 : tie.Need-returns-3
 returns-3 c =
     let j = c.before.before in
     let s = j.before.before.before.before.before.before.args in
     let b = board s.p.now in
-    let lost = lostFate (partRoute b (groupForce b s.h) s.h s.route.now) s.pushes.now in
-    ap (servedFate lost) (sym c.enum-told3.given.1 ∙ known j)
+    let lost = lost_fate (part_route b (group_force b s.h) s.h s.route.now) s.pushes.now in
+    ap (served_fate lost) (sym c.enum-told3.given.1 ∙ known j)
 
 pub by-pushes-spec : {M : Type 1} → statement M
 by-pushes-spec =

@@ -8,12 +8,12 @@ use Rattle.position.specs.Board.{board}
 use Rattle.position.specs.Tally.{any}
 use Rattle.routes.specs.Outlook.{OutlookOf}
 use Rattle.routes.specs.declared.Outlook.{Outlook}
-use Rattle.shoves.specs.Group.{groupForce}
-use Rattle.retreat.specs.Fate.{lostFate}
-use Rattle.retreat.specs.Retreat.{walksFrom}
+use Rattle.shoves.specs.Group.{group_force}
+use Rattle.retreat.specs.Fate.{lost_fate}
+use Rattle.retreat.specs.Retreat.{walks_from}
 use Rattle.retreat.proofs.Alone.{alone-series}
-use Rattle.retreat.proofs.Fates.{fate-illegal, fate-legal, fate-served, fate-supply, fate-trapped}
-use Rattle.retreat.proofs.Groups.{outlook-as, told-alone, told-friends, told-illegal, told-legal}
+use Rattle.retreat.proofs.Fates.{fate_illegal, fate-legal, fate-served, fate-supply, fate-trapped}
+use Rattle.retreat.proofs.Groups.{outlook-as, told-alone, told_friends, told_illegal, told_legal}
 use Rattle.fate.proofs.decide.Statement.{statement}
 use Rattle.fate.proofs.decide.Tie as tie
 
@@ -21,7 +21,7 @@ use Rattle.fate.proofs.decide.Tie as tie
 walks :
     (c : tie.Else1)
     → let s = c.before.before.before.before.before.args in
-    any (walksFrom (board s.p.now) s.h) (board s.p.now).units.count ≡ true
+    any (walks_from (board s.p.now) s.h) (board s.p.now).units.count ≡ true
 walks c = sym c.before.any-walks.ensures ∙ not-false _ c.if1.false
 
 any-walks-requires : tie.Need-any-walks-requires
@@ -48,7 +48,7 @@ seen :
     (c : tie.After-judge) {r : Outlook} → c.judge.result ≡ r
     → let s = c.before.before.before.before.before.before.before.args in
     let b = board s.p.now in
-    OutlookOf b (groupForce b s.h) s.h b.desk.battle.owed s.route.now r
+    OutlookOf b (group_force b s.h) s.h b.desk.battle.owed s.route.now r
 seen c {r} e =
     outlook-as _ _ _ r refl c.before.owed.ensures.is (subst (OutlookOf _ _ _ _ _) e c.judge.ensures)
 
@@ -69,7 +69,7 @@ by-pushes-requires c κs =
     let k = c.before in
     let j = k.before.before in
     let o = j.before.before.before.before.before.before.before in
-    let e = told-friends (board o.args.p.now) o.args.h o.args.route.now (seen j k.run.given.1) in
+    let e = told_friends (board o.args.p.now) o.args.h o.args.route.now (seen j k.run.given.1) in
     (o.requires.0, o.requires.1, o.requires.3, e.0, e.1)
 
 enum-known-run-2 : tie.Need-enum-known-run-2
@@ -91,7 +91,7 @@ returns-2 c =
     let j = c.before.before.before in
     let i = j.before.before in
     let s = i.before.before.before.before.before.args in
-    let e = told-legal (board s.p.now) s.h s.route.now (seen j c.before.enum_told.given.1) in
+    let e = told_legal (board s.p.now) s.h s.route.now (seen j c.before.enum_told.given.1) in
     c.by-route.ensures
     ∙ fate-legal (board s.p.now) s.h s.route.now s.pushes.now (walks i) e.0 e.1
 
@@ -100,8 +100,8 @@ returns-3 c =
     let j = c.before.before in
     let i = j.before.before in
     let s = i.before.before.before.before.before.args in
-    let e = told-illegal (board s.p.now) s.h s.route.now (seen j c.enum-told2.given.1) in
-    fate-illegal (board s.p.now) s.h s.route.now s.pushes.now (walks i) e.0 e.1
+    let e = told_illegal (board s.p.now) s.h s.route.now (seen j c.enum-told2.given.1) in
+    fate_illegal (board s.p.now) s.h s.route.now s.pushes.now (walks i) e.0 e.1
 
 returns-4 : tie.Need-returns-4
 returns-4 c =
@@ -109,7 +109,7 @@ returns-4 c =
     let j = k.before.before in
     let i = j.before.before in
     let s = i.before.before.before.before.before.args in
-    let e = told-friends (board s.p.now) s.h s.route.now (seen j k.run.given.1) in
+    let e = told_friends (board s.p.now) s.h s.route.now (seen j k.run.given.1) in
     c.by-pushes.ensures ∙ fate-served (board s.p.now) s.h s.route.now s.pushes.now (walks i) e.0
 
 returns-5 : tie.Need-returns-5
@@ -123,7 +123,7 @@ returns-5 c =
     let h = o.args.h in
     let e = told-alone b h o.args.route.now (seen j k.run2.given.1) in
     c.by-part2.ensures
-    ∙ ap (λ (t : Bool). lostFate t o.args.pushes.now) a.is-part.ensures
+    ∙ ap (λ (t : Bool). lost_fate t o.args.pushes.now) a.is-part.ensures
     ∙ fate-trapped b h o.args.route.now o.args.pushes.now (walks i) e.0 (alone-series b h o.requires.3 e.2 e.0)
 
 pub decide-spec : {M : Type 1} → statement M

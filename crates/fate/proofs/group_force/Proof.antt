@@ -2,8 +2,8 @@
 -- Assumes nothing.
 use mathlib.Core.Path.{ap, ◌∙◌}
 use borrow.Author.Rules.{rules}
-use Rattle.position.specs.Board.{board, forceOf}
-use Rattle.shoves.specs.Group.{groupForce}
+use Rattle.position.specs.Board.{board, force_of}
+use Rattle.shoves.specs.Group.{group_force}
 use Rattle.fate.proofs.group_force.Statement.{statement}
 use Rattle.fate.proofs.group_force.Tie as tie
 
@@ -14,8 +14,8 @@ force-of-requires : tie.Need-force-of-requires
 force-of-requires c κs = search rules
 
 returns : tie.Need-returns
-unfolding groupForce
-returns c = c.force-of.ensures ∙ ap (forceOf (board c.before.before.before.args.p.now)) c.before.leader.ensures
+unfolding group_force
+returns c = c.force-of.ensures ∙ ap (force_of (board c.before.before.before.args.p.now)) c.before.leader.ensures
 
 pub group-force-spec : {M : Type 1} → statement M
 group-force-spec = tie.close (tie.spec leader-requires force-of-requires returns)

@@ -4,7 +4,7 @@ use mathlib.Core.Path.{sym, refl, ◌∙◌}
 use native.Mathlib.Omega.{arith}
 use borrow.Author.Rules.{rules}
 use borrow.Author.Tests.{not-false, not-true}
-use Rattle.routes.proofs.Part.{longer-found, longer-known, part-no-run, part-run}
+use Rattle.routes.proofs.Part.{longer_found, longer_known, part_no_run, part_run}
 use Rattle.retreat.proofs.Groups.{none_found}
 use Rattle.fate.proofs.is_part.Statement.{statement}
 use Rattle.fate.proofs.is_part.Tie as tie
@@ -12,7 +12,7 @@ use Rattle.fate.proofs.is_part.Tie as tie
 returns : tie.Need-returns
 returns c =
     let o = c.before.before.before in
-    sym (part-no-run _ _ _ _ (sym o.requires.4 ∙ not-true o.args.run c.if1.true))
+    sym (part_no_run _ _ _ _ (sym o.requires.4 ∙ not-true o.args.run c.if1.true))
 
 add-longer : tie.Need-overflow-add-longer
 add-longer c = search rules
@@ -25,8 +25,8 @@ returns-2 c =
     let i = c.before.before in
     let o = i.before.before.before in
     sym
-    (part-run _ _ _ _ (sym o.requires.4 ∙ not-false o.args.run i.if1.false)
-    ∙ longer-known _ _ _ _ _ (omega (arith, c.if2.true, c.before.owed.ensures.is)) (none_found _ _ o.requires.3))
+    (part_run _ _ _ _ (sym o.requires.4 ∙ not-false o.args.run i.if1.false)
+    ∙ longer_known _ _ _ _ _ (omega (arith, c.if2.true, c.before.owed.ensures.is)) (none_found _ _ o.requires.3))
 
 no-run-requires : tie.Need-no-run-requires
 no-run-requires c κs =
@@ -38,7 +38,7 @@ returns-3 c =
     let i = c.before.before.before in
     let o = i.before.before.before in
     c.no_run.ensures
-    ∙ sym (part-run _ _ _ _ (sym o.requires.4 ∙ not-false o.args.run i.if1.false) ∙ longer-found _ _ _ _ refl)
+    ∙ sym (part_run _ _ _ _ (sym o.requires.4 ∙ not-false o.args.run i.if1.false) ∙ longer_found _ _ _ _ refl)
 
 pub is-part-spec : {M : Type 1} → statement M
 is-part-spec =

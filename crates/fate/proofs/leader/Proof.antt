@@ -4,16 +4,16 @@ use Prim.Native.Nat.{◌-◌}
 use mathlib.Core.Path.{◌∙◌, ap, sym}
 use native.Mathlib.Omega.{arith}
 use borrow.Author.Rules.{rules}
-use Rattle.retreat.proofs.Groups.{first-owing, none-owing}
+use Rattle.retreat.proofs.Groups.{first-owing, none_owing}
 use Rattle.position.specs.Board.{board}
 use Rattle.position.specs.Tally.{any}
-use Rattle.position.specs.Crowd.{owesAt}
+use Rattle.position.specs.Crowd.{owes_at}
 use Rattle.field.proofs.Zones.{None, none_at_all, none_yet, one_more}
 use Rattle.fate.proofs.leader.Statement.{statement}
 use Rattle.fate.proofs.leader.Tie as tie
 
 abbrev invariant-loop : tie.invariant-loop
-invariant-loop p v h count u₀ u = None (owesAt (board p) h) u count
+invariant-loop p v h count u₀ u = None (owes_at (board p) h) u count
 
 abbrev decreases-loop : tie.decreases-loop
 decreases-loop p v h count u₀ u = count - u
@@ -41,8 +41,8 @@ loop-again c = one_more c.before.before.before.loop.invariant (omega arith) (sym
 returns-2 : tie.Need-returns-2 invariant-loop decreases-loop
 returns-2 c =
     let s = c.before.before.before in
-    none-owing _ _
-    (ap (any (owesAt (board s.args.p.now) s.args.h)) (sym s.requires.view.count)
+    none_owing _ _
+    (ap (any (owes_at (board s.args.p.now) s.args.h)) (sym s.requires.view.count)
     ∙ none_at_all c.before.loop.invariant (omega arith))
 
 pub leader-spec : {M : Type 1} → statement M

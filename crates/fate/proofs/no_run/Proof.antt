@@ -4,9 +4,9 @@ use mathlib.Core.Bool.{not}
 use mathlib.Core.Path.{◌≡◌, ap, sym, ◌∙◌}
 use borrow.Author.Rules.{rules}
 use Rattle.position.specs.Board.{board}
-use Rattle.routes.specs.Search.{firstRoute, found}
+use Rattle.routes.specs.Search.{first_route, found}
 use Rattle.routes.specs.declared.Outlook.{Outlook}
-use Rattle.shoves.specs.Group.{groupForce}
+use Rattle.shoves.specs.Group.{group_force}
 use Rattle.retreat.proofs.Groups.{opens, outlook-opens}
 use Rattle.fate.proofs.no_run.Statement.{statement}
 use Rattle.fate.proofs.no_run.Tie as tie
@@ -16,7 +16,7 @@ told :
     (c : tie.After-judge) {r : Outlook} → c.judge.result ≡ r
     → let s = c.before.before.before.args in
     let b = board s.p.now in
-    not (opens r) ≡ not (found (firstRoute b (groupForce b s.h) s.h s.n))
+    not (opens r) ≡ not (found (first_route b (group_force b s.h) s.h s.n))
 told c e =
     ap not (sym (ap opens e) ∙ sym (outlook-opens _ _ _ _ _ c.judge.result c.judge.ensures))
 

@@ -8,9 +8,9 @@ use borrow.Author.Rules.{rules}
 use borrow.Author.Tests.{not-false, not-true}
 use borrow.Fn.Kinds.{In}
 use borrow.Fn.PlainCycle.{Measures, is, falls, and}
-use Rattle.plot.specs.Trail.{trailOf, unused}
+use Rattle.plot.specs.Trail.{trail_of, unused}
 use Rattle.plot.proofs.Trails.{push-uses}
-use Rattle.plot.proofs.Taking.{led-below, took-apart, took-firm, took-last, took-none, took-on, took-rest, took-shy}
+use Rattle.plot.proofs.Taking.{led_below, took_apart, took-firm, took-last, took_none, took-on, took-rest, took-shy}
 use Rattle.follow.proofs.take.Reads as take
 use Rattle.follow.proofs.take.Kinds as take-kinds
 use Rattle.follow.proofs.+take.Lts-take as take-lts
@@ -24,7 +24,7 @@ use Rattle.follow.proofs.+take.{statement}
 use Rattle.follow.proofs.+take.Tie.{close}
 
 abbrev μ-take : Measures 2 take-kinds.ps ℕ
-μ-take κs a = unused (a.1.1.1.1.1.1.0 ∷ trailOf a.1.1.1.1.0)
+μ-take κs a = unused (a.1.1.1.1.1.1.0 ∷ trail_of a.1.1.1.1.0)
 
 -- what `take` is given at the measure t, and what a call of it asks below t
 abbrev take_at : ℕ → In 2 take-kinds.ps
@@ -52,7 +52,7 @@ take-claims t = (
 )
 
 take-returns : (t : ℕ) → take-lts.Need-returns (take-claims t) (take_at t) take.Post
-take-returns t c = took-none (omega arith)
+take-returns t c = took_none (omega arith)
 
 take-cast-place-in : (t : ℕ) → take-lts.Need-overflow-cast-place-in (take-claims t) (take_at t) take.Post
 take-cast-place-in t c = omega (arith, c.shared-slice-known2.given c.before.before.before.args.k)
@@ -64,13 +64,13 @@ take-leads-requires : (t : ℕ) → take-lts.Need-leads-requires (take-claims t)
 take-leads-requires t c κs = (c.before.before.before.before.requires.1.0, c.before.before.before.before.requires.1.4)
 
 take-returns-2 : (t : ℕ) → take-lts.Need-returns-2 (take-claims t) (take_at t) take.Post
-take-returns-2 t c = took-apart (omega arith) c.before.before.place-in.ensures (sym c.before.leads.ensures
+take-returns-2 t c = took_apart (omega arith) c.before.before.place-in.ensures (sym c.before.leads.ensures
     ∙ not-true _ c.if2.true)
 
 take-rests-requires : (t : ℕ) → take-lts.Need-rests-requires (take-claims t) (take_at t) take.Post
 take-rests-requires t c κs = (
   c.before.before.before.before.before.before.requires.1.0,
-  led-below _ _ _ (sym c.before.leads.ensures ∙ not-false _ c.if2.false),
+  led_below _ _ _ (sym c.before.leads.ensures ∙ not-false _ c.if2.false),
 )
 
 take-returns-3 : (t : ℕ) → take-lts.Need-returns-3 (take-claims t) (take_at t) take.Post
@@ -100,7 +100,7 @@ take-returns-5 t c = took-shy (omega arith) c.before.before.before.before.before
 take-yields-requires : (t : ℕ) → take-lts.Need-yields-requires (take-claims t) (take_at t) take.Post
 take-yields-requires t c κs = (
   c.before.before.before.before.before.before.before.before.before.before.before.requires.1.0,
-  led-below _ _ _ (sym c.before.before.before.before.before.before.leads.ensures
+  led_below _ _ _ (sym c.before.before.before.before.before.before.leads.ensures
       ∙ not-false _ c.before.before.before.before.before.if2.false),
 )
 
@@ -123,7 +123,7 @@ take-take-requires t c κs =
     let p = c.before.before.before.before.before.before.before.before.before.before.before.before.before.before.requires in
     let q = p.1 in
     let used = c.longer.ensures in
-    let below = led-below _ _ _ (sym c.before.before.before.before.before.before.before.before.before.leads.ensures
+    let below = led_below _ _ _ (sym c.before.before.before.before.before.before.before.before.before.leads.ensures
     ∙ not-false _ c.before.before.before.before.before.before.before.before.if2.false) in
     let pushed = push-uses _ _ used.0 below (sym c.before.before.yields.ensures ∙ not-false _ c.before.if6.false) in
     (omega (arith, p.0, pushed), (q.0, q.1, used.1, omega arith, below, omega arith))

@@ -4,9 +4,9 @@ use mathlib.Core.Path.{sym, ◌∙◌}
 use native.Mathlib.Omega.{arith}
 use borrow.Author.Rules.{rules}
 use borrow.Author.Tests.{not-false, not-true}
-use Rattle.plot.proofs.Searching.{on-plot}
-use Rattle.plot.proofs.Taking.{led-below}
-use Rattle.plot.proofs.Following.{stepped-apart, stepped-far, stepped-free, stepped-loose, stepped-shut}
+use Rattle.plot.proofs.Searching.{on_plot}
+use Rattle.plot.proofs.Taking.{led_below}
+use Rattle.plot.proofs.Following.{stepped_apart, stepped_far, stepped_free, stepped-loose, stepped_shut}
 use Rattle.follow.proofs.enter.Statement.{statement}
 use Rattle.follow.proofs.enter.Tie as tie
 
@@ -14,22 +14,22 @@ leads-requires : tie.Need-leads-requires
 leads-requires c κs = search rules
 
 returns : tie.Need-returns
-returns c = stepped-apart (sym c.before.leads.ensures ∙ not-true _ c.if1.true)
+returns c = stepped_apart (sym c.before.leads.ensures ∙ not-true _ c.if1.true)
 
 distance-requires : tie.Need-distance-requires
-distance-requires c κs = (on-plot _ c.before.before.before.before.requires.2, on-plot _ (led-below _ _ _ (sym c.before.leads.ensures ∙ not-false _ c.if1.false)))
+distance-requires c κs = (on_plot _ c.before.before.before.before.requires.2, on_plot _ (led_below _ _ _ (sym c.before.leads.ensures ∙ not-false _ c.if1.false)))
 
 returns-2 : tie.Need-returns-2
-returns-2 c = stepped-far (λ e. omega (arith, e, c.before.distance.ensures))
+returns-2 c = stepped_far (λ e. omega (arith, e, c.before.distance.ensures))
 
 sub-if3 : tie.Need-overflow-sub-if3
 sub-if3 c = search rules
 
 returns-3 : tie.Need-returns-3
-returns-3 c = stepped-far (λ e. omega (arith, e, c.before.before.distance.ensures))
+returns-3 c = stepped_far (λ e. omega (arith, e, c.before.before.distance.ensures))
 
 stand-in-requires : tie.Need-stand-in-requires
-stand-in-requires c κs = (c.before.before.before.before.before.before.before.before.requires.0, led-below _ _ _ (sym c.before.before.before.before.before.leads.ensures ∙ not-false _ c.before.before.before.before.if1.false))
+stand-in-requires c κs = (c.before.before.before.before.before.before.before.before.requires.0, led_below _ _ _ (sym c.before.before.before.before.before.leads.ensures ∙ not-false _ c.before.before.before.before.if1.false))
 
 enum_told : tie.Need-enum-told
 enum_told c = search rules
@@ -43,16 +43,16 @@ enum-told-3 c = search rules
 push-out-requires : tie.Need-push-out-requires
 push-out-requires c κs =
     let p = c.before.before.before.before.before.before.before.before.before.before.before.before.requires in
-    (p.0, p.1, p.3, led-below _ _ _ (sym c.before.before.before.before.before.before.before.before.before.leads.ensures ∙ not-false _ c.before.before.before.before.before.before.before.before.if1.false), p.4)
+    (p.0, p.1, p.3, led_below _ _ _ (sym c.before.before.before.before.before.before.before.before.before.leads.ensures ∙ not-false _ c.before.before.before.before.before.before.before.before.if1.false), p.4)
 
 returns-4 : tie.Need-returns-4
 returns-4 c =
-    stepped-shut (sym c.before.before.before.before.before.before.before.before.leads.ensures ∙ not-false _ c.before.before.before.before.before.before.before.if1.false) (sym c.before.before.before.before.before.before.distance.ensures ∙ omega arith)
+    stepped_shut (sym c.before.before.before.before.before.before.before.before.leads.ensures ∙ not-false _ c.before.before.before.before.before.before.before.if1.false) (sym c.before.before.before.before.before.before.distance.ensures ∙ omega arith)
     (sym c.before.before.stand-in.ensures ∙ c.enum_told.given.1)
 
 returns-5 : tie.Need-returns-5
 returns-5 c =
-    stepped-free (sym c.before.before.before.before.before.before.before.before.leads.ensures ∙ not-false _ c.before.before.before.before.before.before.before.if1.false) (sym c.before.before.before.before.before.before.distance.ensures ∙ omega arith)
+    stepped_free (sym c.before.before.before.before.before.before.before.before.leads.ensures ∙ not-false _ c.before.before.before.before.before.before.before.if1.false) (sym c.before.before.before.before.before.before.distance.ensures ∙ omega arith)
     (sym c.before.before.stand-in.ensures ∙ c.enum-told2.given.1) c.before.before.before.before.before.before.before.before.before.before.before.requires.4
 
 returns-6 : tie.Need-returns-6

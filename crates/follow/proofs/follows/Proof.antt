@@ -6,7 +6,7 @@ use native.Mathlib.Omega.{arith}
 use borrow.Author.Rules.{rules}
 use lib.ListN.{length}
 use Rattle.survey.specs.Region.{place_in}
-use Rattle.plot.proofs.Following.{Followed, followed-all, followed-more, followed-none, followed-wrong}
+use Rattle.plot.proofs.Following.{Followed, followed_all, followed_more, followed-none, followed_wrong}
 use Rattle.follow.proofs.follows.Statement.{statement}
 use Rattle.follow.proofs.follows.Tie as tie
 
@@ -47,7 +47,7 @@ enum_told : tie.Need-enum-told invariant-loop decreases-loop
 enum_told c = search rules
 
 returns : tie.Need-returns invariant-loop decreases-loop
-returns c = sym (followed-wrong c.before.before.before.before.before.before.before.loop.invariant (omega arith)
+returns c = sym (followed_wrong c.before.before.before.before.before.before.before.loop.invariant (omega arith)
     c.before.before.before.before.place-in.ensures c.before.before.enter.ensures
     c.enum_told.given.1)
 
@@ -58,12 +58,12 @@ loop-less : tie.Need-loop-smaller invariant-loop decreases-loop
 loop-less c = omega arith
 
 loop-again : tie.Need-loop-preserved invariant-loop decreases-loop
-loop-again c = followed-more c.before.before.before.before.before.before.before.before.loop.invariant (omega arith)
+loop-again c = followed_more c.before.before.before.before.before.before.before.before.loop.invariant (omega arith)
     c.before.before.before.before.before.place-in.ensures
     c.before.before.before.enter.ensures c.before.m.given.1
 
 returns-2 : tie.Need-returns-2 invariant-loop decreases-loop
-returns-2 c = sym (followed-all c.before.loop.invariant (omega arith))
+returns-2 c = sym (followed_all c.before.loop.invariant (omega arith))
 
 pub follows-spec : {M : Type 1} → statement M
 follows-spec =

@@ -4,8 +4,8 @@ use Prim.Native.Nat.{◌-◌}
 use mathlib.Core.Path.{sym, ◌∙◌}
 use native.Mathlib.Omega.{arith}
 use borrow.Author.Rules.{rules}
-use Rattle.position.proofs.Tallies.{any-zero}
-use Rattle.plot.proofs.Taking.{Unled, led, unled, unled-at, unled-off}
+use Rattle.position.proofs.Tallies.{any_zero}
+use Rattle.plot.proofs.Taking.{Unled, led, unled, unled_at, unled_off}
 use Rattle.follow.proofs.leads.Statement.{statement}
 use Rattle.follow.proofs.leads.Tie as tie
 
@@ -16,7 +16,7 @@ abbrev decreases-loop : tie.decreases-loop
 decreases-loop plot h z d₀ d = 6 - d
 
 loop-holds : tie.Need-loop-init invariant-loop decreases-loop
-loop-holds c = record { most = omega arith; none = any-zero _ }
+loop-holds c = record { most = omega arith; none = any_zero _ }
 
 next-in-requires : tie.Need-next-in-requires invariant-loop decreases-loop
 next-in-requires c κs = (c.before.before.requires.0, c.before.before.requires.1, omega arith)
@@ -34,7 +34,7 @@ loop-less : tie.Need-loop-smaller invariant-loop decreases-loop
 loop-less c = omega arith
 
 loop-again : tie.Need-loop-preserved invariant-loop decreases-loop
-loop-again c = unled-off c.before.before.before.before.loop.invariant (omega arith) (sym c.before.before.next-in.ensures
+loop-again c = unled_off c.before.before.before.before.loop.invariant (omega arith) (sym c.before.before.next-in.ensures
     ∙ c.enum_told.given.1)
 
 returns : tie.Need-returns invariant-loop decreases-loop
@@ -48,7 +48,7 @@ loop-less-2 : tie.Need-loop-smaller-2 invariant-loop decreases-loop
 loop-less-2 c = omega arith
 
 loop-again-2 : tie.Need-loop-preserved-2 invariant-loop decreases-loop
-loop-again-2 c = unled-at c.before.before.before.before.before.before.loop.invariant (omega arith)
+loop-again-2 c = unled_at c.before.before.before.before.before.before.loop.invariant (omega arith)
     (sym c.before.before.before.before.next-in.ensures ∙ c.before.before.x.given.1) c.if1.false
 
 returns-2 : tie.Need-returns-2 invariant-loop decreases-loop

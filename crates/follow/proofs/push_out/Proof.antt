@@ -2,7 +2,7 @@
 -- Assumes nothing.
 use native.Mathlib.Omega.{arith}
 use borrow.Author.Rules.{rules}
-use Rattle.plot.proofs.Taking.{pushed-to, pushed-wrong}
+use Rattle.plot.proofs.Taking.{pushed_to, pushed_wrong}
 use Rattle.follow.proofs.push_out.Statement.{statement}
 use Rattle.follow.proofs.push_out.Tie as tie
 
@@ -26,7 +26,7 @@ enum_told : tie.Need-enum-told
 enum_told c = search rules
 
 returns : tie.Need-returns
-returns c = pushed-wrong c.before.before.before.before.own.ensures.0 c.before.before.take.ensures c.enum_told.given.1
+returns c = pushed_wrong c.before.before.before.before.own.ensures.0 c.before.before.take.ensures c.enum_told.given.1
 
 shift-requires : tie.Need-shift-requires
 shift-requires c κs = (
@@ -36,7 +36,7 @@ shift-requires c κs = (
 )
 
 returns-2 : tie.Need-returns-2
-returns-2 c = pushed-to c.before.before.before.before.before.before.before.own.ensures.0 c.before.before.before.before.before.take.ensures c.before.before.before.y.given.1 c.shift.ensures
+returns-2 c = pushed_to c.before.before.before.before.before.before.before.own.ensures.0 c.before.before.before.before.before.take.ensures c.before.before.before.y.given.1 c.shift.ensures
 
 pub push-out-spec : {M : Type 1} → statement M
 push-out-spec =

@@ -6,9 +6,9 @@ use mathlib.Core.Path.{◌∙◌, ap, refl}
 use native.Mathlib.Omega.{arith}
 use borrow.Author.Rules.{rules}
 use Rattle.position.specs.Change.{makes}
-use Rattle.shoves.proofs.Sweeps.{Sweep, alike-owing, owing, sweep-all, sweep-more, sweep-none}
+use Rattle.shoves.proofs.Sweeps.{Sweep, alike_owing, owing, sweep-all, sweep_more, sweep_none}
 use Rattle.shoves.specs.Group.{group}
-use Rattle.retreat.proofs.Leaving.{falls, gather-falls, own-falls}
+use Rattle.retreat.proofs.Leaving.{falls, gather_falls, own_falls}
 use Rattle.going.proofs.fall_all.Statement.{statement}
 use Rattle.going.proofs.fall_all.Tie as tie
 
@@ -19,7 +19,7 @@ abbrev decreases-loop : tie.decreases-loop
 decreases-loop p₀ v h count u₀ p u = count - u
 
 loop-holds : tie.Need-loop-init invariant-loop decreases-loop
-loop-holds c = sweep-none c.before.requires
+loop-holds c = sweep_none c.before.requires
 
 fall-one-requires : tie.Need-fall-one-requires invariant-loop decreases-loop
 fall-one-requires c κs = c.before.before.loop.invariant.laid
@@ -33,7 +33,7 @@ loop-less c = search rules
 loop-again : tie.Need-loop-preserved invariant-loop decreases-loop
 loop-again c =
     let s = c.before.before.before.before.before in
-    sweep-more (alike-owing _) own-falls s.loop.invariant (omega arith) _ refl c.before.before.fall-one.ensures
+    sweep_more (alike_owing _) own_falls s.loop.invariant (omega arith) _ refl c.before.before.fall-one.ensures
 
 same_length : tie.Need-same-length invariant-loop decreases-loop
 same_length c = omega (arith, c.before.loop.invariant.laid.fits.whole, c.before.before.before.requires.fits.whole)
@@ -42,7 +42,7 @@ returns : tie.Need-returns invariant-loop decreases-loop
 unfolding group
 returns c =
     let s = c.before.before.before in
-    sweep-all c.before.loop.invariant (omega arith) s.requires.view.count ∙ ap (makes s.args.p.now) (gather-falls _)
+    sweep-all c.before.loop.invariant (omega arith) s.requires.view.count ∙ ap (makes s.args.p.now) (gather_falls _)
 
 pub fall-all-spec : {M : Type 1} → statement M
 fall-all-spec = tie.close (tie.spec invariant-loop decreases-loop loop-holds fall-one-requires add-u loop-less loop-again same_length returns)

@@ -3,8 +3,8 @@
 use mathlib.Core.Path.{sym, ◌∙◌}
 use borrow.Author.Rules.{rules}
 use borrow.Author.Tests.{not-false, not-true}
-use Rattle.shoves.proofs.Turns.{dealt-with, left_alone}
-use Rattle.retreat.proofs.Leaving.{falls-made}
+use Rattle.shoves.proofs.Turns.{dealt_with, left_alone}
+use Rattle.retreat.proofs.Leaving.{falls_made}
 use Rattle.going.proofs.fall_one.Statement.{statement}
 use Rattle.going.proofs.fall_one.Tie as tie
 
@@ -26,8 +26,8 @@ same-length-2 c = search rules
 returns-2 : tie.Need-returns-2
 returns-2 c =
     let o = c.before.before.before.before in
-    dealt-with _ _ _ (sym o.before.owes_at.ensures ∙ not-false _ o.if1.false)
-    (falls-made _ _ c.before.before.destroy.ensures)
+    dealt_with _ _ _ (sym o.before.owes_at.ensures ∙ not-false _ o.if1.false)
+    (falls_made _ _ c.before.before.destroy.ensures)
 
 pub fall-one-spec : {M : Type 1} → statement M
 fall-one-spec = tie.close (tie.spec owes-at-requires same_length returns destroy-requires same-length-2 returns-2)

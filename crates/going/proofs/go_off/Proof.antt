@@ -1,10 +1,10 @@
 -- `going::go_off` meets its contract: start and route are written, the group leaves, and the stage passes on.
 -- Assumes nothing.
 use borrow.Author.Rules.{rules}
-use Rattle.position.proofs.Changes.{laid-make, laid-makes}
+use Rattle.position.proofs.Changes.{laid_make, laid_makes}
 use Rattle.position.specs.Board.{board}
 use Rattle.aftermath.proofs.Stages.{then-on}
-use Rattle.retreat.specs.Retreat.{retreatChanges}
+use Rattle.retreat.specs.Retreat.{retreat_changes}
 use Rattle.retreat.proofs.Leaving.{gone-off}
 use Rattle.going.proofs.go_off.Statement.{statement}
 use Rattle.going.proofs.go_off.Tie as tie
@@ -18,12 +18,12 @@ note-requires c κs = search rules
 leave-all-requires : tie.Need-leave-all-requires
 leave-all-requires c κs =
     let n = c.before.before.before in
-    rw n.note.ensures (laid-make n.before.before.before.before.before.before.requires.0 _)
+    rw n.note.ensures (laid_make n.before.before.before.before.before.before.requires.0 _)
 
 pass-on-requires : tie.Need-pass-on-requires
 pass-on-requires c κs =
     let n = c.before.before.before.before.before.before.before in
-    laid-makes _ (rw n.note.ensures (laid-make n.before.before.before.before.before.before.requires.0 _))
+    laid_makes _ (rw n.note.ensures (laid_make n.before.before.before.before.before.before.requires.0 _))
     c.before.before.before.leave-all.ensures
 
 same_length : tie.Need-same-length
@@ -35,7 +35,7 @@ returns c =
     let e = n.before.before in
     let s = e.before.before.before.before in (
       e.end_of_lem.ensures,
-      then-on s.requires.0.shaped (retreatChanges (board s.args.p.now) s.args.h s.args.route.now)
+      then-on s.requires.0.shaped (retreat_changes (board s.args.p.now) s.args.h s.args.route.now)
           (gone-off s.requires.0.shaped s.args.h s.args.route.now e.end_of_lem.ensures n.note.ensures
           c.before.before.before.before.before.before.leave-all.ensures)
           c.before.before.pass_on.ensures,

@@ -5,7 +5,7 @@ use native.Mathlib.Omega.{arith}
 use borrow.Author.Rules.{rules}
 use lib.ListN.{get_or-eq_default}
 use Rattle.position.specs.Board.{nowhere}
-use Rattle.retreat.proofs.Leaving.{at-any}
+use Rattle.retreat.proofs.Leaving.{at_any}
 use Rattle.going.proofs.hex_at.Statement.{statement}
 use Rattle.going.proofs.hex_at.Tie as tie
 
@@ -29,7 +29,7 @@ returns-2 : tie.Need-returns-2
 returns-2 c =
     let s = c.before.before in
     record {
-      is = at-any s.args.route.now s.args.i 0 nowhere (omega (arith, c.before.if1.false));
+      is = at_any s.args.route.now s.args.i 0 nowhere (omega (arith, c.before.if1.false));
       small = omega (arith, c.shared-slice-known.given s.args.i);
     }
 

@@ -3,8 +3,8 @@
 use mathlib.Core.Path.{sym, ◌∙◌}
 use native.Mathlib.Omega.{arith}
 use borrow.Author.Rules.{rules}
-use Rattle.position.proofs.Changes.{laid-make}
-use Rattle.retreat.proofs.Leaving.{leave-supply, leave-walks}
+use Rattle.position.proofs.Changes.{laid_make}
+use Rattle.retreat.proofs.Leaving.{leave_supply, leave-walks}
 use Rattle.going.proofs.leave.Statement.{statement}
 use Rattle.going.proofs.leave.Tie as tie
 
@@ -19,7 +19,7 @@ same_length c = search rules
 
 returns : tie.Need-returns
 returns c =
-    leave-supply _ _ _ (sym c.before.before.before.before.before.kind.ensures.is ∙ c.before.before.before.before.if1.true)
+    leave_supply _ _ _ (sym c.before.before.before.before.before.kind.ensures.is ∙ c.before.before.before.before.if1.true)
     c.before.before.destroy.ensures
 
 place-requires : tie.Need-place-requires
@@ -28,7 +28,7 @@ place-requires c κs = search rules
 assign-requires : tie.Need-assign-requires
 assign-requires c κs =
     let l = c.before.before.before.before.before.before.before.before.before in
-    (rw c.before.before.before.place.ensures (laid-make l.requires _), omega arith)
+    (rw c.before.before.before.place.ensures (laid_make l.requires _), omega arith)
 
 same-length-2 : tie.Need-same-length-2
 same-length-2 c = search rules

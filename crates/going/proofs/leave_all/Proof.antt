@@ -8,9 +8,9 @@ use borrow.Author.Rules.{rules}
 use Rattle.position.specs.Board.{board}
 use Rattle.position.specs.Change.{makes}
 use Rattle.retreat.specs.Retreat.{leaves}
-use Rattle.shoves.proofs.Sweeps.{Sweep, alike-owing, owing, sweep-all, sweep-more, sweep-none}
+use Rattle.shoves.proofs.Sweeps.{Sweep, alike_owing, owing, sweep-all, sweep_more, sweep_none}
 use Rattle.shoves.specs.Group.{group}
-use Rattle.retreat.proofs.Leaving.{gather-leaves, leaves-same, own-leaves}
+use Rattle.retreat.proofs.Leaving.{gather_leaves, leaves_same, own_leaves}
 use Rattle.going.proofs.leave_all.Statement.{statement}
 use Rattle.going.proofs.leave_all.Tie as tie
 
@@ -21,7 +21,7 @@ abbrev decreases-loop : tie.decreases-loop
 decreases-loop p₀ v h end count u₀ p u = count - u
 
 loop-holds : tie.Need-loop-init invariant-loop decreases-loop
-loop-holds c = sweep-none c.before.requires
+loop-holds c = sweep_none c.before.requires
 
 leave-one-requires : tie.Need-leave-one-requires invariant-loop decreases-loop
 leave-one-requires c κs = c.before.before.loop.invariant.laid
@@ -35,7 +35,7 @@ loop-less c = search rules
 loop-again : tie.Need-loop-preserved invariant-loop decreases-loop
 loop-again c =
     let s = c.before.before.before.before.before in
-    sweep-more (alike-owing _) (own-leaves _ _) s.loop.invariant (omega arith) _ (leaves-same _ _ _ _ s.loop.invariant.kinds)
+    sweep_more (alike_owing _) (own_leaves _ _) s.loop.invariant (omega arith) _ (leaves_same _ _ _ _ s.loop.invariant.kinds)
     c.before.before.leave-one.ensures
 
 same_length : tie.Need-same-length invariant-loop decreases-loop
@@ -45,7 +45,7 @@ returns : tie.Need-returns invariant-loop decreases-loop
 unfolding group
 returns c =
     let s = c.before.before.before in
-    sweep-all c.before.loop.invariant (omega arith) s.requires.view.count ∙ ap (makes s.args.p.now) (gather-leaves _ _ _)
+    sweep-all c.before.loop.invariant (omega arith) s.requires.view.count ∙ ap (makes s.args.p.now) (gather_leaves _ _ _)
 
 pub leave-all-spec : {M : Type 1} → statement M
 leave-all-spec = tie.close (tie.spec invariant-loop decreases-loop loop-holds leave-one-requires add-u loop-less loop-again same_length returns)

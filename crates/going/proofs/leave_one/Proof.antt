@@ -3,7 +3,7 @@
 use mathlib.Core.Path.{sym, ◌∙◌}
 use borrow.Author.Rules.{rules}
 use borrow.Author.Tests.{not-false, not-true}
-use Rattle.shoves.proofs.Turns.{dealt-with, left_alone}
+use Rattle.shoves.proofs.Turns.{dealt_with, left_alone}
 use Rattle.going.proofs.leave_one.Statement.{statement}
 use Rattle.going.proofs.leave_one.Tie as tie
 
@@ -25,7 +25,7 @@ same-length-2 c = search rules
 returns-2 : tie.Need-returns-2
 returns-2 c =
     let o = c.before.before.before.before in
-    dealt-with _ _ _ (sym o.before.owes_at.ensures ∙ not-false _ o.if1.false)
+    dealt_with _ _ _ (sym o.before.owes_at.ensures ∙ not-false _ o.if1.false)
     c.before.before.leave.ensures
 
 pub leave-one-spec : {M : Type 1} → statement M

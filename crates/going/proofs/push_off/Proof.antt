@@ -1,10 +1,10 @@
 -- `going::push_off` meets its contract: start and route are written, the group goes step by step, and the stage passes on.
 -- Assumes nothing.
 use borrow.Author.Rules.{rules}
-use Rattle.position.proofs.Changes.{laid-make, laid-makes}
+use Rattle.position.proofs.Changes.{laid_make, laid_makes}
 use Rattle.position.specs.Board.{board}
 use Rattle.aftermath.proofs.Stages.{then-on}
-use Rattle.retreat.specs.Retreat.{pushChanges}
+use Rattle.retreat.specs.Retreat.{push_changes}
 use Rattle.retreat.proofs.Leaving.{pushed-off}
 use Rattle.going.proofs.push_off.Statement.{statement}
 use Rattle.going.proofs.push_off.Tie as tie
@@ -18,12 +18,12 @@ note-requires c κs = search rules
 march-off-requires : tie.Need-march-off-requires
 march-off-requires c κs =
     let n = c.before.before.before in
-    rw n.note.ensures (laid-make n.before.before.before.before.before.before.before.requires.0 _)
+    rw n.note.ensures (laid_make n.before.before.before.before.before.before.before.requires.0 _)
 
 pass-on-requires : tie.Need-pass-on-requires
 pass-on-requires c κs =
     let n = c.before.before.before.before.before.before.before in
-    laid-makes _ (rw n.note.ensures (laid-make n.before.before.before.before.before.before.before.requires.0 _))
+    laid_makes _ (rw n.note.ensures (laid_make n.before.before.before.before.before.before.before.requires.0 _))
     c.before.before.before.march-off.ensures
 
 same_length : tie.Need-same-length
@@ -35,7 +35,7 @@ returns c =
     let e = n.before.before in
     let s = e.before.before.before.before.before in (
       e.end_of_lem.ensures,
-      then-on s.requires.0.shaped (pushChanges (board s.args.p.now) s.args.h s.args.route.now s.args.pushes.now)
+      then-on s.requires.0.shaped (push_changes (board s.args.p.now) s.args.h s.args.route.now s.args.pushes.now)
           (pushed-off s.requires.0.shaped s.args.h s.args.route.now s.args.pushes.now n.note.ensures
           c.before.before.before.before.before.before.march-off.ensures)
           c.before.before.pass_on.ensures,

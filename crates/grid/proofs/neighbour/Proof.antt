@@ -4,9 +4,9 @@ use mathlib.Core.Path.{sym, ◌∙◌, ap}
 use native.Mathlib.Omega.{arith}
 use borrow.Author.Rules.{rules}
 use borrow.Author.Tests.{not-true, not-false}
-use Rattle.grid.specs.Map.{On, hexAt, neighbourOf}
+use Rattle.grid.specs.Map.{On, hex_at, neighbour_of}
 use Rattle.grid.proofs.Arith.{column, row}
-use Rattle.grid.proofs.Tests.{on-facts, on_test}
+use Rattle.grid.proofs.Tests.{on_facts, on_test}
 use Rattle.grid.proofs.neighbour.Statement.{statement}
 use Rattle.grid.proofs.neighbour.Tie as tie
 
@@ -14,10 +14,10 @@ on-map-requires : tie.Need-on-map-requires
 on-map-requires c κs = search rules
 
 placed : (c : tie.Else1) → let a = c.before.before.args in On a.w a.h a.hex
-placed c = on-facts _ _ _ (sym c.before.on-map.ensures ∙ not-false _ c.if1.false)
+placed c = on_facts _ _ _ (sym c.before.on-map.ensures ∙ not-false _ c.if1.false)
 
 returns : tie.Need-returns
-unfolding neighbourOf
+unfolding neighbour_of
 returns c = simp (sym c.before.on-map.ensures ∙ not-true _ c.if1.true)
 
 rem-c : tie.Need-nonzero-rem-c
@@ -39,8 +39,8 @@ hex-at-requires : tie.Need-hex-at-requires
 hex-at-requires c κs = let o = placed c.before in (o.wide64, o.high64)
 
 returns-2 : tie.Need-returns-2
-unfolding neighbourOf
-returns-2 c = simp (on_test _ _ _ (placed c.before.before)) (c.hex-at.ensures ∙ ap (hexAt _ _) (sym c.before.place-beside.ensures))
+unfolding neighbour_of
+returns-2 c = simp (on_test _ _ _ (placed c.before.before)) (c.hex-at.ensures ∙ ap (hex_at _ _) (sym c.before.place-beside.ensures))
 
 pub neighbour-spec : {M : Type 1} → statement M
 neighbour-spec =

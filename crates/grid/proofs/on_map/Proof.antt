@@ -5,9 +5,9 @@ use mathlib.Core.Bool.{true}
 use native.Mathlib.Omega.{arith}
 use borrow.Author.Rules.{rules}
 use borrow.Author.Tests.{not-true, not-false}
-use Rattle.grid.specs.Map.{oneTo, onMap}
+use Rattle.grid.specs.Map.{one_to, on_map}
 use Rattle.grid.proofs.Arith.{small}
-use Rattle.grid.proofs.Tests.{one-to}
+use Rattle.grid.proofs.Tests.{one_to_lem}
 use Rattle.grid.proofs.on_map.Statement.{statement}
 use Rattle.grid.proofs.on_map.Tie as tie
 
@@ -15,31 +15,31 @@ side-requires : tie.Need-side-requires
 side-requires c κs = search rules
 
 returns : tie.Need-returns
-unfolding onMap
+unfolding on_map
 returns c = simp (sym c.before.side.ensures ∙ not-true _ c.if1.true)
 
 -- past a test its side is 1 to 64
-width : (c : tie.Else1) → oneTo c.before.before.args.w 64 ≡ true
+width : (c : tie.Else1) → one_to c.before.before.args.w 64 ≡ true
 width c = sym c.before.side.ensures ∙ not-false _ c.if1.false
 
-height : (c : tie.Else2) → oneTo c.before.before.before.before.args.h 64 ≡ true
+height : (c : tie.Else2) → one_to c.before.before.before.before.args.h 64 ≡ true
 height c = sym c.before.side2.ensures ∙ not-false _ c.if2.false
 
 side-requires-2 : tie.Need-side-requires-2
 side-requires-2 c κs = search rules
 
 returns-2 : tie.Need-returns-2
-unfolding onMap
+unfolding on_map
 returns-2 c = simp (width c.before.before, sym c.before.side2.ensures ∙ not-true _ c.if2.true)
 
 mul-result : tie.Need-overflow-mul-result
 mul-result c =
-    let a = one-to c.before.before.before.before.args.w 64 (width c.before.before) in
-    let b = one-to c.before.before.before.before.args.h 64 (height c) in
+    let a = one_to_lem c.before.before.before.before.args.w 64 (width c.before.before) in
+    let b = one_to_lem c.before.before.before.before.args.h 64 (height c) in
     omega (arith, small a.1 b.1)
 
 returns-3 : tie.Need-returns-3
-unfolding onMap
+unfolding on_map
 returns-3 c = simp (width c.before.before, height c)
 
 pub on-map-spec : {M : Type 1} → statement M

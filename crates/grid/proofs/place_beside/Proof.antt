@@ -3,8 +3,8 @@
 use mathlib.Core.Path.{◌≡◌, ◌∙◌}
 use native.Mathlib.Omega.{arith}
 use borrow.Author.Rules.{rules}
-use Rattle.grid.specs.Map.{besideOf}
-use Rattle.grid.proofs.Step.{oneTable, one_table, nowhere}
+use Rattle.grid.specs.Map.{beside_of}
+use Rattle.grid.proofs.Step.{one_table, one_table_lem, nowhere}
 use Rattle.grid.proofs.place_beside.Statement.{statement}
 use Rattle.grid.proofs.place_beside.Tie as tie
 
@@ -29,8 +29,8 @@ sub-t11 c = search rules
 add-t12 : tie.Need-overflow-add-t12
 add-t12 c = search rules
 
-table : (c : tie.Start) → let a = c.args in besideOf a.low a.x a.y a.dir ≡ oneTable a.low a.x a.y a.dir
-table c = one_table _ _ _ _ c.requires.0 c.requires.1.2
+table : (c : tie.Start) → let a = c.args in beside_of a.low a.x a.y a.dir ≡ one_table a.low a.x a.y a.dir
+table c = one_table_lem _ _ _ _ c.requires.0 c.requires.1.2
 
 returns : tie.Need-returns
 returns c = table c.before ∙ rw c.match.keys1

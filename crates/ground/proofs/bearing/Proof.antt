@@ -10,9 +10,9 @@ use Rattle.grid.specs.declared.Beside.{Beside}
 use Rattle.position.specs.Tally.{any}
 use Rattle.position.specs.Board.{ground}
 use Rattle.position.specs.Ground.{is_at}
-use Rattle.position.proofs.Tallies.{any-zero, any-miss}
+use Rattle.position.proofs.Tallies.{any_zero, any_miss}
 use Rattle.position.proofs.Sides.{reaches}
-use Rattle.position.proofs.Bearings.{bearing-at, bearing-none}
+use Rattle.position.proofs.Bearings.{bearing_at, bearing_none}
 use Rattle.ground.proofs.bearing.Statement.{statement}
 use Rattle.ground.proofs.bearing.Tie as tie
 
@@ -32,7 +32,7 @@ led c =
     sym (c.is-at.ensures ∙ ap (λ (b : Beside). is_at b a.x) c.before.next.ensures)
 
 loop-holds : tie.Need-loop-init invariant-loop decreases-loop
-loop-holds c = (omega arith, any-zero _)
+loop-holds c = (omega arith, any_zero _)
 
 next-requires : tie.Need-next-requires invariant-loop decreases-loop
 next-requires c κs = search rules
@@ -43,7 +43,7 @@ is-at-requires c κs = search rules
 returns : tie.Need-returns invariant-loop decreases-loop
 returns c =
     record {
-      is = sym (bearing-at _ _ _ _ (omega arith) c.before.before.before.before.loop.invariant.1 (led c.before ∙ c.if1.true));
+      is = sym (bearing_at _ _ _ _ (omega arith) c.before.before.before.before.loop.invariant.1 (led c.before ∙ c.if1.true));
       small = omega arith;
     }
 
@@ -55,14 +55,14 @@ loop-less c = search rules
 
 loop-again : tie.Need-loop-preserved invariant-loop decreases-loop
 loop-again c =
-    (omega arith, any-miss _ _ (led c.before ∙ c.if1.false) ∙ c.before.before.before.before.loop.invariant.1)
+    (omega arith, any_miss _ _ (led c.before ∙ c.if1.false) ∙ c.before.before.before.before.loop.invariant.1)
 
 returns-2 : tie.Need-returns-2 invariant-loop decreases-loop
 returns-2 c =
     let a = c.before.before.before.args in
     let m = ground a.p.now in
     record {
-      is = sym (bearing-none _ _ _ (ap (any (reaches m a.h a.x)) (omega arith) ∙ c.before.loop.invariant.1));
+      is = sym (bearing_none _ _ _ (ap (any (reaches m a.h a.x)) (omega arith) ∙ c.before.loop.invariant.1));
       small = omega arith;
     }
 

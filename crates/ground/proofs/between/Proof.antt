@@ -5,7 +5,7 @@ use Prim.Native.Nat.{ℕ, ◌%◌}
 use borrow.Author.Rules.{rules}
 use Rattle.position.specs.Board.{ground}
 use Rattle.position.specs.Ground.{stored}
-use Rattle.position.proofs.Sides.{side-kept}
+use Rattle.position.proofs.Sides.{side_kept}
 use Rattle.ground.proofs.between.Statement.{statement}
 use Rattle.ground.proofs.between.Tie as tie
 
@@ -25,7 +25,7 @@ returns c =
       is =
           c.stored.ensures.is
           ∙ ap (λ (x : ℕ). stored m x (a.d % 3)) s.keeper.ensures
-          ∙ side-kept m a.h a.d a.n o.requires.1 o.requires.2;
+          ∙ side_kept m a.h a.d a.n o.requires.1 o.requires.2;
       small = c.stored.ensures.small;
     }
 

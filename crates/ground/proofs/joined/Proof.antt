@@ -4,7 +4,7 @@ use mathlib.Core.Path.{ap, ◌∙◌}
 use Prim.Native.Nat.{ℕ}
 use borrow.Author.Rules.{rules}
 use lib.Dec.{ltb}
-use Rattle.position.proofs.Bearings.{bearing-joined}
+use Rattle.position.proofs.Bearings.{bearing_joined}
 use Rattle.ground.proofs.joined.Statement.{statement}
 use Rattle.ground.proofs.joined.Tie as tie
 
@@ -12,7 +12,7 @@ bearing-requires : tie.Need-bearing-requires
 bearing-requires c κs = search rules
 
 returns : tie.Need-returns
-returns c = ap (λ (k : ℕ). ltb k 6) c.bearing.ensures.is ∙ bearing-joined _ _ _
+returns c = ap (λ (k : ℕ). ltb k 6) c.bearing.ensures.is ∙ bearing_joined _ _ _
 
 pub joined-spec : {M : Type 1} → statement M
 joined-spec = tie.close (tie.spec bearing-requires returns)

@@ -2,7 +2,7 @@
 -- Assumes nothing.
 use mathlib.Core.Path.{sym, ◌∙◌}
 use borrow.Author.Rules.{rules}
-use Rattle.position.proofs.Sides.{beside-view, next-blocked, next-off, next-at}
+use Rattle.position.proofs.Sides.{beside_view, next_blocked, next_off, next-at}
 use Rattle.ground.proofs.next.Statement.{statement}
 use Rattle.ground.proofs.next.Tie as tie
 
@@ -19,17 +19,17 @@ returns : tie.Need-returns
 returns c =
     let n = c.before.before in
     let o = n.before.before in
-    next-off o.requires.0.view o.args.h o.args.d (sym n.neighbour.ensures ∙ c.enum_told.given.1)
+    next_off o.requires.0.view o.args.h o.args.d (sym n.neighbour.ensures ∙ c.enum_told.given.1)
 
 between-requires : tie.Need-between-requires
 between-requires c κs =
     let n = c.before.before.before in
     let o = n.before.before in
     let e = sym n.neighbour.ensures ∙ c.before.n.given.1 in
-    (o.requires.0, o.requires.1, sym (beside-view o.requires.0.view o.args.h o.args.d) ∙ e)
+    (o.requires.0, o.requires.1, sym (beside_view o.requires.0.view o.args.h o.args.d) ∙ e)
 
 returns-2 : tie.Need-returns-2
-returns-2 c = sym (next-blocked _ _ _ (sym c.before.between.ensures.is ∙ c.if1.true))
+returns-2 c = sym (next_blocked _ _ _ (sym c.before.between.ensures.is ∙ c.if1.true))
 
 returns-3 : tie.Need-returns-3
 returns-3 c =

@@ -4,7 +4,7 @@ use mathlib.Core.Path.{sym, ◌∙◌}
 use native.Mathlib.Omega.{arith}
 use borrow.Author.Rules.{rules}
 use Rattle.position.specs.Board.{ground}
-use Rattle.position.proofs.Sides.{beside-view, side-own, side-beyond, side-edge}
+use Rattle.position.proofs.Sides.{beside_view, side_own, side_beyond, side_edge}
 use Rattle.ground.proofs.side.Statement.{statement}
 use Rattle.ground.proofs.side.Tie as tie
 
@@ -13,7 +13,7 @@ stored-requires c κs = search rules
 
 returns : tie.Need-returns
 returns c =
-    record { is = c.stored.ensures.is ∙ sym (side-own _ _ _ c.before.if1.true); small = c.stored.ensures.small }
+    record { is = c.stored.ensures.is ∙ sym (side_own _ _ _ c.before.if1.true); small = c.stored.ensures.small }
 
 neighbour-requires : tie.Need-neighbour-requires
 neighbour-requires c κs = search rules
@@ -27,9 +27,9 @@ enum_told c = search rules
 returns-2 : tie.Need-returns-2
 returns-2 c =
     let s = c.before.before.before.before.before in
-    let e = c.before.before.neighbour.ensures ∙ beside-view s.requires.0.view s.args.h s.args.d in
+    let e = c.before.before.neighbour.ensures ∙ beside_view s.requires.0.view s.args.h s.args.d in
     let o = sym e ∙ c.enum_told.given.1 in
-    record { is = sym (side-edge (ground s.args.p.now) s.args.h s.args.d (omega arith) o); small = omega arith }
+    record { is = sym (side_edge (ground s.args.p.now) s.args.h s.args.d (omega arith) o); small = omega arith }
 
 stored-requires-2 : tie.Need-stored-requires-2
 stored-requires-2 c κs = search rules
@@ -37,10 +37,10 @@ stored-requires-2 c κs = search rules
 returns-3 : tie.Need-returns-3
 returns-3 c =
     let s = c.before.before.before.before.before.before.before in
-    let e = c.before.before.before.before.neighbour.ensures ∙ beside-view s.requires.0.view s.args.h s.args.d in
+    let e = c.before.before.before.before.neighbour.ensures ∙ beside_view s.requires.0.view s.args.h s.args.d in
     let o = sym e ∙ c.before.before.n.given.1 in
     record {
-      is = c.stored2.ensures.is ∙ sym (side-beyond (ground s.args.p.now) s.args.h s.args.d _ (omega arith) o);
+      is = c.stored2.ensures.is ∙ sym (side_beyond (ground s.args.p.now) s.args.h s.args.d _ (omega arith) o);
       small = c.stored2.ensures.small;
     }
 

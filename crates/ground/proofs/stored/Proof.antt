@@ -5,7 +5,7 @@ use mathlib.Core.Path.{ap, sym, ◌∙◌}
 use native.Mathlib.Omega.{arith}
 use borrow.Author.Rules.{rules}
 use Rattle.position.specs.Board.{ground}
-use Rattle.position.proofs.Sides.{stored-north, stored-north-east, stored-south-east}
+use Rattle.position.proofs.Sides.{stored_north, stored_north_east, stored_south_east}
 use Rattle.ground.proofs.stored.Statement.{statement}
 use Rattle.ground.proofs.stored.Tie as tie
 
@@ -17,7 +17,7 @@ returns c =
     let a = c.before.before.before.args in
     let m = ground a.p.now in
     record {
-      is = ap (λ (s : ℕ). s % 4) c.before.sides.ensures.is ∙ sym (stored-north m a.h a.d c.if1.true);
+      is = ap (λ (s : ℕ). s % 4) c.before.sides.ensures.is ∙ sym (stored_north m a.h a.d c.if1.true);
       small = omega arith;
     }
 
@@ -26,7 +26,7 @@ returns-2 c =
     let a = c.before.before.before.before.args in
     let m = ground a.p.now in
     record {
-      is = ap (λ (s : ℕ). s / 4 % 4) c.before.before.sides.ensures.is ∙ sym (stored-north-east m a.h a.d c.if2.true);
+      is = ap (λ (s : ℕ). s / 4 % 4) c.before.before.sides.ensures.is ∙ sym (stored_north_east m a.h a.d c.if2.true);
       small = omega arith;
     }
 
@@ -35,7 +35,7 @@ returns-3 c =
     let a = c.before.before.before.before.args in
     let m = ground a.p.now in
     record {
-      is = ap (λ (s : ℕ). s / 16 % 4) c.before.before.sides.ensures.is ∙ sym (stored-south-east m a.h a.d (omega arith));
+      is = ap (λ (s : ℕ). s / 16 % 4) c.before.before.sides.ensures.is ∙ sym (stored_south_east m a.h a.d (omega arith));
       small = omega arith;
     }
 

@@ -5,8 +5,8 @@ use contract.Running.{tables, tables_of}
 use denote.Struct.Laws as LL
 use denote.Triple.Spec.{triple_of}
 use denote.Triple.Table.{entered, cited}
-use Rattle.line.specs.Line.{printedOf}
-use Rattle.line.proofs.Totalling.{Small, Step, total-meets}
+use Rattle.line.specs.Line.{printed_of}
+use Rattle.line.proofs.Totalling.{Small, Step, total_meets}
 use Rattle.line.specs.contracts.Fighter as T
 use Rattle.line.proofs.Fighter.TheLaws as T'
 use Rattle.line.proofs.add_printed.Symbol as step-def
@@ -17,7 +17,7 @@ use Rattle.line.specs.contracts.printed_total as self
 use Rattle.line.proofs.printed_total.Statement as stated
 use Rattle.line.proofs.printed_total.Code as code
 
-small : Small printedOf
+small : Small printed_of
 small x is = (LL.owed T.the_type T'.the_laws x _ is).1.0.1
 
 pub printed-total-spec : {M : Type 1} → stated.statement M
@@ -25,7 +25,7 @@ unfolding code.routine tables_of
 printed-total-spec 𝓤 𝓛 𝓜 𝓡 =
     entered 𝓤 𝓛.H (triple_of 𝓛 self.signature (self.spec 𝓛 𝓜.mem 𝓡.run))
     (tables 𝓤 𝓛.H 𝓜 𝓡 code.env).C (tables 𝓤 𝓛.H 𝓜 𝓡 code.env).Λ #self code.function (code.unfolded 𝓤 𝓛.H 𝓜 𝓡)
-    (total-meets 𝓛 printedOf small (tables_of 𝓤 𝓛.H 𝓜 (tables 𝓤 𝓛.H 𝓜 𝓡 code.env)) #step
-    (cited 𝓤 𝓛.H (Step 𝓛 printedOf) 𝓜 𝓡 code.env #step step-def.routine code.calls-line::add-printed (step_thm.met 𝓤 𝓛 𝓜 𝓡))
+    (total_meets 𝓛 printed_of small (tables_of 𝓤 𝓛.H 𝓜 (tables 𝓤 𝓛.H 𝓜 𝓡 code.env)) #step
+    (cited 𝓤 𝓛.H (Step 𝓛 printed_of) 𝓜 𝓡 code.env #step step-def.routine code.calls-line::add-printed (step_thm.met 𝓤 𝓛 𝓜 𝓡))
     _
     refl)

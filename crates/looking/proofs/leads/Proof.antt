@@ -7,7 +7,7 @@ use Rattle.grid.specs.declared.Beside.TheVariants.{At}
 use Rattle.position.specs.Board.{ground}
 use Rattle.position.specs.Ground as Ground
 use Rattle.walk.specs.Chain.{mark}
-use Rattle.walk.proofs.Looks.{shut-off, shut-other, shut-blocked, opens, near-beside, near_none, near-inside}
+use Rattle.walk.proofs.Looks.{shut_off, shut_other, shut_blocked, opens, near_beside, near_none, near_inside}
 use Rattle.looking.proofs.leads.Statement.{statement}
 use Rattle.looking.proofs.leads.Tie as tie
 
@@ -20,24 +20,24 @@ enum_told c = search rules
 returns : tie.Need-returns
 returns c =
     let s = c.before.before.before.before in
-    shut-off _ _ _ _ _ (near_none s.requires.0.0.view s.args.s.hex s.args.dir s.requires.0.2 c.enum_told.given.1)
+    shut_off _ _ _ _ _ (near_none s.requires.0.0.view s.args.s.hex s.args.dir s.requires.0.2 c.enum_told.given.1)
 
 -- what is known of the hex there
 there : (c : tie.After-known-told) → let s = c.before.before.before.before.before in
     Ground.beside (ground s.args.p.now) s.args.s.hex s.args.dir ≡ At c.before.b.given.0.0.hex
 there c =
     let s = c.before.before.before.before.before in
-    near-beside s.requires.0.0.view s.args.s.hex s.args.dir s.requires.0.2 c.before.b.given.1
+    near_beside s.requires.0.0.view s.args.s.hex s.args.dir s.requires.0.2 c.before.b.given.1
 
 shared-slice-read-if1 : tie.Need-shared-slice-read-if1
 shared-slice-read-if1 c =
     let s = c.before.before.before.before.before.before in
-    let n = near-inside s.requires.0.0.view s.args.s.hex s.args.dir s.requires.0.2 c.before.before.b.given.1 in
+    let n = near_inside s.requires.0.0.view s.args.s.hex s.args.dir s.requires.0.2 c.before.before.b.given.1 in
     subst (λ (k : ℕ). c.before.before.b.given.0.0.hex < k) (sym s.requires.1) n
 
 returns-2 : tie.Need-returns-2
 unfolding mark
-returns-2 c = shut-other _ _ _ _ _ _ (there c.before.before) c.if1.true
+returns-2 c = shut_other _ _ _ _ _ _ (there c.before.before) c.if1.true
 
 between-requires : tie.Need-between-requires
 between-requires c κs =
@@ -45,7 +45,7 @@ between-requires c κs =
     (s.requires.0.0, s.requires.0.1, there c.before.before)
 
 returns-3 : tie.Need-returns-3
-returns-3 c = shut-blocked _ _ _ _ _ (sym c.before.between.ensures.is ∙ c.if2.true)
+returns-3 c = shut_blocked _ _ _ _ _ (sym c.before.between.ensures.is ∙ c.if2.true)
 
 returns-4 : tie.Need-returns-4
 unfolding mark

@@ -3,7 +3,7 @@
 use mathlib.Core.Logic.{⊎_elim}
 use native.Mathlib.Omega.{arith}
 use borrow.Author.Rules.{rules}
-use Rattle.walk.proofs.Looks.{first-here, first_on}
+use Rattle.walk.proofs.Looks.{first_here, first_on}
 use Rattle.looking.proofs.look_2.Statement.{statement}
 use Rattle.looking.proofs.look_2.Tie as tie
 
@@ -14,7 +14,7 @@ leads-requires : tie.Need-leads-requires
 leads-requires c κs = search rules
 
 returns : tie.Need-returns
-returns c = first-here 2 (omega arith) (rw c.if2.true at c.before.leads.ensures)
+returns c = first_here 2 (omega arith) (rw c.if2.true at c.before.leads.ensures)
 
 look-3-requires : tie.Need-look-3-requires
 look-3-requires c κs = search rules

@@ -4,7 +4,7 @@ use Prim.Native.Nat.{◌-◌}
 use mathlib.Core.Path.{refl}
 use native.Mathlib.Omega.{arith}
 use borrow.Author.Rules.{rules}
-use Rattle.field.proofs.Making.{Making, making-all, making-more, making-none}
+use Rattle.field.proofs.Making.{Making, making_all, making_more, making_none}
 use Rattle.position.specs.Change.Change.{destroyed}
 use Rattle.losses.proofs.destroy_all.Statement.{statement}
 use Rattle.losses.proofs.destroy_all.Tie as tie
@@ -16,7 +16,7 @@ abbrev decreases-loop : tie.decreases-loop
 decreases-loop p₀ v units i₀ i-end p i = i-end - i
 
 loop-holds : tie.Need-loop-init invariant-loop decreases-loop
-loop-holds c = making-none c.before.before.requires
+loop-holds c = making_none c.before.before.requires
 
 mul-destroy : tie.Need-overflow-mul-destroy invariant-loop decreases-loop
 mul-destroy c = search rules
@@ -37,13 +37,13 @@ loop-less : tie.Need-loop-smaller invariant-loop decreases-loop
 loop-less c = search rules
 
 loop-again : tie.Need-loop-preserved invariant-loop decreases-loop
-loop-again c = making-more c.before.before.before.before.before.before.loop.invariant (omega arith) refl c.before.before.destroy.ensures
+loop-again c = making_more c.before.before.before.before.before.before.loop.invariant (omega arith) refl c.before.before.destroy.ensures
 
 same_length : tie.Need-same-length invariant-loop decreases-loop
 same_length c = omega (arith, c.before.loop.invariant.laid.fits.whole, c.before.before.before.before.requires.fits.whole)
 
 returns : tie.Need-returns invariant-loop decreases-loop
-returns c = making-all c.before.loop.invariant (omega arith)
+returns c = making_all c.before.loop.invariant (omega arith)
 
 pub destroy-all-spec : {M : Type 1} → statement M
 destroy-all-spec =

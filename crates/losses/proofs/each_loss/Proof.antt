@@ -8,7 +8,7 @@ use native.Mathlib.Omega.{arith}
 use borrow.Author.Rules.{rules}
 use lib.ListN.{take}
 use Rattle.position.specs.Board.{board}
-use Rattle.ruling.proofs.Going.{Gone, gone-end, gone-none, gone-stop}
+use Rattle.ruling.proofs.Going.{Gone, gone-end, gone_none, gone-stop}
 use Rattle.ruling.specs.Judged.{TestedOf}
 use Rattle.field.specs.Listed.{and_then}
 use Rattle.aftermath.proofs.Losing.{gone-behind}
@@ -23,7 +23,7 @@ abbrev decreases-loop : tie.decreases-loop
 decreases-loop p v units i₀ i-end i = i-end - i
 
 loop-holds : tie.Need-loop-init invariant-loop decreases-loop
-loop-holds c = gone-none
+loop-holds c = gone_none
 
 mul-loss : tie.Need-overflow-mul-loss invariant-loop decreases-loop
 mul-loss c = search rules

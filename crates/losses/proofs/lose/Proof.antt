@@ -5,10 +5,10 @@ use mathlib.Core.List.{map}
 use borrow.Author.Rules.{rules}
 use Rattle.position.specs.Change.Change.{destroyed}
 use Rattle.position.specs.Board.{board}
-use Rattle.position.proofs.Changes.{laid-makes}
+use Rattle.position.proofs.Changes.{laid_makes}
 use Rattle.aftermath.proofs.Losing.{lost-then}
 use Rattle.aftermath.proofs.Stages.{then-on}
-use Rattle.aftermath.specs.Losses.{lossChanges}
+use Rattle.aftermath.specs.Losses.{loss_changes}
 use Rattle.aftermath.specs.Stage.{reassigned}
 use Rattle.position.specs.Laid.{Laid}
 use Rattle.position.specs.Role as Role
@@ -21,7 +21,7 @@ laid : (c : tie.After-destroy-all) →
     Laid c.destroy-all.new.0 a.v
 laid c =
     let a = c.before.before.before.before.args in
-    laid-makes (map destroyed a.units.now) c.before.before.before.before.requires c.destroy-all.ensures
+    laid_makes (map destroyed a.units.now) c.before.before.before.before.requires c.destroy-all.ensures
 
 destroy-all-requires : tie.Need-destroy-all-requires
 destroy-all-requires c κs = search rules
@@ -30,7 +30,7 @@ reassign-requires : tie.Need-reassign-requires
 reassign-requires c κs = (laid c.before.before.before, omega arith)
 
 pass-on-requires : tie.Need-pass-on-requires
-pass-on-requires c κs = laid-makes (reassigned (board c.before.before.before.before.before.before.before.destroy-all.new.0) Role.owes Role.advances) (laid c.before.before.before.before.before.before.before) c.before.before.before.reassign.ensures
+pass-on-requires c κs = laid_makes (reassigned (board c.before.before.before.before.before.before.before.destroy-all.new.0) Role.owes Role.advances) (laid c.before.before.before.before.before.before.before) c.before.before.before.reassign.ensures
 
 same_length : tie.Need-same-length
 same_length c = search rules
@@ -38,7 +38,7 @@ same_length c = search rules
 returns : tie.Need-returns
 returns c =
     let a = c.before.before.before.before.before.before.before.before.before.before.before.before.before.before.args in
-    then-on c.before.before.before.before.before.before.before.before.before.before.before.before.before.before.requires.shaped (lossChanges (board a.p.now) a.units.now)
+    then-on c.before.before.before.before.before.before.before.before.before.before.before.before.before.before.requires.shaped (loss_changes (board a.p.now) a.units.now)
     (lost-then c.before.before.before.before.before.before.before.before.before.before.before.before.before.before.requires.shaped a.units.now
     c.before.before.before.before.before.before.before.before.before.before.destroy-all.ensures
     c.before.before.before.before.before.before.reassign.ensures)

@@ -5,15 +5,15 @@ use mathlib.Core.Path.{refl}
 use native.Mathlib.Omega.{arith}
 use borrow.Author.Rules.{rules}
 use Rattle.position.specs.Board.{board}
-use Rattle.line.proofs.Filling.{filled-all, filled_more, filled_none}
+use Rattle.line.proofs.Filling.{filled_all, filled_more, filled_none}
 use Rattle.line.specs.Line.{Filled}
-use Rattle.aftermath.proofs.Losing.{loss-place}
-use Rattle.aftermath.specs.Losses.{lossAt}
+use Rattle.aftermath.proofs.Losing.{loss_place}
+use Rattle.aftermath.specs.Losses.{loss_at}
 use Rattle.losses.proofs.loss_line.Statement.{statement}
 use Rattle.losses.proofs.loss_line.Tie as tie
 
 abbrev invariant-loop : tie.invariant-loop
-invariant-loop p v units fighters₀ i₀ i-end fighters i = Filled (lossAt (board p) units) i fighters
+invariant-loop p v units fighters₀ i₀ i-end fighters i = Filled (loss_at (board p) units) i fighters
 
 abbrev decreases-loop : tie.decreases-loop
 decreases-loop p v units fighters₀ i₀ i-end fighters i = i-end - i
@@ -58,10 +58,10 @@ loop-less : tie.Need-loop-smaller invariant-loop decreases-loop
 loop-less c = search rules
 
 loop-again : tie.Need-loop-preserved invariant-loop decreases-loop
-loop-again c = filled_more (omega (arith, c.before.before.before.before.before.before.before.before.requires.1)) c.before.before.before.before.loop.invariant (loss-place (board c.before.before.before.before.before.before.before.before.args.p.now) c.before.before.before.before.before.before.before.before.args.units.now c.before.before.before.before.loop.i c.shown.ensures.is) refl
+loop-again c = filled_more (omega (arith, c.before.before.before.before.before.before.before.before.requires.1)) c.before.before.before.before.loop.invariant (loss_place (board c.before.before.before.before.before.before.before.before.args.p.now) c.before.before.before.before.before.before.before.before.args.units.now c.before.before.before.before.loop.i c.shown.ensures.is) refl
 
 returns : tie.Need-returns invariant-loop decreases-loop
-returns c = filled-all c.before.loop.invariant (omega arith)
+returns c = filled_all c.before.loop.invariant (omega arith)
 
 pub loss-line-spec : {M : Type 1} → statement M
 loss-line-spec =

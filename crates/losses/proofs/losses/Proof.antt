@@ -5,7 +5,7 @@ use mathlib.Core.List.{[]}
 use borrow.Author.Rules.{rules}
 use Rattle.ruling.proofs.Meets.{ruled}
 use Rattle.ruling.specs.Judged.{TestedOf}
-use Rattle.aftermath.specs.Losses.{lossesRule}
+use Rattle.aftermath.specs.Losses.{losses_rule}
 use Rattle.losses.proofs.losses.Statement.{statement}
 use Rattle.losses.proofs.losses.Tie as tie
 
@@ -19,7 +19,7 @@ same_length : tie.Need-same-length
 same_length c = search rules
 
 returns : tie.Need-returns
-unfolding lossesRule
+unfolding losses_rule
 returns c = subst (TestedOf _ _ _) c.before.n.given.1 c.before.before.before.judge-losses.ensures [] _
 
 enum_told : tie.Need-enum-told
@@ -32,7 +32,7 @@ same-length-2 : tie.Need-same-length-2
 same-length-2 c = search rules
 
 returns-2 : tie.Need-returns-2
-unfolding lossesRule
+unfolding losses_rule
 returns-2 c =
     (subst (TestedOf _ _ _) c.before.before.before.before.enum_told.given.1 c.before.before.before.before.before.before.judge-losses.ensures).0 [] _ _ _ [] (ruled c.before.before.lose.ensures)
 

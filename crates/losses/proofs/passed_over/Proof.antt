@@ -3,7 +3,7 @@
 use mathlib.Core.Path.{sym, ◌∙◌}
 use borrow.Author.Rules.{rules}
 use borrow.Author.Tests.{not-false, not-true}
-use Rattle.aftermath.proofs.Losing.{passed-other-force, passed-special, passed-special-alone}
+use Rattle.aftermath.proofs.Losing.{passed_other_force, passed-special, passed_special_alone}
 use Rattle.losses.proofs.passed_over.Statement.{statement}
 use Rattle.losses.proofs.passed_over.Tie as tie
 
@@ -11,13 +11,13 @@ phasing-owes-requires : tie.Need-phasing-owes-requires
 phasing-owes-requires c κs = search rules
 
 returns : tie.Need-returns
-returns c = sym (passed-other-force _ _ (sym c.before.phasing-owes.ensures ∙ not-true _ c.if1.true))
+returns c = sym (passed_other_force _ _ (sym c.before.phasing-owes.ensures ∙ not-true _ c.if1.true))
 
 names-other-requires : tie.Need-names-other-requires
 names-other-requires c κs = search rules
 
 returns-2 : tie.Need-returns-2
-returns-2 c = sym (passed-special-alone _ _ (sym c.before.before.before.phasing-owes.ensures ∙ not-false _ c.before.before.if1.false) (sym c.before.names-other.ensures ∙ not-true _ c.if2.true))
+returns-2 c = sym (passed_special_alone _ _ (sym c.before.before.before.phasing-owes.ensures ∙ not-false _ c.before.before.if1.false) (sym c.before.names-other.ensures ∙ not-true _ c.if2.true))
 
 spares-special-requires : tie.Need-spares-special-requires
 spares-special-requires c κs = search rules

@@ -6,7 +6,7 @@ use native.Mathlib.Omega.{arith}
 use borrow.Author.Rules.{rules}
 use borrow.Author.Tests.{not-false, not-true}
 use lib.ListN.{length}
-use Rattle.aftermath.proofs.Losing.{named-whole, spared-not, spared-owes}
+use Rattle.aftermath.proofs.Losing.{named_whole, spared_not, spared_owes}
 use Rattle.losses.proofs.spared.Statement.{statement}
 use Rattle.losses.proofs.spared.Tie as tie
 
@@ -14,7 +14,7 @@ owes-requires : tie.Need-owes-requires
 owes-requires c κs = search rules
 
 returns : tie.Need-returns
-returns c = sym (spared-not _ _ _ (sym c.before.owes.ensures ∙ not-true _ c.if1.true))
+returns c = sym (spared_not _ _ _ (sym c.before.owes.ensures ∙ not-true _ c.if1.true))
 
 named-requires : tie.Need-named-requires
 named-requires c κs = search rules
@@ -22,8 +22,8 @@ named-requires c κs = search rules
 returns-2 : tie.Need-returns-2
 returns-2 c =
     let a = c.before.before.before.before.before.args in
-    ap not (named-whole a.units.now a.u (length a.units.now) c.named.ensures (omega arith))
-    ∙ sym (spared-owes _ _ _ (sym c.before.before.owes.ensures ∙ not-false _ c.before.if1.false))
+    ap not (named_whole a.units.now a.u (length a.units.now) c.named.ensures (omega arith))
+    ∙ sym (spared_owes _ _ _ (sym c.before.before.owes.ensures ∙ not-false _ c.before.if1.false))
 
 pub spared-spec : {M : Type 1} → statement M
 spared-spec = tie.close (tie.spec owes-requires returns named-requires returns-2)

@@ -8,10 +8,10 @@ use Rattle.position.specs.Bits.{with, moved}
 use Rattle.position.specs.Board.{board}
 use Rattle.position.specs.Crowd.{others}
 use Rattle.position.specs.Change.Change.{placed}
-use Rattle.position.proofs.Changes.{laid-make}
+use Rattle.position.proofs.Changes.{laid_make}
 use Rattle.ruling.proofs.Meets.{pass, stop, ruled}
 use Rattle.march.specs.Move.{arrival}
-use Rattle.march.proofs.Moves.{moved-small, both-made}
+use Rattle.march.proofs.Moves.{moved_small, both-made}
 use Rattle.moving.proofs.arrive.Statement.{statement}
 use Rattle.moving.proofs.arrive.Tie as tie
 
@@ -38,8 +38,8 @@ with-requires c κs = search rules
 
 mark-requires : tie.Need-mark-requires
 mark-requires c κs = (
-  rw c.before.before.before.before.place.ensures (laid-make c.before.before.before.before.before.before.before.before.before.before.before.before.requires (placed c.before.before.before.before.before.before.before.before.before.before.before.before.args.u c.before.before.before.before.before.before.before.before.before.before.before.before.args.h)),
-  rw c.with.ensures (moved-small _ c.before.before.before.before.before.before.marks.ensures.small),
+  rw c.before.before.before.before.place.ensures (laid_make c.before.before.before.before.before.before.before.before.before.before.before.before.requires (placed c.before.before.before.before.before.before.before.before.before.before.before.before.args.u c.before.before.before.before.before.before.before.before.before.before.before.before.args.h)),
+  rw c.with.ensures (moved_small _ c.before.before.before.before.before.before.marks.ensures.small),
 )
 
 same-length-2 : tie.Need-same-length-2

@@ -7,19 +7,19 @@ use lib.Dec.{leb}
 use borrow.Author.Rules.{rules}
 use borrow.Author.Tests.{le-leb, lt-leb}
 use Rattle.position.specs.Board.{board}
-use Rattle.ruling.specs.Verdict.Verdict.{refuseIf}
+use Rattle.ruling.specs.Verdict.Verdict.{refuse_if}
 use Rattle.ruling.proofs.Meets.{pass, stop}
-use Rattle.march.specs.Move.{pathLength, mayMoveNow, moveChecks}
+use Rattle.march.specs.Move.{path_length, may_move_now, move_checks}
 use Rattle.ruling.specs.Judged.{Passes, TestedOf}
-use Rattle.field.specs.Listed.{onMapAll}
-use Rattle.march.proofs.Moves.{path-short, path-long, path-fits}
+use Rattle.field.specs.Listed.{on_map_all}
+use Rattle.march.proofs.Moves.{path_short, path_long, path_fits}
 use Rattle.march.proofs.Judging.{path-through}
 use Rattle.moving.proofs.judge_move.Statement.{statement}
 use Rattle.moving.proofs.judge_move.Tie as tie
 
 -- the tests passed so far: of the lengths and numbers, along the path, and of the time
-fits : (c : tie.Else2) → not (pathLength c.before.before.before.before.args.path.now) ≡ false
-fits c = ap not (path-fits _ (omega arith) (omega arith))
+fits : (c : tie.Else2) → not (path_length c.before.before.before.before.args.path.now) ≡ false
+fits c = ap not (path_fits _ (omega arith) (omega arith))
 
 there : (c : tie.Else3) →
     let a = c.before.before.before.before.before.args in
@@ -31,8 +31,8 @@ there c =
 to_map : (c : tie.After-enum-told) →
     let a = c.before.before.before.before.before.before.before.before.args in
     Passes a.p.now
-    (λ v. refuseIf (not (pathLength a.path.now)) 3 0
-    (refuseIf (leb (board a.p.now).units.count a.u) 3 0 (onMapAll (board a.p.now) a.path.now v)))
+    (λ v. refuse_if (not (path_length a.path.now)) 3 0
+    (refuse_if (leb (board a.p.now).units.count a.u) 3 0 (on_map_all (board a.p.now) a.path.now v)))
 to_map c l v a q m w =
     let k = c.before.before.before in
     pass (fits k.before)
@@ -41,22 +41,22 @@ to_map c l v a q m w =
 to-now : (c : tie.Else4) →
     let a = c.before.before.before.before.before.before.before.before.before.before.args in
     Passes a.p.now
-    (λ v. refuseIf (not (pathLength a.path.now)) 3 0
-    (refuseIf (leb (board a.p.now).units.count a.u) 3 0
-    (onMapAll (board a.p.now) a.path.now (refuseIf (not (mayMoveNow (board a.p.now))) 2 0 v))))
+    (λ v. refuse_if (not (path_length a.path.now)) 3 0
+    (refuse_if (leb (board a.p.now).units.count a.u) 3 0
+    (on_map_all (board a.p.now) a.path.now (refuse_if (not (may_move_now (board a.p.now))) 2 0 v))))
 to-now c l v a q m w =
     to_map c.before.before l _ a q m (pass (sym (ap not c.before.may-move-now.ensures) ∙ c.if4.false) w)
 
 returns : tie.Need-returns
-unfolding moveChecks
-returns c = λ l v. stop (ap not (path-short _ c.if1.true))
+unfolding move_checks
+returns c = λ l v. stop (ap not (path_short _ c.if1.true))
 
 returns-2 : tie.Need-returns-2
-unfolding moveChecks
-returns-2 c = λ l v. stop (ap not (path-long _ c.if2.true))
+unfolding move_checks
+returns-2 c = λ l v. stop (ap not (path_long _ c.if2.true))
 
 returns-3 : tie.Need-returns-3
-unfolding moveChecks
+unfolding move_checks
 returns-3 c =
     let a = c.before.before.before.before.before.args in
     λ l v. pass (fits c.before) (stop (le-leb (board a.p.now).units.count a.u (omega arith)))
@@ -68,7 +68,7 @@ enum-known-n : tie.Need-enum-known-n
 enum-known-n c = search rules
 
 returns-4 : tie.Need-returns-4
-unfolding moveChecks
+unfolding move_checks
 returns-4 c =
     let k = c.before.before.before.before in
     λ l v. pass (fits k.before) (pass (there k) (subst (TestedOf _ _ _) c.before.n.given.1 c.before.before.before.on-map-all.ensures l _))
@@ -80,7 +80,7 @@ may-move-now-requires : tie.Need-may-move-now-requires
 may-move-now-requires c κs = search rules
 
 returns-5 : tie.Need-returns-5
-unfolding moveChecks
+unfolding move_checks
 returns-5 c =
     λ l v. to_map c.before.before l _ _ _ _ (stop (sym (ap not c.before.may-move-now.ensures) ∙ c.if4.true))
 
@@ -88,7 +88,7 @@ not-phasing-requires : tie.Need-not-phasing-requires
 not-phasing-requires c κs = search rules
 
 returns-6 : tie.Need-returns-6
-unfolding moveChecks
+unfolding move_checks
 returns-6 c =
     λ l v. to-now c.before.before l _ _ _ _ (stop (sym c.before.not-phasing.ensures ∙ c.if5.true))
 
@@ -96,7 +96,7 @@ forbidden-requires : tie.Need-forbidden-requires
 forbidden-requires c κs = search rules
 
 returns-7 : tie.Need-returns-7
-unfolding moveChecks
+unfolding move_checks
 returns-7 c =
     λ l v.
     to-now c.before.before.before.before l _ _ _ _
@@ -106,7 +106,7 @@ steps-requires : tie.Need-steps-requires
 steps-requires c κs = (c.before.before.before.before.before.before.before.before.before.before.before.before.before.before.requires, omega arith)
 
 returns-8 : tie.Need-returns-8
-unfolding moveChecks
+unfolding move_checks
 returns-8 c =
     path-through
     (λ l v a q m w.

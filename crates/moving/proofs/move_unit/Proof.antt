@@ -3,7 +3,7 @@
 use mathlib.Core.Path.{subst}
 use mathlib.Core.List.{[]}
 use borrow.Author.Rules.{rules}
-use Rattle.march.specs.Move.{moveRule}
+use Rattle.march.specs.Move.{move_rule}
 use Rattle.march.specs.Judged.{PathOf}
 use Rattle.moving.proofs.move_unit.Statement.{statement}
 use Rattle.moving.proofs.move_unit.Tie as tie
@@ -24,14 +24,14 @@ same_length : tie.Need-same-length
 same_length c = search rules
 
 returns : tie.Need-returns
-unfolding moveRule
+unfolding move_rule
 returns c = subst (PathOf _ _) c.before.way.given.1 c.before.before.before.judge-move.ensures [] _
 
 same-length-2 : tie.Need-same-length-2
 same-length-2 c = search rules
 
 returns-2 : tie.Need-returns-2
-unfolding moveRule
+unfolding move_rule
 returns-2 c =
     let o = subst (PathOf _ _) c.before.before.before.before.before.way2.given.1 c.before.before.before.before.before.before.before.judge-move.ensures in
     o.passes [] _ _ _ [] (rw o.at c.before.before.arrive.ensures)

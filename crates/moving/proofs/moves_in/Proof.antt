@@ -4,7 +4,7 @@ use mathlib.Core.Path.{sym, ◌∙◌}
 use borrow.Author.Rules.{rules}
 use borrow.Author.Tests.{not-true}
 use Rattle.position.proofs.Answers.{holds}
-use Rattle.march.proofs.Moves.{moves_not, moves-second, moves-other}
+use Rattle.march.proofs.Moves.{moves_not, moves_second, moves_other}
 use Rattle.moving.proofs.moves_in.Statement.{statement}
 use Rattle.moving.proofs.moves_in.Tie as tie
 
@@ -19,10 +19,10 @@ moves-in-phase-2-requires c κs = search rules
 
 returns-2 : tie.Need-returns-2
 returns-2 c =
-    c.moves-in-phase-2.ensures ∙ sym (moves-second _ _ (holds c.before.before.before.moves-by-land.ensures c.before.before.if1.false) c.before.if2.true)
+    c.moves-in-phase-2.ensures ∙ sym (moves_second _ _ (holds c.before.before.before.moves-by-land.ensures c.before.before.if1.false) c.before.if2.true)
 
 returns-3 : tie.Need-returns-3
-returns-3 c = sym (moves-other _ _ (holds c.before.before.moves-by-land.ensures c.before.if1.false) c.if2.false)
+returns-3 c = sym (moves_other _ _ (holds c.before.before.moves-by-land.ensures c.before.if1.false) c.if2.false)
 
 pub moves-in-spec : {M : Type 1} → statement M
 moves-in-spec =

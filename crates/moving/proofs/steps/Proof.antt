@@ -7,22 +7,22 @@ use mathlib.Core.Path.{◌≡◌, refl, sym, subst, ◌∙◌}
 use native.Mathlib.Omega.{arith}
 use borrow.Author.Rules.{rules}
 use lib.ListN.{get_or}
-use Rattle.position.specs.Board.{board, forceOf}
+use Rattle.position.specs.Board.{board, force_of}
 use Rattle.field.specs.Scene.{scene}
-use Rattle.field.specs.Zone.{enemyZone}
-use Rattle.march.specs.Move.{leg, leavesZone, step, afterStep, steps}
+use Rattle.field.specs.Zone.{enemy_zone}
+use Rattle.march.specs.Move.{leg, leaves_zone, step, after_step, steps}
 use Rattle.march.specs.Judged.{Onward, WayOf}
-use Rattle.ruling.proofs.Going.{Gone, gone-none, gone-stop, gone-end}
-use Rattle.march.proofs.Steps.{leaves-first, leaves_later}
+use Rattle.ruling.proofs.Going.{Gone, gone_none, gone-stop, gone-end}
+use Rattle.march.proofs.Steps.{leaves_first, leaves_later}
 use Rattle.march.proofs.Judging.{gone-step}
 use Rattle.moving.proofs.steps.Statement.{statement}
 use Rattle.moving.proofs.steps.Tie as tie
 
 abbrev invariant-loop : tie.invariant-loop
 invariant-loop p v u path at₀ spent₀ leaves₀ i₀ i-end at spent leaves i =
-    Gone p (step (board p) u) (afterStep (board p)) (leg ((board p).units.state.hex u) 0) path i (leg at spent)
+    Gone p (step (board p) u) (after_step (board p)) (leg ((board p).units.state.hex u) 0) path i (leg at spent)
     × (spent < 256)
-    × (leaves ≡ leavesZone (board p) u (leg at spent) (i + 1))
+    × (leaves ≡ leaves_zone (board p) u (leg at spent) (i + 1))
 
 abbrev decreases-loop : tie.decreases-loop
 decreases-loop p v u path at₀ spent₀ leaves₀ i₀ i-end at spent leaves i = i-end - i
@@ -35,7 +35,7 @@ on-at : (c : tie.After-known-told2 invariant-loop decreases-loop) →
     let l = leg i.at i.spent in
     let x = get_or a.path.now i.i 0 in
     let g = c.before.total.given.0 in
-    Onward a.p.now (step b a.u l x (i.i + 1)) (afterStep b l x).spent (enemyZone (scene b) (forceOf b a.u) x) g.0 g.1.0
+    Onward a.p.now (step b a.u l x (i.i + 1)) (after_step b l x).spent (enemy_zone (scene b) (force_of b a.u) x) g.0 g.1.0
 on-at c = subst (WayOf _ _ _ _) c.before.total.given.1 c.before.before.before.one-step.ensures
 
 hex-requires : tie.Need-hex-requires invariant-loop decreases-loop
@@ -46,9 +46,9 @@ loop-holds c =
     let a = c.before.before.before.args in
     let b = board a.p.now in
     let first = leg (b.units.state.hex a.u) 0 in (
-      subst (λ (h : ℕ). Gone a.p.now (step b a.u) (afterStep b) first a.path.now 0 (leg h 0)) (sym c.hex.ensures.is) gone-none,
+      subst (λ (h : ℕ). Gone a.p.now (step b a.u) (after_step b) first a.path.now 0 (leg h 0)) (sym c.hex.ensures.is) gone_none,
       omega arith,
-      sym (leaves-first b a.u (leg c.hex.result 0) 1 (omega arith)),
+      sym (leaves_first b a.u (leg c.hex.result 0) 1 (omega arith)),
     )
 
 mul-x : tie.Need-overflow-mul-x invariant-loop decreases-loop

@@ -8,7 +8,7 @@ use native.Mathlib.Omega.{arith}
 use borrow.Author.Rules.{rules}
 use Rattle.grid.proofs.Arith.{small}
 use Rattle.position.specs.Board.{results}
-use Rattle.odds.proofs.Columns.{Highest, highest-all, highest-hit, highest-miss, highest-none}
+use Rattle.odds.proofs.Columns.{Highest, highest_all, highest_hit, highest_miss, highest_none}
 use Rattle.odds.specs.Odds.{column, last, reached}
 use Rattle.odds.proofs.column.Statement.{statement}
 use Rattle.odds.proofs.column.Tie as tie
@@ -20,7 +20,7 @@ abbrev decreases-loop : tie.decreases-loop
 decreases-loop p v attack defence columns last₀ c₀ last c = columns - c
 
 loop-holds : tie.Need-loop-init invariant-loop decreases-loop
-loop-holds c = highest-none
+loop-holds c = highest_none
 
 reached-requires : tie.Need-reached-requires invariant-loop decreases-loop
 reached-requires c κs = search rules
@@ -36,15 +36,15 @@ loop-again c =
     let o = c.before.before.before.loop.invariant in
     let e = c.before.reached.ensures in
     ⊎_elim
-    (λ w. highest-hit o (omega arith) (sym e ∙ w.0.taken) w.1)
-    (λ w. highest-miss o (omega arith) (sym e ∙ w.0.left) w.1)
+    (λ w. highest_hit o (omega arith) (sym e ∙ w.0.taken) w.1)
+    (λ w. highest_miss o (omega arith) (sym e ∙ w.0.left) w.1)
     c.if1.branch
 
 returns : tie.Need-returns invariant-loop decreases-loop
 unfolding column
 returns c =
     let v = c.before.before.before.requires.0 in
-    record { is = highest-all c.before.loop.invariant (omega arith) v.view.columns; small = omega (arith, c.before.loop.invariant.small, v.view.columns, v.shaped.columns.high) }
+    record { is = highest_all c.before.loop.invariant (omega arith) v.view.columns; small = omega (arith, c.before.loop.invariant.small, v.view.columns, v.shaped.columns.high) }
 
 pub column-spec : {M : Type 1} → statement M
 column-spec =

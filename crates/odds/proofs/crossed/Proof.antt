@@ -7,7 +7,7 @@ use borrow.Author.Rules.{rules}
 use Rattle.grid.proofs.Arith.{small}
 use Rattle.position.specs.Board.{board, ground}
 use Rattle.position.specs.Ground.{joined}
-use Rattle.position.proofs.Bearings.{bearing-below}
+use Rattle.position.proofs.Bearings.{bearing_below}
 use Rattle.odds.proofs.Columns.{crossed-read}
 use Rattle.odds.proofs.crossed.Statement.{statement}
 use Rattle.odds.proofs.crossed.Tie as tie
@@ -22,7 +22,7 @@ side-requires : tie.Need-side-requires
 side-requires c κs =
     let a = c.before.before.before.args in
     let m = ground a.p.now in
-    (c.before.before.before.requires.0, omega (arith, c.bearing.ensures.is, bearing-below m c.before.hex.result a.target (ap (λ (h : ℕ). joined m h a.target) c.before.hex.ensures.is ∙ c.before.before.before.requires.1)))
+    (c.before.before.before.requires.0, omega (arith, c.bearing.ensures.is, bearing_below m c.before.hex.result a.target (ap (λ (h : ℕ). joined m h a.target) c.before.hex.ensures.is ∙ c.before.before.before.requires.1)))
 
 side-multiple-requires : tie.Need-side-multiple-requires
 side-multiple-requires c κs = search rules

@@ -4,7 +4,7 @@ use mathlib.Core.Path.{◌∙◌, ap}
 use borrow.Author.Rules.{rules}
 use Rattle.grid.proofs.Arith.{small}
 use Rattle.position.specs.Board.{board}
-use Rattle.odds.proofs.Columns.{larger-below, multiple-read}
+use Rattle.odds.proofs.Columns.{larger_below, multiple_read}
 use Rattle.odds.proofs.multiple_at.Statement.{statement}
 use Rattle.odds.proofs.multiple_at.Tie as tie
 
@@ -25,8 +25,8 @@ returns c =
     let a = c.before.before.before.before.before.before.args in
     let b = board a.p.now in
     record {
-      is = multiple-read b a.target a.units.now (c.before.before.multiple.ensures.is ∙ ap b.chart.multiple c.before.before.before.terrain.ensures.is) c.before.smallest.ensures.is c.larger.ensures;
-      small = rw c.larger.ensures (larger-below c.before.before.multiple.result c.before.smallest.result 256 c.before.before.multiple.ensures.small c.before.smallest.ensures.small);
+      is = multiple_read b a.target a.units.now (c.before.before.multiple.ensures.is ∙ ap b.chart.multiple c.before.before.before.terrain.ensures.is) c.before.smallest.ensures.is c.larger.ensures;
+      small = rw c.larger.ensures (larger_below c.before.before.multiple.result c.before.smallest.result 256 c.before.before.multiple.ensures.small c.before.smallest.ensures.small);
     }
 
 pub multiple-at-spec : {M : Type 1} → statement M

@@ -5,7 +5,7 @@ use mathlib.Core.Path.{ap₂}
 use native.Mathlib.Omega.{arith}
 use borrow.Author.Rules.{rules}
 use lib.Dec.{leb}
-use Rattle.odds.proofs.Columns.{product-fits, product-fits-too}
+use Rattle.odds.proofs.Columns.{product_fits, product_fits_too}
 use Rattle.odds.specs.Odds.{reached}
 use Rattle.odds.proofs.reached.Statement.{statement}
 use Rattle.odds.proofs.reached.Tie as tie
@@ -14,13 +14,13 @@ attack-odds-requires : tie.Need-attack-odds-requires
 attack-odds-requires c κs = search rules
 
 mul-result : tie.Need-overflow-mul-result
-mul-result c = omega (arith, product-fits c.attack-odds.ensures.small c.before.before.requires.2)
+mul-result c = omega (arith, product_fits c.attack-odds.ensures.small c.before.before.requires.2)
 
 defence-odds-requires : tie.Need-defence-odds-requires
 defence-odds-requires c κs = search rules
 
 mul-result-2 : tie.Need-overflow-mul-result-2
-mul-result-2 c = omega (arith, product-fits-too c.before.before.before.requires.1 c.defence-odds.ensures.small)
+mul-result-2 c = omega (arith, product_fits_too c.before.before.before.requires.1 c.defence-odds.ensures.small)
 
 returns : tie.Need-returns
 unfolding reached

@@ -6,7 +6,7 @@ use borrow.Author.Rules.{rules}
 use Rattle.grid.proofs.Arith.{small}
 use Rattle.position.proofs.BitLaws.{low}
 use Rattle.position.specs.Board.{board}
-use Rattle.odds.proofs.Columns.{Lowest, lowest-all, lowest-first, lowest-more}
+use Rattle.odds.proofs.Columns.{Lowest, lowest_all, lowest_first, lowest-more}
 use Rattle.odds.specs.Odds.{crossed}
 use Rattle.odds.proofs.smallest.Statement.{statement}
 use Rattle.odds.proofs.smallest.Tie as tie
@@ -27,7 +27,7 @@ crossed-requires : tie.Need-crossed-requires invariant-loop decreases-loop
 crossed-requires c κs = (c.before.before.before.requires.0, c.before.before.before.requires.2 0 (omega (arith, c.before.before.before.requires.1)))
 
 loop-holds : tie.Need-loop-init invariant-loop decreases-loop
-loop-holds c = lowest-first c.before.before.before.before.requires.1 c.crossed.ensures.is c.crossed.ensures.small
+loop-holds c = lowest_first c.before.before.before.before.requires.1 c.crossed.ensures.is c.crossed.ensures.small
 
 mul-crossed : tie.Need-overflow-mul-crossed invariant-loop decreases-loop
 mul-crossed c = search rules
@@ -54,7 +54,7 @@ loop-again : tie.Need-loop-preserved invariant-loop decreases-loop
 loop-again c = lowest-more c.before.before.before.before.loop.invariant (omega arith) c.before.crossed2.ensures.is c.before.crossed2.ensures.small c.smaller.ensures
 
 returns : tie.Need-returns invariant-loop decreases-loop
-returns c = record { is = lowest-all c.before.loop.invariant (omega arith); small = c.before.loop.invariant.small }
+returns c = record { is = lowest_all c.before.loop.invariant (omega arith); small = c.before.loop.invariant.small }
 
 pub smallest-spec : {M : Type 1} → statement M
 smallest-spec =

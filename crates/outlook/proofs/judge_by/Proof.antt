@@ -2,14 +2,14 @@
 -- Assumes nothing.
 use native.Mathlib.Omega.{arith}
 use borrow.Author.Rules.{rules}
-use Rattle.position.proofs.Sides.{on-view}
-use Rattle.paint.proofs.Bytes.{round_room, blank-long, blank-all}
+use Rattle.position.proofs.Sides.{on_view}
+use Rattle.paint.proofs.Bytes.{round_room, blank_long, blank_all}
 use Rattle.routes.proofs.Windows.{window-is}
 use Rattle.outlook.proofs.judge_by.Statement.{statement}
 use Rattle.outlook.proofs.judge_by.Tie as tie
 
 spot-requires : tie.Need-spot-requires
-spot-requires c κs = let outset = c.before.before.before in on-view outset.requires.0 _ outset.requires.1
+spot-requires c κs = let outset = c.before.before.before in on_view outset.requires.0 _ outset.requires.1
 
 round-requires : tie.Need-round-requires
 round-requires c κs = (c.spot.ensures.0, omega arith)
@@ -17,7 +17,7 @@ round-requires c κs = (c.spot.ensures.0, omega arith)
 paint-blank-requires : tie.Need-paint-blank-requires
 paint-blank-requires c κs =
     let outset = c.before.before.before.before.before.before in
-    (outset.requires.0, round_room c.before.round.ensures (omega (arith, blank-long 56 outset.requires.4)), blank-all 56 outset.requires.4)
+    (outset.requires.0, round_room c.before.round.ensures (omega (arith, blank_long 56 outset.requires.4)), blank_all 56 outset.requires.4)
 
 tell-requires : tie.Need-tell-requires
 tell-requires c κs =
@@ -25,8 +25,8 @@ tell-requires c κs =
     let m = l.before.before in
     let k = m.before.before in
     let outset = k.before.before.before.before.before in
-    let w = window-is k.round.ensures k.before.spot.ensures.1 (omega (arith, blank-long 56 outset.requires.4, l.before.room.given)) m.paint-blank.ensures in
-    (outset.requires.0, w, omega (arith, blank-long 56 outset.requires.4, l.before.room.given), outset.requires.1, outset.requires.2, outset.requires.3)
+    let w = window-is k.round.ensures k.before.spot.ensures.1 (omega (arith, blank_long 56 outset.requires.4, l.before.room.given)) m.paint-blank.ensures in
+    (outset.requires.0, w, omega (arith, blank_long 56 outset.requires.4, l.before.room.given), outset.requires.1, outset.requires.2, outset.requires.3)
 
 same_length : tie.Need-same-length
 same_length c = search rules

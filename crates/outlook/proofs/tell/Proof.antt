@@ -8,12 +8,12 @@ use borrow.Author.Rules.{rules}
 use borrow.Author.Tests.{not-false, not-true}
 use Rattle.survey.specs.Region.{Inside, place_of}
 use Rattle.position.specs.Board.{board}
-use Rattle.position.proofs.Sides.{on-view}
+use Rattle.position.proofs.Sides.{on_view}
 use Rattle.routes.specs.Legal.{legal}
-use Rattle.routes.specs.Part.{isRun}
-use Rattle.routes.specs.Search.{firstRoute, found}
-use Rattle.routes.proofs.Part.{tested-most, tested-run}
-use Rattle.routes.proofs.Nearby.{nobody-near, start-inside}
+use Rattle.routes.specs.Part.{is_run}
+use Rattle.routes.specs.Search.{first_route, found}
+use Rattle.routes.proofs.Part.{tested_most, tested_run}
+use Rattle.routes.proofs.Nearby.{nobody-near, start_inside}
 use Rattle.outlook.proofs.tell.Statement.{statement}
 use Rattle.outlook.proofs.tell.Tie as tie
 
@@ -22,22 +22,22 @@ none :
     (c : tie.Then1)
     → let s = c.before.before.before.before.before.before.before.before.before.args in
     let b = board s.p.now in
-    (found (firstRoute b s.f s.start s.n) ≡ false)
-    × (c.before.is-legal.result ≡ isRun b s.f s.start s.route.now)
+    (found (first_route b s.f s.start s.n) ≡ false)
+    × (c.before.is-legal.result ≡ is_run b s.f s.start s.route.now)
 none c =
     let l = c.before in
     let t = l.before.before in
     let k = t.before in
     let out = not-true k.finds.result c.if1.true in
     let e = sym k.finds.ensures ∙ out in
-    (e, l.is-legal.ensures ∙ tested-run _ _ _ _ _ e t.tested.ensures out)
+    (e, l.is-legal.ensures ∙ tested_run _ _ _ _ _ e t.tested.ensures out)
 
 -- one exists, and the test is that of a legal route
 some :
     (c : tie.Else1)
     → let s = c.before.before.before.before.before.before.before.before.before.args in
     let b = board s.p.now in
-    (found (firstRoute b s.f s.start s.n) ≡ c.before.before.before.before.finds.result)
+    (found (first_route b s.f s.start s.n) ≡ c.before.before.before.before.finds.result)
     × (c.before.is-legal.result ≡ legal b s.f s.start s.n s.route.now)
 some c =
     let l = c.before in
@@ -60,18 +60,18 @@ is-legal-requires : tie.Need-is-legal-requires
 is-legal-requires c κs =
     let t = c.before in
     let o = t.before.before.before.before.before.before in
-    (o.requires.0, o.requires.1, o.requires.3, omega (arith, o.requires.5, tested-most t.tested.ensures))
+    (o.requires.0, o.requires.1, o.requires.3, omega (arith, o.requires.5, tested_most t.tested.ensures))
 
 spot-requires : tie.Need-spot-requires
 spot-requires c κs =
-    let o = c.before.before.before.before.before.before.before.before.before in on-view o.requires.0 _ o.requires.3
+    let o = c.before.before.before.before.before.before.before.before.before in on_view o.requires.0 _ o.requires.3
 
 place-requires : tie.Need-place-requires
 place-requires c κs =
     let k = c.before in
     let o = k.before.before.before.before.before.before.before.before.before.before in
     let s = k.spot.ensures in
-    let i = start-inside o.requires.0 o.requires.1 o.requires.3 in
+    let i = start_inside o.requires.0 o.requires.1 o.requires.3 in
     (s.0, o.requires.1.round.ok, subst (Inside o.args.v.width o.args.v.height o.args.at) (sym s.1) i)
 
 near-requires : tie.Need-near-requires

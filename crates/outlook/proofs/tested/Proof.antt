@@ -2,17 +2,17 @@
 -- Assumes nothing.
 use mathlib.Core.Path.{refl}
 use native.Mathlib.Omega.{arith}
-use Rattle.position.proofs.Tallies.{not-both}
+use Rattle.position.proofs.Tallies.{not_both}
 use Rattle.outlook.proofs.tested.Statement.{statement}
 use Rattle.outlook.proofs.tested.Tie as tie
 
 returns : tie.Need-returns
 returns c =
-    record { owed = λ e. refl; own = λ e l. not-both _ c.if1.true e; most = λ e l. refl }
+    record { owed = λ e. refl; own = λ e l. not_both _ c.if1.true e; most = λ e l. refl }
 
 returns-2 : tie.Need-returns-2
 returns-2 c =
-    record { owed = λ e. not-both _ e c.before.if1.false; own = λ e l. refl; most = λ e l. absurd (omega arith) }
+    record { owed = λ e. not_both _ e c.before.if1.false; own = λ e l. refl; most = λ e l. absurd (omega arith) }
 
 returns-3 : tie.Need-returns-3
 returns-3 c =

@@ -2,7 +2,7 @@
 -- Assumes nothing.
 use mathlib.Core.Path.{sym, ap, ◌∙◌}
 use borrow.Author.Rules.{rules}
-use Rattle.ruling.specs.Answers.{answerAs}
+use Rattle.ruling.specs.Answers.{answer_as}
 use Rattle.ruling.specs.declared.Answer.{Answer}
 use Rattle.ruling.specs.Packed.{packed, values_of}
 use Rattle.packing.proofs.pack_answer.Statement.{statement}
@@ -19,11 +19,11 @@ refusal-requires c κs = search rules
 
 returns : tie.Need-returns
 unfolding packed values_of
-returns c = sym (ap (λ (a : Answer). packed (answerAs a)) c.enum_told.given.1)
+returns c = sym (ap (λ (a : Answer). packed (answer_as a)) c.enum_told.given.1)
 
 returns-2 : tie.Need-returns-2
 unfolding packed values_of
-returns-2 c = c.refusal.ensures ∙ sym (ap (λ (a : Answer). packed (answerAs a)) c.before.before.a.given.1)
+returns-2 c = c.refusal.ensures ∙ sym (ap (λ (a : Answer). packed (answer_as a)) c.before.before.a.given.1)
 
 pub pack-answer-spec : {M : Type 1} → statement M
 pack-answer-spec = tie.close (tie.spec enum_told enum-known-a refusal-requires returns returns-2)

@@ -2,7 +2,7 @@
 -- Assumes nothing.
 use mathlib.Core.Path.{sym, ap, ◌∙◌}
 use borrow.Author.Rules.{rules}
-use Rattle.battle.specs.Answers.{foughtAs}
+use Rattle.battle.specs.Answers.{fought_as}
 use Rattle.battle.specs.declared.Fought.{Fought}
 use Rattle.ruling.specs.Packed.{packed, values_of}
 use Rattle.packing.proofs.pack_fought.Statement.{statement}
@@ -28,11 +28,11 @@ refusal-requires c κs = search rules
 
 returns : tie.Need-returns
 unfolding packed values_of
-returns c = sym (ap (λ (a : Fought). packed (foughtAs a)) c.before.a.given.1)
+returns c = sym (ap (λ (a : Fought). packed (fought_as a)) c.before.a.given.1)
 
 returns-2 : tie.Need-returns-2
 unfolding packed values_of
-returns-2 c = c.refusal.ensures ∙ sym (ap (λ (a : Fought). packed (foughtAs a)) c.before.before.a2.given.1)
+returns-2 c = c.refusal.ensures ∙ sym (ap (λ (a : Fought). packed (fought_as a)) c.before.before.a2.given.1)
 
 pub pack-fought-spec : {M : Type 1} → statement M
 pack-fought-spec =

@@ -2,7 +2,7 @@
 -- Assumes nothing.
 use mathlib.Core.Path.{sym, ap, ◌∙◌}
 use borrow.Author.Rules.{rules}
-use Rattle.march.specs.Answers.{movedAs}
+use Rattle.march.specs.Answers.{moved_as}
 use Rattle.march.specs.declared.Moved.{Moved}
 use Rattle.ruling.specs.Packed.{packed, values_of}
 use Rattle.packing.proofs.pack_moved.Statement.{statement}
@@ -19,11 +19,11 @@ refusal-requires c κs = search rules
 
 returns : tie.Need-returns
 unfolding packed values_of
-returns c = sym (ap (λ (a : Moved). packed (movedAs a)) c.enum_told.given.1)
+returns c = sym (ap (λ (a : Moved). packed (moved_as a)) c.enum_told.given.1)
 
 returns-2 : tie.Need-returns-2
 unfolding packed values_of
-returns-2 c = c.refusal.ensures ∙ sym (ap (λ (a : Moved). packed (movedAs a)) c.before.before.a.given.1)
+returns-2 c = c.refusal.ensures ∙ sym (ap (λ (a : Moved). packed (moved_as a)) c.before.before.a.given.1)
 
 pub pack-moved-spec : {M : Type 1} → statement M
 pack-moved-spec = tie.close (tie.spec enum_told enum-known-a refusal-requires returns returns-2)

@@ -2,7 +2,7 @@
 -- Assumes nothing.
 use mathlib.Core.Path.{sym, ap, ◌∙◌}
 use borrow.Author.Rules.{rules}
-use Rattle.retreat.specs.Answers.{retreatedAs}
+use Rattle.retreat.specs.Answers.{retreated_as}
 use Rattle.retreat.specs.declared.Retreated.{Retreated}
 use Rattle.ruling.specs.Packed.{packed, values_of}
 use Rattle.packing.proofs.pack_retreated.Statement.{statement}
@@ -28,15 +28,15 @@ refusal-requires c κs = search rules
 
 returns : tie.Need-returns
 unfolding packed values_of
-returns c = sym (ap (λ (a : Retreated). packed (retreatedAs a)) c.before.a.given.1)
+returns c = sym (ap (λ (a : Retreated). packed (retreated_as a)) c.before.a.given.1)
 
 returns-2 : tie.Need-returns-2
 unfolding packed values_of
-returns-2 c = sym (ap (λ (a : Retreated). packed (retreatedAs a)) c.enum_told.given.1)
+returns-2 c = sym (ap (λ (a : Retreated). packed (retreated_as a)) c.enum_told.given.1)
 
 returns-3 : tie.Need-returns-3
 unfolding packed values_of
-returns-3 c = c.refusal.ensures ∙ sym (ap (λ (a : Retreated). packed (retreatedAs a)) c.before.before.a2.given.1)
+returns-3 c = c.refusal.ensures ∙ sym (ap (λ (a : Retreated). packed (retreated_as a)) c.before.before.a2.given.1)
 
 pub pack-retreated-spec : {M : Type 1} → statement M
 pack-retreated-spec =

@@ -2,7 +2,7 @@
 -- Assumes nothing.
 use mathlib.Core.Path.{refl}
 use borrow.Author.Rules.{rules}
-use Rattle.ruling.specs.Packed.{refusalOf}
+use Rattle.ruling.specs.Packed.{refusal_of}
 use Rattle.packing.proofs.refusal.Statement.{statement}
 use Rattle.packing.proofs.refusal.Tie as tie
 
@@ -13,7 +13,7 @@ add-result : tie.Need-overflow-add-result
 add-result c = search rules
 
 returns : tie.Need-returns
-unfolding refusalOf
+unfolding refusal_of
 returns c = refl
 
 pub refusal-spec : {M : Type 1} → statement M

@@ -1,15 +1,15 @@
 -- `look_in` meets its contract: the region of one hex has one byte.
 -- Assumes nothing.
 use native.Mathlib.Omega.{arith}
-use Rattle.position.proofs.Sides.{on-view}
-use Rattle.paint.proofs.Bytes.{blank-long, blank-all}
+use Rattle.position.proofs.Sides.{on_view}
+use Rattle.paint.proofs.Bytes.{blank_long, blank_all}
 use Rattle.paint.proofs.Units.{one-marked}
 use borrow.Author.Rules.{rules}
 use Rattle.paint.proofs.look_in.Statement.{statement}
 use Rattle.paint.proofs.look_in.Tie as tie
 
 spot-requires : tie.Need-spot-requires
-spot-requires c κs = on-view c.before.before.requires.0 _ c.before.before.requires.1
+spot-requires c κs = on_view c.before.before.requires.0 _ c.before.before.requires.1
 
 one-requires : tie.Need-one-requires
 one-requires c κs = c.spot.ensures.0
@@ -19,12 +19,12 @@ paint-blank-requires c κs =
     let outset = c.before.before.before.before.before in
     let k = c.before.one.ensures in (
       outset.requires.0,
-      record { region = k.ok; long = omega (arith, k.size, blank-long 1 outset.requires.2) },
-      blank-all 1 outset.requires.2,
+      record { region = k.ok; long = omega (arith, k.size, blank_long 1 outset.requires.2) },
+      blank_all 1 outset.requires.2,
     )
 
 slice-read-wide : tie.Need-slice-read-wide
-slice-read-wide c = omega (arith, blank-long 1 c.before.before.before.before.before.before.before.before.before.requires.2)
+slice-read-wide c = omega (arith, blank_long 1 c.before.before.before.before.before.before.before.before.before.requires.2)
 
 wide-requires : tie.Need-wide-requires
 wide-requires c κs = search rules

@@ -1,9 +1,9 @@
 -- `paint` meets its contract: the buffer is cleared first.
 -- Assumes nothing.
 use lib.ListN.{length}
-use Rattle.paint.proofs.Adding.{room-kept}
+use Rattle.paint.proofs.Adding.{room_kept}
 use borrow.Author.Rules.{rules}
-use Rattle.paint.proofs.Bytes.{blank-long, blank-all}
+use Rattle.paint.proofs.Bytes.{blank_long, blank_all}
 use Rattle.paint.proofs.paint.Statement.{statement}
 use Rattle.paint.proofs.paint.Tie as tie
 
@@ -15,7 +15,7 @@ paint-blank-requires c κs =
     let outset = c.before.before.before.before.before.before.before in
     let e = c.before.before.before.clear.ensures in
     let n = length outset.args.buf.now in
-    (outset.requires.0, room-kept outset.requires.1 (blank-long n e), blank-all n e)
+    (outset.requires.0, room_kept outset.requires.1 (blank_long n e), blank_all n e)
 
 same_length : tie.Need-same-length
 same_length c = search rules

@@ -3,17 +3,17 @@
 use lib.ListN.{length}
 use Rattle.position.specs.Board.{board}
 use Rattle.field.specs.Scene.{scene}
-use Rattle.position.proofs.Sides.{on-first}
+use Rattle.position.proofs.Sides.{on_first}
 use Rattle.paint.proofs.Units.{painted}
 use borrow.Author.Rules.{rules}
 use Rattle.paint.proofs.paint_blank.Statement.{statement}
 use Rattle.paint.proofs.paint_blank.Tie as tie
 
 first-requires : tie.Need-first-requires
-first-requires c κs = let outset = c.before.before in (on-first outset.requires.0, outset.requires.1.region)
+first-requires c κs = let outset = c.before.before in (on_first outset.requires.0, outset.requires.1.region)
 
 past-requires : tie.Need-past-requires
-past-requires c κs = let outset = c.before.before.before in (on-first outset.requires.0, outset.requires.1.region)
+past-requires c κs = let outset = c.before.before.before in (on_first outset.requires.0, outset.requires.1.region)
 
 paint-units-requires : tie.Need-paint-units-requires
 paint-units-requires c κs =

@@ -4,9 +4,9 @@ use mathlib.Core.Path.{◌∙◌}
 use native.Mathlib.Omega.{arith}
 use Rattle.position.specs.Board.{board}
 use Rattle.field.specs.Scene.{scene}
-use Rattle.position.proofs.Sides.{on-view, area-view}
-use Rattle.paint.proofs.Adding.{room-kept, adds_none, adds-as, adds-also}
-use Rattle.paint.proofs.Units.{unit-away, says-parts}
+use Rattle.position.proofs.Sides.{on_view, area_view}
+use Rattle.paint.proofs.Adding.{room_kept, adds_none, adds_as, adds_also}
+use Rattle.paint.proofs.Units.{unit-away, says_parts}
 use borrow.Author.Rules.{rules}
 use Rattle.paint.proofs.paint_unit.Statement.{statement}
 use Rattle.paint.proofs.paint_unit.Tie as tie
@@ -31,7 +31,7 @@ returns-2 c =
 spot-requires : tie.Need-spot-requires
 spot-requires c κs =
     let outset = c.before.before.before.before.before in
-    on-view outset.requires.0 _ (omega (arith, outset.requires.3.most, area-view outset.requires.0.view))
+    on_view outset.requires.0 _ (omega (arith, outset.requires.3.most, area_view outset.requires.0.view))
 
 aside-requires : tie.Need-aside-requires
 aside-requires c κs = (c.spot.ensures.0, c.before.before.before.before.before.before.requires.1.region)
@@ -54,7 +54,7 @@ cast-requires c κs =
     let outset = c.before.before.before.before.before.before.before.before.before.before.before.before.before in
     let o = c.before.before.before.before.before.before.before.spot.ensures in (
       outset.requires.0,
-      room-kept outset.requires.1 c.before.before.before.stand.ensures.long,
+      room_kept outset.requires.1 c.before.before.before.stand.ensures.long,
       record { spot = o.0; here = o.1 ∙ c.before.before.before.before.before.before.before.before.before.before.hex.ensures.is },
     )
 
@@ -65,7 +65,7 @@ returns-4 : tie.Need-returns-4
 returns-4 c =
     let a = c.before.before.before.before.before.before.before.before.before.before.before.before.before.before.before.before.args in
     let b = board a.p.now in
-    adds-as (adds-also c.before.before.before.before.before.before.stand.ensures c.before.before.cast.ensures) (λ k h i. says-parts (scene b) a.f a.u k h)
+    adds_as (adds_also c.before.before.before.before.before.before.stand.ensures c.before.before.cast.ensures) (λ k h i. says_parts (scene b) a.f a.u k h)
 
 pub paint-unit-spec : {M : Type 1} → statement M
 paint-unit-spec =

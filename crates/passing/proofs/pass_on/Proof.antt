@@ -3,10 +3,10 @@
 use native.Mathlib.Omega.{arith}
 use mathlib.Core.Path.{sym, ◌∙◌}
 use borrow.Author.Rules.{rules}
-use Rattle.position.proofs.Changes.{laid-make}
+use Rattle.position.proofs.Changes.{laid_make}
 use Rattle.position.specs.Change.Change.{staged}
 use Rattle.position.specs.Stage as Stage
-use Rattle.aftermath.proofs.Stages.{on-advances, on-later, on_quiet}
+use Rattle.aftermath.proofs.Stages.{on-advances, on_later, on_quiet}
 use Rattle.passing.proofs.pass_on.Statement.{statement}
 use Rattle.passing.proofs.pass_on.Tie as tie
 
@@ -17,7 +17,7 @@ same_length : tie.Need-same-length
 same_length c = search rules
 
 returns : tie.Need-returns
-returns c = on-later _ (λ e. c.if1.true (c.before.holders.ensures.is ∙ e))
+returns c = on_later _ (λ e. c.if1.true (c.before.holders.ensures.is ∙ e))
 
 holders-requires-2 : tie.Need-holders-requires-2
 holders-requires-2 c κs = search rules
@@ -38,7 +38,7 @@ set-stage-requires-2 : tie.Need-set-stage-requires-2
 set-stage-requires-2 c κs = (c.before.before.before.before.before.before.before.before.requires, omega arith, omega arith, omega arith)
 
 clear-routes-requires : tie.Need-clear-routes-requires
-clear-routes-requires c κs = rw c.before.before.before.set-stage2.ensures (laid-make c.before.before.before.before.before.before.before.before.before.before.before.before.requires (staged Stage.quiet 0 0))
+clear-routes-requires c κs = rw c.before.before.before.set-stage2.ensures (laid_make c.before.before.before.before.before.before.before.before.before.before.before.before.requires (staged Stage.quiet 0 0))
 
 same-length-3 : tie.Need-same-length-3
 same-length-3 c = search rules

@@ -4,7 +4,7 @@
 use Prim.Native.Nat.{◌-◌}
 use native.Mathlib.Omega.{arith}
 use borrow.Author.Rules.{rules}
-use Rattle.aftermath.proofs.Stages.{Renewing, renewing-all, renewing-more, renewing-none}
+use Rattle.aftermath.proofs.Stages.{Renewing, renewing-all, renewing-more, renewing_none}
 use Rattle.passing.proofs.reassign.Statement.{statement}
 use Rattle.passing.proofs.reassign.Tie as tie
 
@@ -15,7 +15,7 @@ abbrev decreases-loop : tie.decreases-loop
 decreases-loop p₀ v from to count u₀ p u = count - u
 
 loop-holds : tie.Need-loop-init invariant-loop decreases-loop
-loop-holds c = renewing-none c.before.requires.0
+loop-holds c = renewing_none c.before.requires.0
 
 reassign-one-requires : tie.Need-reassign-one-requires invariant-loop decreases-loop
 reassign-one-requires c κs = (c.before.before.loop.invariant.laid, c.before.before.before.before.requires.1)

@@ -2,7 +2,7 @@
 -- Assumes nothing.
 use mathlib.Core.Path.{sym, ◌∙◌}
 use borrow.Author.Rules.{rules}
-use Rattle.aftermath.proofs.Stages.{renew-other, renew-own}
+use Rattle.aftermath.proofs.Stages.{renew_other, renew_own}
 use Rattle.passing.proofs.reassign_one.Statement.{statement}
 use Rattle.passing.proofs.reassign_one.Tie as tie
 
@@ -13,7 +13,7 @@ same_length : tie.Need-same-length
 same_length c = search rules
 
 returns : tie.Need-returns
-returns c = renew-other _ _ _ _ (λ e. c.if1.true (c.before.role.ensures.is ∙ e))
+returns c = renew_other _ _ _ _ (λ e. c.if1.true (c.before.role.ensures.is ∙ e))
 
 assign-requires : tie.Need-assign-requires
 assign-requires c κs = (c.before.before.before.before.before.requires.0, c.before.before.before.before.before.requires.1)
@@ -22,7 +22,7 @@ same-length-2 : tie.Need-same-length-2
 same-length-2 c = search rules
 
 returns-2 : tie.Need-returns-2
-returns-2 c = renew-own _ _ _ _ (sym c.before.before.before.before.before.role.ensures.is ∙ c.before.before.before.before.if1.false) c.before.before.assign.ensures
+returns-2 c = renew_own _ _ _ _ (sym c.before.before.before.before.before.role.ensures.is ∙ c.before.before.before.before.if1.false) c.before.before.assign.ensures
 
 pub reassign-one-spec : {M : Type 1} → statement M
 reassign-one-spec =

@@ -1,4 +1,4 @@
-use Rattle.plot.proofs.Plots.{next-open, next-shut}
+use Rattle.plot.proofs.Plots.{next_open, next_shut}
 use Rattle.position.specs.Bits.{has}
 use mathlib.Core.Path.{sym, ap₂, ◌∙◌}
 use borrow.Author.Rules.{rules}
@@ -27,11 +27,11 @@ neighbour-requires c κs = search rules
 
 -- src/lib.rt:59:9
 returns : tie.Need-returns
-returns c = c.neighbour.ensures ∙ sym (next-open _ _ _ (ap₂ has (sym c.before.before.before.before.before.side-bit.ensures.0) (sym c.before.before.before.wide.ensures.is) ∙ sym c.before.before.has.ensures ∙ c.before.if1.true))
+returns c = c.neighbour.ensures ∙ sym (next_open _ _ _ (ap₂ has (sym c.before.before.before.before.before.side-bit.ensures.0) (sym c.before.before.before.wide.ensures.is) ∙ sym c.before.before.has.ensures ∙ c.before.if1.true))
 
 -- src/lib.rt:54:1
 returns-2 : tie.Need-returns-2
-returns-2 c = sym (next-shut _ _ _ (ap₂ has (sym c.before.before.before.before.side-bit.ensures.0) (sym c.before.before.wide.ensures.is) ∙ sym c.before.has.ensures ∙ c.if1.false))
+returns-2 c = sym (next_shut _ _ _ (ap₂ has (sym c.before.before.before.before.side-bit.ensures.0) (sym c.before.before.wide.ensures.is) ∙ sym c.before.has.ensures ∙ c.if1.false))
 
 pub next-in-spec : {M : Type 1} → statement M
 next-in-spec =

@@ -1,5 +1,5 @@
-use Rattle.plot.proofs.Plots.{stand-free, stand-loose, stand-shut}
-use Rattle.plot.specs.Plot.{standIn}
+use Rattle.plot.proofs.Plots.{stand_free, stand_loose, stand_shut}
+use Rattle.plot.specs.Plot.{stand_in}
 use mathlib.Core.Path.{sym}
 use native.Mathlib.Omega.{arith}
 use borrow.Author.Rules.{rules}
@@ -16,18 +16,18 @@ wide-requires c κs = search rules
 
 -- src/lib.rt:30:9
 returns : tie.Need-returns
-unfolding standIn
-returns c = sym (stand-free _ (omega (arith, c.before.wide.ensures.is)))
+unfolding stand_in
+returns c = sym (stand_free _ (omega (arith, c.before.wide.ensures.is)))
 
 -- src/lib.rt:33:9
 returns-2 : tie.Need-returns-2
-unfolding standIn
-returns-2 c = sym (stand-loose _ (omega (arith, c.before.before.wide.ensures.is)))
+unfolding stand_in
+returns-2 c = sym (stand_loose _ (omega (arith, c.before.before.wide.ensures.is)))
 
 -- src/lib.rt:24:1
 returns-3 : tie.Need-returns-3
-unfolding standIn
-returns-3 c = sym (stand-shut _ (λ e. omega (arith, c.before.before.wide.ensures.is)) (λ e. omega (arith, c.before.before.wide.ensures.is)))
+unfolding stand_in
+returns-3 c = sym (stand_shut _ (λ e. omega (arith, c.before.before.wide.ensures.is)) (λ e. omega (arith, c.before.before.wide.ensures.is)))
 
 pub stand-in-spec : {M : Type 1} → statement M
 stand-in-spec =

@@ -9,8 +9,8 @@ use native.Mathlib.Omega.{arith}
 use borrow.Author.Rules.{rules}
 use lib.ListN.{get_or}
 use Rattle.position.specs.Board.{board}
-use Rattle.battle.proofs.Lines.{Arming, arming-all, arming-hit, arming-miss, arming-none, traced-as}
-use Rattle.battle.specs.Line.{strengthOf}
+use Rattle.battle.proofs.Lines.{Arming, arming_all, arming-hit, arming-miss, arming_none, traced_as}
+use Rattle.battle.specs.Line.{strength_of}
 use Rattle.ranks.proofs.arm_by.Statement.{statement}
 use Rattle.ranks.proofs.arm_by.Tie as tie
 
@@ -21,7 +21,7 @@ abbrev decreases-loop : tie.decreases-loop
 decreases-loop p v nation who n printed fighting₀ map i₀ fighting i = n - i
 
 loop-holds : tie.Need-loop-init invariant-loop decreases-loop
-loop-holds c = arming-none c.before.before.requires.3
+loop-holds c = arming_none c.before.before.requires.3
 
 mul-word : tie.Need-overflow-mul-word invariant-loop decreases-loop
 mul-word c = omega (arith, c.before.before.before.before.requires.1)
@@ -47,7 +47,7 @@ armed-requires c κs =
       s.0,
       c.wide.ensures.small,
       rw c.before.before.before.before.word.ensures.is (s.2 c.before.before.before.before.before.before.before.loop.i (omega arith)),
-      traced-as (sym c.before.before.if1.true ∙ c.before.before.before.nationality.ensures.is) s.4,
+      traced_as (sym c.before.before.if1.true ∙ c.before.before.before.nationality.ensures.is) s.4,
     )
 
 cast-fighting : tie.Need-overflow-cast-fighting invariant-loop decreases-loop
@@ -67,12 +67,12 @@ loop-again c =
     let b = board c.before.before.before.before.before.before.before.before.args.p.now in
     let e : c.before.nationality.result ≡ b.units.counter.nationality (get_or c.before.before.before.before.before.before.before.before.args.who.now c.before.before.before.before.before.loop.i 0) = c.before.nationality.ensures.is ∙ ap b.units.counter.nationality c.before.before.word.ensures.is in
     ⊎_elim
-    (λ w. arming-hit c.before.before.before.before.before.before.before.before.requires.1 c.before.before.before.before.before.loop.invariant (omega arith) (sym e ∙ w.0.taken) (w.3.ensures.is ∙ ap₂ (strengthOf b) c.before.before.word.ensures.is w.2.ensures.is) w.4)
+    (λ w. arming-hit c.before.before.before.before.before.before.before.before.requires.1 c.before.before.before.before.before.loop.invariant (omega arith) (sym e ∙ w.0.taken) (w.3.ensures.is ∙ ap₂ (strength_of b) c.before.before.word.ensures.is w.2.ensures.is) w.4)
     (λ w. arming-miss c.before.before.before.before.before.before.before.before.requires.1 c.before.before.before.before.before.loop.invariant (omega arith) (λ z. w.0.left (e ∙ z)) w.1)
     c.if1.branch
 
 returns : tie.Need-returns invariant-loop decreases-loop
-returns c = arming-all c.before.loop.invariant (omega arith)
+returns c = arming_all c.before.loop.invariant (omega arith)
 
 pub arm-by-spec : {M : Type 1} → statement M
 arm-by-spec =

@@ -4,7 +4,7 @@ use Prim.Native.Nat.{◌-◌}
 use mathlib.Core.Path.{refl}
 use native.Mathlib.Omega.{arith}
 use borrow.Author.Rules.{rules}
-use Rattle.line.proofs.Filling.{filled-all, filled_more, filled_none}
+use Rattle.line.proofs.Filling.{filled_all, filled_more, filled_none}
 use Rattle.line.specs.Line.{Filled}
 use Rattle.battle.specs.Mustered.{drawn}
 use Rattle.ranks.proofs.draw_up.Statement.{statement}
@@ -51,7 +51,7 @@ unfolding drawn
 loop-again c = filled_more (omega (arith, c.before.before.before.before.before.before.requires.0)) c.before.before.before.before.loop.invariant refl refl
 
 returns : tie.Need-returns invariant-loop decreases-loop
-returns c = filled-all c.before.loop.invariant (omega arith)
+returns c = filled_all c.before.loop.invariant (omega arith)
 
 pub draw-up-spec : {M : Type 1} → statement M
 draw-up-spec =

@@ -4,7 +4,7 @@ use Prim.Native.Nat.{◌-◌}
 use mathlib.Core.Path.{refl}
 use native.Mathlib.Omega.{arith}
 use borrow.Author.Rules.{rules}
-use Rattle.battle.proofs.Lines.{Enlisting, enlist-all, enlist-more}
+use Rattle.battle.proofs.Lines.{Enlisting, enlist_all, enlist-more}
 use Rattle.ranks.proofs.enlist.Statement.{statement}
 use Rattle.ranks.proofs.enlist.Tie as tie
 
@@ -39,7 +39,7 @@ loop-again : tie.Need-loop-preserved invariant-loop decreases-loop
 loop-again c = enlist-more c.before.before.before.requires.0 c.before.before.loop.invariant (omega arith)
 
 returns : tie.Need-returns invariant-loop decreases-loop
-returns c = enlist-all c.before.loop.invariant (omega arith)
+returns c = enlist_all c.before.loop.invariant (omega arith)
 
 pub enlist-spec : {M : Type 1} → statement M
 enlist-spec =

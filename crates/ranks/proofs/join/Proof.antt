@@ -7,10 +7,10 @@ use native.Mathlib.Omega.{arith}
 use borrow.Author.Rules.{rules}
 use lib.ListN.{length}
 use Rattle.position.specs.Board.{board}
-use Rattle.field.proofs.Zones.{stands_here, stands-off}
+use Rattle.field.proofs.Zones.{stands_here, stands_off}
 use Rattle.field.specs.Scene.{scene}
-use Rattle.field.specs.Zone.{standsOn}
-use Rattle.battle.proofs.Lines.{Joining, joining-hit, joining-miss, joining-none, joining-room, joins-all}
+use Rattle.field.specs.Zone.{stands_on}
+use Rattle.battle.proofs.Lines.{Joining, joining-hit, joining-miss, joining_none, joining_room, joins-all}
 use Rattle.field.specs.Listed.{sieve}
 use Rattle.results.specs.Participants.{defenders}
 use Rattle.line.specs.Line.{places}
@@ -18,7 +18,7 @@ use Rattle.ranks.proofs.join.Statement.{statement}
 use Rattle.ranks.proofs.join.Tie as tie
 
 abbrev invariant-loop : tie.invariant-loop
-invariant-loop p v target m who₀ count n₀ u₀ who n u = Joining (standsOn (scene (board p)) target) who₀ m count who n u
+invariant-loop p v target m who₀ count n₀ u₀ who n u = Joining (stands_on (scene (board p)) target) who₀ m count who n u
 
 abbrev decreases-loop : tie.decreases-loop
 decreases-loop p v target m who₀ count n₀ u₀ who n u = count - u
@@ -26,7 +26,7 @@ decreases-loop p v target m who₀ count n₀ u₀ who n u = count - u
 -- there is room for all that stand there
 room : (c : tie.Start invariant-loop decreases-loop) →
     let a = c.args in
-    a.m + length (sieve (standsOn (scene (board a.p.now)) a.target) a.v.count) ≤ places
+    a.m + length (sieve (stands_on (scene (board a.p.now)) a.target) a.v.count) ≤ places
 unfolding defenders
 room c = rw c.requires.0.view.count c.requires.1
 
@@ -34,10 +34,10 @@ room c = rw c.requires.0.view.count c.requires.1
 place : (c : tie.Then1 invariant-loop decreases-loop) → c.before.before.before.loop.n < places
 place c =
     let k = c.before.before.before in
-    joining-room k.loop.invariant (omega arith) (room k.before.before) (stands_here _ _ _ (sym c.before.hex.ensures.is ∙ c.if1.true))
+    joining_room k.loop.invariant (omega arith) (room k.before.before) (stands_here _ _ _ (sym c.before.hex.ensures.is ∙ c.if1.true))
 
 loop-holds : tie.Need-loop-init invariant-loop decreases-loop
-loop-holds c = joining-none c.before.requires.2
+loop-holds c = joining_none c.before.requires.2
 
 hex-requires : tie.Need-hex-requires invariant-loop decreases-loop
 hex-requires c κs = search rules
@@ -64,7 +64,7 @@ loop-again : tie.Need-loop-preserved invariant-loop decreases-loop
 loop-again c =
     ⊎_elim
     (λ w. joining-hit c.before.before.before.loop.invariant (omega arith) (room c.before.before.before.before.before) (stands_here _ _ _ (sym c.before.hex.ensures.is ∙ w.0.taken)) w.1 w.2)
-    (λ w. joining-miss c.before.before.before.loop.invariant (omega arith) (stands-off _ _ _ (λ e. w.0.left (c.before.hex.ensures.is ∙ e))) w.1 w.2)
+    (λ w. joining-miss c.before.before.before.loop.invariant (omega arith) (stands_off _ _ _ (λ e. w.0.left (c.before.hex.ensures.is ∙ e))) w.1 w.2)
     c.if1.branch
 
 returns : tie.Need-returns invariant-loop decreases-loop

@@ -6,7 +6,7 @@ use mathlib.Core.Path.{◌∙◌, ap, refl}
 use native.Mathlib.Omega.{arith}
 use borrow.Author.Rules.{rules}
 use Rattle.position.specs.Layout.{strength}
-use Rattle.battle.proofs.Lines.{Printing, printing-more, prints-all}
+use Rattle.battle.proofs.Lines.{Printing, printing-more, prints_all}
 use Rattle.ranks.proofs.strengths.Statement.{statement}
 use Rattle.ranks.proofs.strengths.Tie as tie
 
@@ -47,7 +47,7 @@ loop-again : tie.Need-loop-preserved invariant-loop decreases-loop
 loop-again c = printing-more c.before.before.before.before.before.before.requires.2 c.before.before.before.before.before.before.requires.1 c.before.before.before.before.loop.invariant (omega arith) (c.strength.ensures.is ∙ ap (strength c.before.before.before.before.before.before.args.p.now) c.before.word.ensures.is)
 
 returns : tie.Need-returns invariant-loop decreases-loop
-returns c = prints-all c.before.loop.invariant (omega arith)
+returns c = prints_all c.before.loop.invariant (omega arith)
 
 pub strengths-spec : {M : Type 1} → statement M
 strengths-spec =

@@ -6,15 +6,15 @@ use native.Mathlib.Omega.{arith}
 use borrow.Author.Rules.{rules}
 use borrow.Author.Tests.{eq-eqb, ne_eqb}
 use lib.Dec.{eqb}
-use Rattle.position.proofs.Tallies.{any-true}
+use Rattle.position.proofs.Tallies.{any_true}
 use Rattle.position.specs.Board.{board}
-use Rattle.battle.specs.Mustered.{nationAt}
+use Rattle.battle.specs.Mustered.{nation_at}
 use Rattle.field.proofs.Zones.{None, none_yet, one_more, none_at_all}
 use Rattle.ranks.proofs.takes_part.Statement.{statement}
 use Rattle.ranks.proofs.takes_part.Tie as tie
 
 abbrev invariant-loop : tie.invariant-loop
-invariant-loop p v nation who n i₀ i = None (nationAt (board p) nation who) i n
+invariant-loop p v nation who n i₀ i = None (nation_at (board p) nation who) i n
 
 abbrev decreases-loop : tie.decreases-loop
 decreases-loop p v nation who n i₀ i = n - i
@@ -23,8 +23,8 @@ decreases-loop p v nation who n i₀ i = n - i
 of-nation : (c : tie.After-nationality invariant-loop decreases-loop) →
     let k = c.before.before.before.before in
     let a = k.before.before.args in
-    nationAt (board a.p.now) a.nation a.who.now k.loop.i ≡ eqb c.nationality.result a.nation
-unfolding nationAt
+    nation_at (board a.p.now) a.nation a.who.now k.loop.i ≡ eqb c.nationality.result a.nation
+unfolding nation_at
 of-nation c =
     let a = c.before.before.before.before.before.before.args in
     ap (λ (x : ℕ). eqb x a.nation) (sym (c.nationality.ensures.is ∙ ap (board a.p.now).units.counter.nationality c.before.word.ensures.is))
@@ -45,7 +45,7 @@ nationality-requires : tie.Need-nationality-requires invariant-loop decreases-lo
 nationality-requires c κs = search rules
 
 returns : tie.Need-returns invariant-loop decreases-loop
-returns c = sym (any-true _ _ c.before.before.before.before.before.loop.i (omega arith) (of-nation c.before ∙ eq-eqb c.before.nationality.result c.before.before.before.before.before.before.before.args.nation c.if1.true))
+returns c = sym (any_true _ _ c.before.before.before.before.before.loop.i (omega arith) (of-nation c.before ∙ eq-eqb c.before.nationality.result c.before.before.before.before.before.before.before.args.nation c.if1.true))
 
 add-i : tie.Need-overflow-add-i invariant-loop decreases-loop
 add-i c = search rules

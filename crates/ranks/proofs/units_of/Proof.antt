@@ -4,7 +4,7 @@ use Prim.Native.Nat.{◌-◌}
 use mathlib.Core.Path.{refl}
 use native.Mathlib.Omega.{arith}
 use borrow.Author.Rules.{rules}
-use Rattle.battle.proofs.Lines.{names-all, names_more, names-none}
+use Rattle.battle.proofs.Lines.{names_all, names_more, names_none}
 use Rattle.battle.specs.Mustered.{Names}
 use Rattle.ranks.proofs.units_of.Statement.{statement}
 use Rattle.ranks.proofs.units_of.Tie as tie
@@ -16,7 +16,7 @@ abbrev decreases-loop : tie.decreases-loop
 decreases-loop n who₀ fighters i₀ who i = n - i
 
 loop-holds : tie.Need-loop-init invariant-loop decreases-loop
-loop-holds c = names-none c.requires.1
+loop-holds c = names_none c.requires.1
 
 mul-f : tie.Need-overflow-mul-f invariant-loop decreases-loop
 mul-f c = search rules
@@ -40,7 +40,7 @@ loop-again : tie.Need-loop-preserved invariant-loop decreases-loop
 loop-again c = names_more (omega (arith, c.before.before.before.requires.0)) c.before.before.loop.invariant refl refl
 
 returns : tie.Need-returns invariant-loop decreases-loop
-returns c = names-all c.before.loop.invariant (omega arith)
+returns c = names_all c.before.loop.invariant (omega arith)
 
 pub units-of-spec : {M : Type 1} → statement M
 units-of-spec =

@@ -6,10 +6,10 @@ use borrow.Author.Rules.{rules}
 use Rattle.position.specs.Board.{board}
 use Rattle.ruling.specs.Judged.{Passes, TestedOf}
 use Rattle.retreat.specs.declared.Fate.{Fate}
-use Rattle.retreat.specs.Retreat.{RetreatNow, groupChecks}
-use Rattle.retreat.proofs.Fates.{FateSays, fate-says}
-use Rattle.retreat.proofs.Groups.{owed-of, small-hex}
-use Rattle.retreat.proofs.Rulings.{ends-doomed, ends-going, stops-group, stops-pushes, stops-route}
+use Rattle.retreat.specs.Retreat.{RetreatNow, group_checks}
+use Rattle.retreat.proofs.Fates.{FateSays, fate_says}
+use Rattle.retreat.proofs.Groups.{owed_of, small_hex}
+use Rattle.retreat.proofs.Rulings.{ends-doomed, ends-going, stops-group, stops-pushes, stops_route}
 use Rattle.retreating.proofs.retreat.Statement.{statement}
 use Rattle.retreating.proofs.retreat.Tie as tie
 
@@ -17,7 +17,7 @@ use Rattle.retreating.proofs.retreat.Tie as tie
 asked :
     (c : tie.After-enum-told)
     → let s = c.before.before.before.before.before.before.before.args in
-    Passes s.p.now (groupChecks (board s.p.now) s.hex s.route.now s.pushes.now) × RetreatNow (board s.p.now) s.hex
+    Passes s.p.now (group_checks (board s.p.now) s.hex s.route.now s.pushes.now) × RetreatNow (board s.p.now) s.hex
 asked c = subst (TestedOf _ _ _) c.enum_told.given.1 c.before.before.judge-group.ensures
 
 -- what the group's fate says
@@ -25,7 +25,7 @@ said :
     (c : tie.After-decide) {f : Fate} → c.decide.result ≡ f
     → let s = c.before.before.before.before.before.before.before.before.before.args in
     FateSays (board s.p.now) s.hex s.route.now s.pushes.now f
-said c e = subst (FateSays _ _ _ _) (sym c.decide.ensures ∙ e) (fate-says _ _ _ _)
+said c e = subst (FateSays _ _ _ _) (sym c.decide.ensures ∙ e) (fate_says _ _ _ _)
 
 judge-group-requires : tie.Need-judge-group-requires
 judge-group-requires c κs = c.before.before.before.before.requires.0
@@ -46,14 +46,14 @@ decide-requires : tie.Need-decide-requires
 decide-requires c κs =
     let s = c.before.before.before.before.before.before.before.before.requires in
     let g = (asked c.before).1 in
-    let o = owed-of s.1 g in
+    let o = owed_of s.1 g in
     (s.0, omega (arith, g.there, s.0.view.hexes), o.low, o.high)
 
 enum-told-2 : tie.Need-enum-told-2
 enum-told-2 c = search rules
 
 fall-requires : tie.Need-fall-requires
-fall-requires c κs = (c.before.before.before.before.before.before.before.before.before.before.before.before.requires.0, small-hex c.before.before.before.before.before.before.before.before.before.before.before.before.requires.0 (asked c.before.before.before.before.before).1)
+fall-requires c κs = (c.before.before.before.before.before.before.before.before.before.before.before.before.requires.0, small_hex c.before.before.before.before.before.before.before.before.before.before.before.before.requires.0 (asked c.before.before.before.before.before).1)
 
 enum-told-3 : tie.Need-enum-told-3
 enum-told-3 c = search rules
@@ -68,7 +68,7 @@ go-off-requires : tie.Need-go-off-requires
 go-off-requires c κs =
     let s = c.before.before.before.before.before.before.before.before.before.before.before.before.requires in
     let g = (asked c.before.before.before.before.before).1 in
-    (s.0, small-hex s.0 g, (owed-of s.1 g).low)
+    (s.0, small_hex s.0 g, (owed_of s.1 g).low)
 
 enum-told-6 : tie.Need-enum-told-6
 enum-told-6 c = search rules
@@ -77,7 +77,7 @@ push-off-requires : tie.Need-push-off-requires
 push-off-requires c κs =
     let s = c.before.before.before.before.before.before.before.before.before.before.before.before.requires in
     let g = (asked c.before.before.before.before.before).1 in
-    (s.0, small-hex s.0 g, (owed-of s.1 g).low)
+    (s.0, small_hex s.0 g, (owed_of s.1 g).low)
 
 same-length-2 : tie.Need-same-length-2
 same-length-2 c = search rules
@@ -90,7 +90,7 @@ same-length-3 : tie.Need-same-length-3
 same-length-3 c = search rules
 
 returns-3 : tie.Need-returns-3
-returns-3 c = stops-route _ _ _ (asked c.before.before.before.before).0 (said c.before.before c.enum-told3.given.1)
+returns-3 c = stops_route _ _ _ (asked c.before.before.before.before).0 (said c.before.before c.enum-told3.given.1)
 
 same-length-4 : tie.Need-same-length-4
 same-length-4 c = search rules

@@ -6,16 +6,16 @@ use mathlib.Core.List.{List}
 use native.Mathlib.Omega.{arith}
 use borrow.Author.Rules.{rules}
 use Rattle.position.specs.Layout.{role}
-use Rattle.position.specs.Board.{board, forceOf}
+use Rattle.position.specs.Board.{board, force_of}
 use Rattle.position.proofs.Answers.{said, unsaid, Passed, none_yet, one_more, all}
 use Rattle.flaw.specs.Flaw.{Breaks}
-use Rattle.flaw.proofs.Tellings.{fine, line_small, broken-there}
-use Rattle.acceptance.proofs.Roles.{a-stranger}
+use Rattle.flaw.proofs.Tellings.{fine, line_small, broken_there}
+use Rattle.acceptance.proofs.Roles.{a_stranger}
 use Rattle.roles.proofs.all_of.Statement.{statement}
 use Rattle.roles.proofs.all_of.Tie as tie
 
 abbrev IsOf : List ℕ → ℕ → ℕ → ℕ → Type 0
-IsOf p r f u = role p u ≡ r → forceOf (board p) u ≡ f
+IsOf p r f u = role p u ≡ r → force_of (board p) u ≡ f
 
 abbrev invariant-loop : tie.invariant-loop
 invariant-loop p v r f line count u₀ u = Passed (IsOf p r f) u count
@@ -25,7 +25,7 @@ decreases-loop p v r f line count u₀ u = count - u
 
 stranger : (c : tie.Then1 invariant-loop decreases-loop) → Breaks c.before.before.before.before.before.args.p.now c.before.before.before.loop.u c.before.before.before.before.before.args.line
 stranger c =
-    a-stranger (unsaid c.before.is-of.result c.if1.true c.before.is-of.ensures)
+    a_stranger (unsaid c.before.is-of.result c.if1.true c.before.is-of.ensures)
     (c.before.before.before.before.before.requires.1 c.before.before.before.loop.u (omega (arith, c.before.before.before.before.before.requires.0.view.count)))
 
 loop-holds : tie.Need-loop-init invariant-loop decreases-loop
@@ -41,7 +41,7 @@ add-result : tie.Need-overflow-add-result invariant-loop decreases-loop
 add-result c = omega (arith, c.before.before.before.before.before.requires.0.fits.count, line_small (stranger c))
 
 returns : tie.Need-returns invariant-loop decreases-loop
-returns c = broken-there (stranger c)
+returns c = broken_there (stranger c)
 
 add-u : tie.Need-overflow-add-u invariant-loop decreases-loop
 add-u c = search rules

@@ -3,9 +3,9 @@
 use mathlib.Core.Path.{refl}
 use native.Mathlib.Omega.{arith}
 use borrow.Author.Rules.{rules}
-use Rattle.acceptance.proofs.Roles.{nobody, stand-apart}
+use Rattle.acceptance.proofs.Roles.{nobody, stand_apart}
 use Rattle.flaw.specs.Flaw as Flaw
-use Rattle.flaw.proofs.Tellings.{fine, broken-there}
+use Rattle.flaw.proofs.Tellings.{fine, broken_there}
 use Rattle.roles.proofs.apart.Statement.{statement}
 use Rattle.roles.proofs.apart.Tie as tie
 
@@ -29,14 +29,14 @@ add-result c = omega (arith, c.before.before.before.before.before.before.require
 
 returns-3 : tie.Need-returns-3
 returns-3 c =
-    broken-there
-    (Flaw.rolesApart refl (omega arith) (c.before.before.before.before.before.before.requires.1.1.holds (omega arith))
+    broken_there
+    (Flaw.roles_apart refl (omega arith) (c.before.before.before.before.before.before.requires.1.1.holds (omega arith))
     (λ t. t c.before.before.before.before.before.before.args.u (omega arith) (c.before.before.before.before.before.before.requires.1.0.holds (omega arith)) (omega arith)))
 
 returns-4 : tie.Need-returns-4
 returns-4 c =
     fine
-    (stand-apart c.before.before.before.before.before.before.requires.1.0 c.before.before.before.before.before.before.requires.1.1 (omega arith) (omega arith) c.before.before.before.before.before.before.requires.0.1 c.before.before.before.before.before.before.requires.0.2
+    (stand_apart c.before.before.before.before.before.before.requires.1.0 c.before.before.before.before.before.before.requires.1.1 (omega arith) (omega arith) c.before.before.before.before.before.before.requires.0.1 c.before.before.before.before.before.before.requires.0.2
     (λ e. c.if3.false (omega arith)))
 
 pub apart-spec : {M : Type 1} → statement M

@@ -14,13 +14,13 @@ holder-requires-2 : tie.Need-holder-requires-2
 holder-requires-2 c κs = search rules
 
 one-force-requires : tie.Need-one-force-requires
-one-force-requires c κs = ((c.before.before.before.requires, c.before.holder.ensures), λ w l e n. Flaw.owingForce refl l e n)
+one-force-requires c κs = ((c.before.before.before.requires, c.before.holder.ensures), λ w l e n. Flaw.owing_force refl l e n)
 
 returns : tie.Need-returns
 returns c = passed_on c.before.one-force.ensures c.if1.true
 
 one-force-requires-2 : tie.Need-one-force-requires-2
-one-force-requires-2 c κs = ((c.before.before.before.before.before.requires, c.before.before.holder2.ensures), λ w l e n. Flaw.advancingForce refl l e n)
+one-force-requires-2 c κs = ((c.before.before.before.before.before.requires, c.before.before.holder2.ensures), λ w l e n. Flaw.advancing_force refl l e n)
 
 returns-2 : tie.Need-returns-2
 returns-2 c = passed_on c.before.one-force2.ensures c.if2.true

@@ -2,7 +2,7 @@
 -- Assumes nothing.
 use borrow.Author.Rules.{rules}
 use Rattle.ruling.proofs.Checks.{checked, unchecked, whole}
-use Rattle.rules.specs.Order.{ruleOf}
+use Rattle.rules.specs.Order.{rule_of}
 use Rattle.rules.proofs.advance.Statement.{statement}
 use Rattle.rules.proofs.advance.Tie as tie
 
@@ -28,7 +28,7 @@ same-length-2 : tie.Need-same-length-2
 same-length-2 c = search rules
 
 returns-2 : tie.Need-returns-2
-unfolding ruleOf
+unfolding rule_of
 returns-2 c = checked (whole c.before.before.before.before.before.before.before.check.ensures c.before.before.before.before.before.v.given.1).0 c.before.before.advance.ensures
 
 pub advance-spec : {M : Type 1} → statement M

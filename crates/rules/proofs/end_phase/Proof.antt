@@ -2,7 +2,7 @@
 -- Assumes nothing.
 use borrow.Author.Rules.{rules}
 use Rattle.ruling.proofs.Checks.{checked, unchecked, whole}
-use Rattle.rules.specs.Order.{ruleOf}
+use Rattle.rules.specs.Order.{rule_of}
 use Rattle.rules.proofs.end_phase.Statement.{statement}
 use Rattle.rules.proofs.end_phase.Tie as tie
 
@@ -31,7 +31,7 @@ same-length-3 : tie.Need-same-length-3
 same-length-3 c = search rules
 
 returns-2 : tie.Need-returns-2
-unfolding ruleOf
+unfolding rule_of
 returns-2 c = checked (whole c.before.before.before.before.before.before.before.before.before.before.check.ensures c.before.before.before.before.before.before.before.before.v.given.1).0 c.before.before.before.before.end-phase.ensures
 
 pub end-phase-spec : {M : Type 1} → statement M

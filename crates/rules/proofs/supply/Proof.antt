@@ -2,7 +2,7 @@
 -- Assumes nothing.
 use borrow.Author.Rules.{rules}
 use Rattle.ruling.proofs.Checks.{checked, unchecked, whole}
-use Rattle.rules.specs.Order.{ruleOf}
+use Rattle.rules.specs.Order.{rule_of}
 use Rattle.rules.proofs.supply.Statement.{statement}
 use Rattle.rules.proofs.supply.Tie as tie
 
@@ -25,7 +25,7 @@ same_length : tie.Need-same-length
 same_length c = search rules
 
 returns-2 : tie.Need-returns-2
-unfolding ruleOf
+unfolding rule_of
 returns-2 c = checked (whole c.before.before.before.before.before.before.before.check.ensures c.before.before.before.before.before.v.given.1).0 c.before.before.supply.ensures
 
 pub supply-spec : {M : Type 1} → statement M

@@ -9,12 +9,12 @@ use borrow.Fn.PlainCycle.{Measures, is, falls, and}
 use borrow.Author.Rules.{rules}
 use borrow.Author.Tests.{not-false, not-true}
 use lib.ListN.{length}
-use Rattle.position.proofs.Tallies.{any-zero}
-use Rattle.plot.proofs.Plots.{next-below, shifted-long}
-use Rattle.plot.proofs.Ends.{close-self}
-use Rattle.plot.proofs.Searching.{Unserved, Unended, blank, gathered, on-plot}
-use Rattle.plot.proofs.Searching.{over-far, over-free, over-loose, over-shut, served, serves-done, serves-last, put_back, shoved}
-use Rattle.plot.proofs.Searching.{unended, unended-not, unended-with, unserved, unserved-off, unserved-over}
+use Rattle.position.proofs.Tallies.{any_zero}
+use Rattle.plot.proofs.Plots.{next_below, shifted_long}
+use Rattle.plot.proofs.Ends.{close_self}
+use Rattle.plot.proofs.Searching.{Unserved, Unended, blank, gathered, on_plot}
+use Rattle.plot.proofs.Searching.{over_far, over_free, over_loose, over_shut, served, serves_done, serves_last, put_back, shoved}
+use Rattle.plot.proofs.Searching.{unended, unended_not, unended-with, unserved, unserved_off, unserved-over}
 use Rattle.search.proofs.go_on.Reads as go_on
 use Rattle.search.proofs.go_on.Kinds as go-on-kinds
 use Rattle.search.proofs.+go_on_over_serves_shoves_with_end_with_ends.Lts-go_on as go-on-lts
@@ -103,10 +103,10 @@ abbrev go-on-claims : ℕ → go-on-lts.Claims
 go-on-claims t = (last-reads.Asked, last-reads.Learnt, serves-below t, serves.Post)
 
 go-on-returns : (t : ℕ) → go-on-lts.Need-returns (go-on-claims t) (go-on-at t) go_on.Post
-go-on-returns t c = (sym (serves-done _ _ _ _ _ c.if1.true), refl)
+go-on-returns t c = (sym (serves_done _ _ _ _ _ c.if1.true), refl)
 
 go-on-returns-2 : (t : ℕ) → go-on-lts.Need-returns-2 (go-on-claims t) (go-on-at t) go_on.Post
-go-on-returns-2 t c = (c.last.ensures ∙ serves-last _ _ _ _ _ c.before.before.if2.true, refl)
+go-on-returns-2 t c = (c.last.ensures ∙ serves_last _ _ _ _ _ c.before.before.if2.true, refl)
 
 abbrev over-claims : ℕ → over-lts.Claims
 over-claims t = (
@@ -121,10 +121,10 @@ over-claims t = (
 )
 
 over-distance-requires : (t : ℕ) → over-lts.Need-distance-requires (over-claims t) (over-at t) over.Post
-over-distance-requires t c κs = (on-plot _ c.requires.1.1, on-plot _ c.requires.1.3)
+over-distance-requires t c κs = (on_plot _ c.requires.1.1, on_plot _ c.requires.1.3)
 
 over-returns : (t : ℕ) → over-lts.Need-returns (over-claims t) (over-at t) over.Post
-over-returns t c = (sym (over-far _ _ _ _ _ _ (λ e. c.if1.true (c.before.distance.ensures ∙ e))), refl)
+over-returns t c = (sym (over_far _ _ _ _ _ _ (λ e. c.if1.true (c.before.distance.ensures ∙ e))), refl)
 
 over-stand-in-requires : (t : ℕ) → over-lts.Need-stand-in-requires (over-claims t) (over-at t) over.Post
 over-stand-in-requires t c κs = (c.before.before.before.requires.1.0, c.before.before.before.requires.1.3)
@@ -138,14 +138,14 @@ over-shoves-requires t c κs = (omega arith, c.before.before.before.before.befor
 
 over-returns-2 : (t : ℕ) → over-lts.Need-returns-2 (over-claims t) (over-at t) over.Post
 over-returns-2 t c = (
-  sym (over-shut _ _ _ _ _ _ (sym c.before.before.before.before.before.distance.ensures
+  sym (over_shut _ _ _ _ _ _ (sym c.before.before.before.before.before.distance.ensures
       ∙ c.before.before.before.before.if1.false) (sym c.before.before.stand-in.ensures ∙ c.enum_told.given.1)),
   refl,
 )
 
 over-returns-3 : (t : ℕ) → over-lts.Need-returns-3 (over-claims t) (over-at t) over.Post
 over-returns-3 t c = (
-  c.go_on.ensures.0 ∙ sym (over-free _ _ _ _ _ _
+  c.go_on.ensures.0 ∙ sym (over_free _ _ _ _ _ _
       (sym c.before.before.before.before.before.before.before.distance.ensures
       ∙ c.before.before.before.before.before.before.if1.false)
       (sym c.before.before.before.before.stand-in.ensures
@@ -155,7 +155,7 @@ over-returns-3 t c = (
 
 over-returns-4 : (t : ℕ) → over-lts.Need-returns-4 (over-claims t) (over-at t) over.Post
 over-returns-4 t c = (
-  c.shoves.ensures.0 ∙ sym (over-loose _ _ _ _ _ _
+  c.shoves.ensures.0 ∙ sym (over_loose _ _ _ _ _ _
       (sym c.before.before.before.before.before.before.before.distance.ensures
       ∙ c.before.before.before.before.before.before.if1.false)
       (sym c.before.before.before.before.stand-in.ensures
@@ -173,7 +173,7 @@ abbrev serves-claims : ℕ → serves-lts.Claims
 serves-claims t = (next-in-reads.Asked, next-in-reads.Learnt, over_below t, over.Post)
 
 serves-loop-holds : (t : ℕ) → serves-lts.Need-loop-init (serves-claims t) (serves-at t) serves.Post serves-Inv-loop serves-μ-loop
-serves-loop-holds t c = record { same = refl; most = omega arith; none = any-zero _ }
+serves-loop-holds t c = record { same = refl; most = omega arith; none = any_zero _ }
 
 serves-next-in-requires : (t : ℕ) → serves-lts.Need-next-in-requires (serves-claims t)
     (serves-at t) serves.Post serves-Inv-loop serves-μ-loop
@@ -184,7 +184,7 @@ serves-next-in-requires t c κs = (
 )
 
 serves-loop-again : (t : ℕ) → serves-lts.Need-loop-preserved (serves-claims t) (serves-at t) serves.Post serves-Inv-loop serves-μ-loop
-serves-loop-again t c = unserved-off c.before.before.before.before.before.loop.invariant (omega arith)
+serves-loop-again t c = unserved_off c.before.before.before.before.before.loop.invariant (omega arith)
     (sym c.before.before.next-in.ensures ∙ c.enum_told.given.1)
 
 serves-sub-over : (t : ℕ) → serves-lts.Need-overflow-sub-over (serves-claims t) (serves-at t) serves.Post serves-Inv-loop serves-μ-loop
@@ -197,7 +197,7 @@ serves-over-requires t c κs = let p = c.before.before.before.before.before.befo
     ap length c.before.before.before.before.before.before.before.loop.invariant.same ∙ p.0,
     p.1,
     p.2,
-    next-below _ _ _ _ (sym c.before.before.before.before.next-in.ensures ∙ c.before.before.x.given.1),
+    next_below _ _ _ _ (sym c.before.before.before.before.next-in.ensures ∙ c.before.before.x.given.1),
     omega arith,
   ),
 )
@@ -235,7 +235,7 @@ with-end-shift-requires t c κs = let p = c.before.before.before.requires.1 in (
 
 with-end-go-on-requires : (t : ℕ) → with-end-lts.Need-go-on-requires (with-end-claims t) (with-end-at t) with-end.Post
 with-end-go-on-requires t c κs = let p = c.before.before.before.before.before.requires.1 in
-    (omega arith, (ap length c.before.shift.ensures ∙ shifted-long _ _ _ ∙ p.0, p.1, p.2, omega arith))
+    (omega arith, (ap length c.before.shift.ensures ∙ shifted_long _ _ _ ∙ p.0, p.1, p.2, omega arith))
 
 with-end-element-write-plot : (t : ℕ) → with-end-lts.Need-element-write-plot (with-end-claims t) (with-end-at t) with-end.Post
 with-end-element-write-plot t c = search rules
@@ -270,7 +270,7 @@ with-ends-claims t = (
 with-ends-gather-requires : (t : ℕ) → with-ends-lts.Need-gather-requires (with-ends-claims t)
     (with-ends-at t) with-ends.Post with-ends-Inv-loop with-ends-μ-loop
 with-ends-gather-requires t c κs = let p = c.before.before.before.requires.1 in
-    (p.0, p.1.long, p.4, omega arith, c.before.before.own.ensures.1, close-self _ p.4)
+    (p.0, p.1.long, p.4, omega arith, c.before.before.own.ensures.1, close_self _ p.4)
 
 with-ends-loop-holds : (t : ℕ) → with-ends-lts.Need-loop-init (with-ends-claims t)
     (with-ends-at t) with-ends.Post with-ends-Inv-loop with-ends-μ-loop
@@ -282,7 +282,7 @@ with-ends-loop-holds t c = let p = c.before.before.before.before.requires.1 in
       told = gathered _ c.before.before.before.own.ensures.0 c.gather.ensures
           p.1 p.4;
       most = omega arith;
-      none = any-zero _;
+      none = any_zero _;
     }
 
 with-ends-ends-in-requires : (t : ℕ) → with-ends-lts.Need-ends-in-requires (with-ends-claims t)
@@ -296,7 +296,7 @@ with-ends-ends-in-requires t c κs = (
 
 with-ends-loop-again : (t : ℕ) → with-ends-lts.Need-loop-preserved (with-ends-claims t)
     (with-ends-at t) with-ends.Post with-ends-Inv-loop with-ends-μ-loop
-with-ends-loop-again t c = unended-not c.before.before.before.before.loop.invariant (omega arith) (sym c.before.ends-in.ensures
+with-ends-loop-again t c = unended_not c.before.before.before.before.loop.invariant (omega arith) (sym c.before.ends-in.ensures
     ∙ not-true _ c.if1.true)
 
 with-ends-with-end-requires : (t : ℕ) → with-ends-lts.Need-with-end-requires (with-ends-claims t)

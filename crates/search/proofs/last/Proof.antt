@@ -4,9 +4,9 @@ use Prim.Native.Nat.{◌-◌}
 use mathlib.Core.Path.{refl, sym, ◌∙◌}
 use native.Mathlib.Omega.{arith}
 use borrow.Author.Rules.{rules}
-use Rattle.position.proofs.Tallies.{any-zero}
-use Rattle.plot.proofs.Plots.{next-below}
-use Rattle.plot.proofs.Searching.{Unserved, served, unserved, unserved-off, unserved-over}
+use Rattle.position.proofs.Tallies.{any_zero}
+use Rattle.plot.proofs.Plots.{next_below}
+use Rattle.plot.proofs.Searching.{Unserved, served, unserved, unserved_off, unserved-over}
 use Rattle.search.proofs.last.Statement.{statement}
 use Rattle.search.proofs.last.Tie as tie
 
@@ -17,7 +17,7 @@ abbrev decreases-loop : tie.decreases-loop
 decreases-loop plot home i a d₀ d = 6 - d
 
 loop-holds : tie.Need-loop-init invariant-loop decreases-loop
-loop-holds c = record { same = refl; most = omega arith; none = any-zero _ }
+loop-holds c = record { same = refl; most = omega arith; none = any_zero _ }
 
 next-in-requires : tie.Need-next-in-requires invariant-loop decreases-loop
 next-in-requires c κs = (c.before.before.requires.0, c.before.before.requires.2, omega arith)
@@ -35,14 +35,14 @@ loop-less : tie.Need-loop-smaller invariant-loop decreases-loop
 loop-less c = search rules
 
 loop-again : tie.Need-loop-preserved invariant-loop decreases-loop
-loop-again c = unserved-off c.before.before.before.before.loop.invariant (omega arith) (sym c.before.before.next-in.ensures ∙ c.enum_told.given.1)
+loop-again c = unserved_off c.before.before.before.before.loop.invariant (omega arith) (sym c.before.before.next-in.ensures ∙ c.enum_told.given.1)
 
 last-over-requires : tie.Need-last-over-requires invariant-loop decreases-loop
 last-over-requires c κs = let p = c.before.before.before.before.before.before.requires in (
   p.0,
   p.1,
   p.2,
-  next-below _ _ _ _
+  next_below _ _ _ _
       (sym c.before.before.before.next-in.ensures ∙ c.before.x.given.1),
   p.3,
 )

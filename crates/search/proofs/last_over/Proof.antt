@@ -3,18 +3,18 @@
 use mathlib.Core.Path.{refl, sym, ◌∙◌}
 use native.Mathlib.Omega.{arith}
 use borrow.Author.Rules.{rules}
-use Rattle.plot.proofs.Searching.{last-free, last-loose, on-plot, over-far, over-shut}
+use Rattle.plot.proofs.Searching.{last_free, last-loose, on_plot, over_far, over_shut}
 use Rattle.search.proofs.last_over.Statement.{statement}
 use Rattle.search.proofs.last_over.Tie as tie
 
 distance-requires : tie.Need-distance-requires
-distance-requires c κs = (on-plot _ c.requires.1, on-plot _ c.requires.3)
+distance-requires c κs = (on_plot _ c.requires.1, on_plot _ c.requires.3)
 
 add-if1 : tie.Need-overflow-add-if1
 add-if1 c = omega arith
 
 returns : tie.Need-returns
-returns c = sym (over-far _ _ _ _ _ _ (λ e. c.if1.true (c.before.distance.ensures ∙ e)))
+returns c = sym (over_far _ _ _ _ _ _ (λ e. c.if1.true (c.before.distance.ensures ∙ e)))
 
 stand-in-requires : tie.Need-stand-in-requires
 stand-in-requires c κs = (c.before.before.requires.0, c.before.before.requires.3)
@@ -40,10 +40,10 @@ can-end-requires c κs = (
 )
 
 returns-2 : tie.Need-returns-2
-returns-2 c = sym (over-shut _ _ _ _ _ _ (sym c.before.before.before.before.distance.ensures ∙ c.before.before.before.if1.false) (sym c.before.before.stand-in.ensures ∙ c.enum_told.given.1))
+returns-2 c = sym (over_shut _ _ _ _ _ _ (sym c.before.before.before.before.distance.ensures ∙ c.before.before.before.if1.false) (sym c.before.before.stand-in.ensures ∙ c.enum_told.given.1))
 
 returns-3 : tie.Need-returns-3
-returns-3 c = sym (last-free _ _ _ _ _ _ (sym c.before.before.before.before.distance.ensures ∙ c.before.before.before.if1.false) (sym c.before.before.stand-in.ensures ∙ c.enum-told2.given.1) refl)
+returns-3 c = sym (last_free _ _ _ _ _ _ (sym c.before.before.before.before.distance.ensures ∙ c.before.before.before.if1.false) (sym c.before.before.stand-in.ensures ∙ c.enum-told2.given.1) refl)
 
 returns-4 : tie.Need-returns-4
 returns-4 c = c.can-end.ensures ∙ sym (last-loose _ _ _ _ _ _ (sym c.before.before.before.before.before.before.distance.ensures

@@ -3,12 +3,12 @@
 use mathlib.Core.Path.{refl, sym, subst}
 use native.Mathlib.Omega.{arith}
 use borrow.Author.Rules.{rules}
-use Rattle.position.specs.Layout.{mapAt}
+use Rattle.position.specs.Layout.{map_at}
 use Rattle.position.specs.Laid.{Sized}
 use Rattle.flaw.specs.Flaw as Flaw
 use Rattle.flaw.specs.Tells.{SizedOf, LaidOf}
 use Rattle.position.proofs.Answers.{said, unsaid}
-use Rattle.position.proofs.Shapes.{entry-is}
+use Rattle.position.proofs.Shapes.{entry_is}
 use Rattle.shape.proofs.shape.Statement.{statement}
 use Rattle.shape.proofs.shape.Tie as tie
 
@@ -35,7 +35,7 @@ entry-requires c κs = let s = known c in (omega arith, omega arith)
 returns-2 : tie.Need-returns-2
 returns-2 c =
     record {
-      breaks = Flaw.chartEntry refl refl (unsaid c.before.entry.result c.if1.true c.before.entry.ensures);
+      breaks = Flaw.chart_entry refl refl (unsaid c.before.entry.result c.if1.true c.before.entry.ensures);
     }
 
 mul-entry : tie.Need-overflow-mul-entry
@@ -52,8 +52,8 @@ returns-3 c =
     let k = c.before.before.before.before.before in
     let s = known k in
     record {
-      breaks = Flaw.resultsEntry refl refl
-          (λ t. unsaid c.before.entry2.result c.if2.true c.before.entry2.ensures (entry-is refl (omega arith) t));
+      breaks = Flaw.results_entry refl refl
+          (λ t. unsaid c.before.entry2.result c.if2.true c.before.entry2.ensures (entry_is refl (omega arith) t));
     }
 
 add-entry-2 : tie.Need-overflow-add-entry-2
@@ -77,13 +77,13 @@ entry-requires-3 c κs =
     let s = known k in (omega arith, omega arith)
 
 returns-4 : tie.Need-returns-4
-unfolding mapAt
+unfolding map_at
 returns-4 c =
     let k = c.before.before.before.before.before.before.before.before.before in
     let s = known k in
     record {
-      breaks = Flaw.mapEntry refl refl
-          (λ t. unsaid c.before.entry3.result c.if3.true c.before.entry3.ensures (entry-is (omega arith) (omega arith) t));
+      breaks = Flaw.map_entry refl refl
+          (λ t. unsaid c.before.entry3.result c.if3.true c.before.entry3.ensures (entry_is (omega arith) (omega arith) t));
     }
 
 mul-entry-4 : tie.Need-overflow-mul-entry-4
@@ -106,8 +106,8 @@ returns-5 c =
     let k = c.before.before.before.before.before.before.before.before.before.before.before.before in
     let s = known k in
     record {
-      breaks = Flaw.unitsEntry refl refl
-          (λ t. unsaid c.before.entry4.result c.if4.true c.before.entry4.ensures (entry-is (omega arith) (omega arith) t));
+      breaks = Flaw.units_entry refl refl
+          (λ t. unsaid c.before.entry4.result c.if4.true c.before.entry4.ensures (entry_is (omega arith) (omega arith) t));
     }
 
 add-entry-6 : tie.Need-overflow-add-entry-6
@@ -125,12 +125,12 @@ returns-6 c =
     let k = c.before.before.before.before.before.before.before.before.before.before.before.before.before.before.before in
     let s = known k in
     record {
-      breaks = Flaw.deskEntry refl refl
-          (λ t. unsaid c.before.entry5.result c.if5.true c.before.entry5.ensures (entry-is (omega arith) (omega arith) t));
+      breaks = Flaw.desk_entry refl refl
+          (λ t. unsaid c.before.entry5.result c.if5.true c.before.entry5.ensures (entry_is (omega arith) (omega arith) t));
     }
 
 returns-7 : tie.Need-returns-7
-unfolding mapAt
+unfolding map_at
 returns-7 c =
     let q4 = c.before.before.before in
     let q3 = q4.before.before.before in
@@ -141,16 +141,16 @@ returns-7 c =
     record {
       shaped = record {
         chart = said q1.before.entry.result q1.if1.false q1.before.entry.ensures;
-        results = entry-is refl (omega arith) (said q2.before.entry2.result q2.if2.false q2.before.entry2.ensures);
+        results = entry_is refl (omega arith) (said q2.before.entry2.result q2.if2.false q2.before.entry2.ensures);
         columns = s.columns;
-        map = entry-is (omega arith) (omega arith)
+        map = entry_is (omega arith) (omega arith)
             (said q3.before.entry3.result q3.if3.false q3.before.entry3.ensures);
         width = s.width;
         height = s.height;
-        units = entry-is (omega arith) (omega arith)
+        units = entry_is (omega arith) (omega arith)
             (said q4.before.entry4.result q4.if4.false q4.before.entry4.ensures);
         count = s.count;
-        desk = entry-is (omega arith) (omega arith) (said c.before.entry5.result c.if5.false c.before.entry5.ensures);
+        desk = entry_is (omega arith) (omega arith) (said c.before.entry5.result c.if5.false c.before.entry5.ensures);
         whole = s.whole;
       };
       view = s.view;

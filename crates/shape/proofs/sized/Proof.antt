@@ -3,7 +3,7 @@
 use mathlib.Core.Path.{refl, sym}
 use native.Mathlib.Omega.{arith}
 use borrow.Author.Rules.{rules}
-use Rattle.position.specs.Layout.{columns, mapAt, unitsAt, deskAt}
+use Rattle.position.specs.Layout.{columns, map_at, units_at, desk_at}
 use Rattle.position.proofs.Answers.{said, unsaid, carry}
 use Rattle.flaw.specs.Flaw as Flaw
 use Rattle.shape.proofs.sized.Statement.{statement}
@@ -13,7 +13,7 @@ add-if1 : tie.Need-overflow-add-if1
 add-if1 c = search rules
 
 returns : tie.Need-returns
-unfolding mapAt unitsAt deskAt
+unfolding map_at units_at desk_at
 returns c = record { breaks = Flaw.whole refl refl (λ e. omega arith) }
 
 shared-slice-read-wide : tie.Need-shared-slice-read-wide

@@ -3,9 +3,9 @@
 use mathlib.Core.Path.{refl, sym, ◌∙◌}
 use native.Mathlib.Omega.{arith}
 use borrow.Author.Rules.{rules}
-use Rattle.position.specs.Layout.{mapAt, unitsAt, deskAt}
+use Rattle.position.specs.Layout.{map_at, units_at, desk_at}
 use Rattle.position.proofs.Answers.{said, unsaid, carry}
-use Rattle.position.proofs.Shapes.{width_is, height-is}
+use Rattle.position.proofs.Shapes.{width_is, height_is}
 use Rattle.flaw.specs.Flaw as Flaw
 use Rattle.shape.proofs.with_map.Statement.{statement}
 use Rattle.shape.proofs.with_map.Tie as tie
@@ -23,7 +23,7 @@ add-if1 : tie.Need-overflow-add-if1
 add-if1 c = search rules
 
 returns : tie.Need-returns
-unfolding mapAt unitsAt deskAt
+unfolding map_at units_at desk_at
 returns c = record { breaks = Flaw.whole refl refl (λ e. omega arith) }
 
 add_wide : tie.Need-overflow-add-wide
@@ -66,7 +66,7 @@ returns-3 c =
     record {
       breaks = Flaw.height refl refl
           (λ i. unsaid c.before.within2.result c.if3.true c.before.within2.ensures
-          (carry (sym (q2.before.before.wide2.ensures.is ∙ height-is _ s.requires.0)) i));
+          (carry (sym (q2.before.before.wide2.ensures.is ∙ height_is _ s.requires.0)) i));
     }
 
 with-units-requires : tie.Need-with-units-requires
@@ -81,7 +81,7 @@ with-units-requires c κs =
           said q2.before.within.result q2.if2.false q2.before.within.ensures,
         ),
         (
-          q2.before.before.wide2.ensures.is ∙ height-is _ s.requires.0,
+          q2.before.before.wide2.ensures.is ∙ height_is _ s.requires.0,
           said c.before.within2.result c.if3.false
               c.before.within2.ensures,
         ),

@@ -4,10 +4,10 @@ use Prim.Native.Nat.{◌*◌, ◌≤◌}
 use mathlib.Core.Path.{◌≡◌, refl, ◌∙◌}
 use native.Mathlib.Omega.{arith}
 use borrow.Author.Rules.{rules}
-use Rattle.position.specs.Layout.{mapAt, hexes, unitsAt, count, deskAt}
+use Rattle.position.specs.Layout.{map_at, hexes, units_at, count, desk_at}
 use Rattle.position.proofs.Answers.{carry}
 use Rattle.flaw.specs.Flaw as Flaw
-use Rattle.position.proofs.Shapes.{area, hexes-is, count-is, named-most}
+use Rattle.position.proofs.Shapes.{area, hexes_is, count_is, named_most}
 use Rattle.shape.proofs.with_units.Statement.{statement}
 use Rattle.shape.proofs.with_units.Tie as tie
 
@@ -15,12 +15,12 @@ use Rattle.shape.proofs.with_units.Tie as tie
 sizes : (c : tie.Start) →
     let a = c.args in
     (a.wide * a.high ≡ hexes a.p.now) × (a.wide * a.high ≤ 4096)
-sizes c = (hexes-is _ c.requires.1.0.0 c.requires.1.1.0, area c.requires.1.0.1 c.requires.1.1.1)
+sizes c = (hexes_is _ c.requires.1.0.0 c.requires.1.1.0, area c.requires.1.0.1 c.requires.1.1.1)
 
 -- the number that it reads behind the hexes
 counted : (c : tie.After-word) → c.word.result ≡ count c.before.before.before.args.p.now
-unfolding mapAt unitsAt
-counted c = let s = sizes c.before.before.before in c.word.ensures.is ∙ count-is _ (omega arith)
+unfolding map_at units_at
+counted c = let s = sizes c.before.before.before in c.word.ensures.is ∙ count_is _ (omega arith)
 
 mul-hexes : tie.Need-overflow-mul-hexes
 mul-hexes c = omega (arith, sizes c.before)
@@ -47,7 +47,7 @@ add-if1 : tie.Need-overflow-add-if1
 add-if1 c = omega (arith, sizes c.before)
 
 returns : tie.Need-returns
-unfolding mapAt unitsAt deskAt
+unfolding map_at units_at desk_at
 returns c = record { breaks = Flaw.whole refl refl (λ e. omega (arith, sizes c.before.before)) }
 
 word-requires : tie.Need-word-requires
@@ -72,10 +72,10 @@ add-if3 : tie.Need-overflow-add-if3
 add-if3 c = search rules
 
 add-if3-2 : tie.Need-overflow-add-if3-2
-add-if3-2 c = omega (arith, named-most _ c.players-named.ensures)
+add-if3-2 c = omega (arith, named_most _ c.players-named.ensures)
 
 returns-3 : tie.Need-returns-3
-unfolding mapAt unitsAt deskAt
+unfolding map_at units_at desk_at
 returns-3 c =
     record {
       breaks = Flaw.whole refl refl
@@ -83,7 +83,7 @@ returns-3 c =
     }
 
 returns-4 : tie.Need-returns-4
-unfolding mapAt unitsAt deskAt
+unfolding map_at units_at desk_at
 returns-4 c =
     let s = c.before.before.before.before.before.before.requires in
     let z = sizes c.before.before.before.before.before.before in
@@ -111,7 +111,7 @@ returns-4 c =
         columns = omega arith;
         hexes = z.1;
         count = omega arith;
-        players = named-most _ c.before.players-named.ensures;
+        players = named_most _ c.before.players-named.ensures;
       };
     }
 

@@ -4,8 +4,8 @@
 use Prim.Native.Nat.{◌-◌}
 use native.Mathlib.Omega.{arith}
 use borrow.Author.Rules.{rules}
-use Rattle.position.proofs.Changes.{laid-makes}
-use Rattle.shoves.proofs.Marching.{March, march-all, march-more, march-none}
+use Rattle.position.proofs.Changes.{laid_makes}
+use Rattle.shoves.proofs.Marching.{March, march-all, march-more, march_none}
 use Rattle.shoves.proofs.march_off.Statement.{statement}
 use Rattle.shoves.proofs.march_off.Tie as tie
 
@@ -16,7 +16,7 @@ abbrev decreases-loop : tie.decreases-loop
 decreases-loop p₀ v h route pushes a₀ k₀ i₀ i-end p a k i = i-end - i
 
 loop-holds : tie.Need-loop-init invariant-loop decreases-loop
-loop-holds c = march-none c.before.before.before.requires
+loop-holds c = march_none c.before.before.before.requires
 
 mul-x : tie.Need-overflow-mul-x invariant-loop decreases-loop
 mul-x c = search rules
@@ -33,7 +33,7 @@ clear-requires c κs = (c.before.before.before.loop.invariant.laid, c.before.bef
 step-all-requires : tie.Need-step-all-requires invariant-loop decreases-loop
 step-all-requires c κs =
     let s = c.before.before.before.before.before.before.before in
-    laid-makes _ s.loop.invariant.laid c.before.before.before.clear.ensures.2
+    laid_makes _ s.loop.invariant.laid c.before.before.before.clear.ensures.2
 
 add-i : tie.Need-overflow-add-i invariant-loop decreases-loop
 add-i c = search rules

@@ -1,7 +1,7 @@
 -- `block_ok` meets its contract: its table is empty.
 -- Assumes nothing.
 use borrow.Author.Rules.{rules}
-use Rattle.acceptance.proofs.Seating.{empty-table}
+use Rattle.acceptance.proofs.Seating.{empty_table}
 use Rattle.stacks.proofs.block_ok.Statement.{statement}
 use Rattle.stacks.proofs.block_ok.Tie as tie
 
@@ -9,7 +9,7 @@ slice-aggregate-seat-all : tie.Need-slice-aggregate-seat-all
 slice-aggregate-seat-all c = search rules
 
 seat-all-requires : tie.Need-seat-all-requires
-seat-all-requires c κs = (c.before.before.requires.0, c.before.before.requires.1, empty-table, c.before.before.requires.2)
+seat-all-requires c κs = (c.before.before.requires.0, c.before.before.requires.1, empty_table, c.before.before.requires.2)
 
 returns : tie.Need-returns
 returns c = c.before.seat-all.ensures

@@ -7,7 +7,7 @@ use borrow.Author.Count.{below_more}
 use borrow.Author.Rules.{rules}
 use Rattle.position.specs.Layout.{hex}
 use Rattle.flaw.specs.Flaw.{Breaks}
-use Rattle.flaw.proofs.Tellings.{line_small, broken-there}
+use Rattle.flaw.proofs.Tellings.{line_small, broken_there}
 use Rattle.stacks.proofs.company.Statement.{statement}
 use Rattle.stacks.proofs.company.Tie as tie
 
@@ -36,7 +36,7 @@ add-result : tie.Need-overflow-add-result invariant-loop decreases-loop
 add-result c = omega (arith, c.before.before.before.before.before.before.requires.0.fits.count, line_small (here c))
 
 returns : tie.Need-returns invariant-loop decreases-loop
-returns c = broken-there (here c)
+returns c = broken_there (here c)
 
 add-u : tie.Need-overflow-add-u invariant-loop decreases-loop
 add-u c = search rules

@@ -22,7 +22,7 @@ returns-2 : tie.Need-returns-2
 returns-2 c =
     let o = c.before.before.before.requires.2 in
     λ w l e.
-    Flaw.oneForce refl l (λ z. omega (arith, c.before.before.before.requires.1))
+    Flaw.one_force refl l (λ z. omega (arith, c.before.before.before.requires.1))
     (λ t. o.without
     (record {
       room = subst (λ (k : ℕ). crowd (board c.before.before.before.args.p.now) k ≤ 3) (sym o.on) (omega (arith, c.before.crowd.ensures.is, c.if1.false));

@@ -6,7 +6,7 @@ use native.Mathlib.Omega.{arith}
 use borrow.Author.Rules.{rules}
 use Rattle.position.specs.Board.{board}
 use Rattle.acceptance.specs.Seats.{Seated, Crowded}
-use Rattle.acceptance.proofs.Seating.{nobody-seated, counted, overfull, all-seated}
+use Rattle.acceptance.proofs.Seating.{nobody_seated, counted, overfull, all_seated}
 use Rattle.flaw.proofs.Tellings.{fine, handed}
 use Rattle.stacks.proofs.seat_all.Statement.{statement}
 use Rattle.stacks.proofs.seat_all.Tie as tie
@@ -21,7 +21,7 @@ refused : (c : tie.Then1 invariant-loop decreases-loop) → Crowded (board c.bef
 refused c = overfull _ c.before.before.before.seat.result c.if1.true c.before.before.before.seat.ensures
 
 loop-holds : tie.Need-loop-init invariant-loop decreases-loop
-loop-holds c = (omega arith, nobody-seated _ _ c.before.before.requires.2)
+loop-holds c = (omega arith, nobody_seated _ _ c.before.before.requires.2)
 
 seat-requires : tie.Need-seat-requires invariant-loop decreases-loop
 seat-requires c κs = (c.before.before.before.before.before.requires.0, omega arith, c.before.before.before.before.before.requires.1 _ (omega arith), c.before.before.loop.invariant.1.long)
@@ -56,7 +56,7 @@ same-length-2 : tie.Need-same-length-2 invariant-loop decreases-loop
 same-length-2 c = c.before.loop.invariant.1.long ∙ sym c.before.before.before.before.requires.2.long
 
 returns-2 : tie.Need-returns-2 invariant-loop decreases-loop
-returns-2 c = fine (all-seated c.before.loop.invariant.1 (omega (arith, c.before.before.before.before.requires.0.view.count)))
+returns-2 c = fine (all_seated c.before.loop.invariant.1 (omega (arith, c.before.before.before.before.requires.0.view.count)))
 
 pub seat-all-spec : {M : Type 1} → statement M
 seat-all-spec = tie.close (tie.spec invariant-loop decreases-loop loop-holds seat-requires hex-requires company-requires same_length returns add-u loop-less loop-again same-length-2 returns-2)

@@ -5,8 +5,8 @@ use native.Mathlib.Omega.{arith}
 use borrow.Author.Rules.{rules}
 use Rattle.position.specs.Board.{board}
 use Rattle.acceptance.specs.Asked.{StacksIn}
-use Rattle.acceptance.proofs.Seating.{no-stacks, more-stacks}
-use Rattle.acceptance.proofs.Asking.{alone-force}
+use Rattle.acceptance.proofs.Seating.{no_stacks, more_stacks}
+use Rattle.acceptance.proofs.Asking.{alone_force}
 use Rattle.flaw.proofs.Tellings.{fine, passed_on}
 use Rattle.stacks.proofs.stacks_ok.Statement.{statement}
 use Rattle.stacks.proofs.stacks_ok.Tie as tie
@@ -18,10 +18,10 @@ abbrev decreases-loop : tie.decreases-loop
 decreases-loop p v hexes base₀ base = hexes - base
 
 loop-holds : tie.Need-loop-init invariant-loop decreases-loop
-loop-holds c = no-stacks
+loop-holds c = no_stacks
 
 block-ok-requires : tie.Need-block-ok-requires invariant-loop decreases-loop
-block-ok-requires c κs = (c.before.before.before.requires.0, (λ u m. alone-force (c.before.before.before.requires.1 u m)), c.loop-test.true)
+block-ok-requires c κs = (c.before.before.before.requires.0, (λ u m. alone_force (c.before.before.before.requires.1 u m)), c.loop-test.true)
 
 returns : tie.Need-returns invariant-loop decreases-loop
 returns c = passed_on c.before.block-ok.ensures c.if1.true
@@ -33,7 +33,7 @@ loop-less : tie.Need-loop-smaller invariant-loop decreases-loop
 loop-less c = search rules
 
 loop-again : tie.Need-loop-preserved invariant-loop decreases-loop
-loop-again c = more-stacks c.before.before.before.loop.invariant (c.before.block-ok.ensures.kept c.if1.false)
+loop-again c = more_stacks c.before.before.before.loop.invariant (c.before.block-ok.ensures.kept c.if1.false)
 
 returns-2 : tie.Need-returns-2 invariant-loop decreases-loop
 returns-2 c = fine (λ u l low high. c.before.loop.invariant u l low (omega (arith, c.before.before.before.requires.0.view.hexes)))

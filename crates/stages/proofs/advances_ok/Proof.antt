@@ -12,13 +12,13 @@ holders-requires : tie.Need-holders-requires
 holders-requires c κs = search rules
 
 returns : tie.Need-returns
-returns c = broken (Flaw.someAdvance refl refl c.before.before.before.requires.1 (λ l. omega arith))
+returns c = broken (Flaw.some_advance refl refl c.before.before.before.requires.1 (λ l. omega arith))
 
 holders-requires-2 : tie.Need-holders-requires-2
 holders-requires-2 c κs = search rules
 
 returns-2 : tie.Need-returns-2
-returns-2 c = broken (Flaw.advancesOwing refl refl c.before.before.before.before.before.requires.1 (λ e. omega arith))
+returns-2 c = broken (Flaw.advances_owing refl refl c.before.before.before.before.before.requires.1 (λ e. omega arith))
 
 returns-3 : tie.Need-returns-3
 returns-3 c = fine (record { advancing = omega arith; owing = omega arith })

@@ -37,7 +37,7 @@ holders-requires-2 : tie.Need-holders-requires-2
 holders-requires-2 c κs = search rules
 
 returns-3 : tie.Need-returns-3
-returns-3 c = broken (Flaw.lossesAdvancing refl refl c.before.before.before.before.before.before.before.before.before.requires.1 (λ e. omega arith))
+returns-3 c = broken (Flaw.losses_advancing refl refl c.before.before.before.before.before.before.before.before.before.requires.1 (λ e. omega arith))
 
 returns-4 : tie.Need-returns-4
 returns-4 c =

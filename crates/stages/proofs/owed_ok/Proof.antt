@@ -18,7 +18,7 @@ owed-requires : tie.Need-owed-requires
 owed-requires c κs = search rules
 
 returns-2 : tie.Need-returns-2
-returns-2 c = broken (Flaw.owedElsewhere refl refl (λ t. omega (arith, t (λ e. omega arith))))
+returns-2 c = broken (Flaw.owed_elsewhere refl refl (λ t. omega (arith, t (λ e. omega arith))))
 
 returns-3 : tie.Need-returns-3
 returns-3 c = fine (λ n. omega arith)

@@ -4,7 +4,7 @@ use mathlib.Core.Path.{refl, sym}
 use native.Mathlib.Omega.{arith}
 use borrow.Author.Rules.{rules}
 use Rattle.position.proofs.Answers.{said, unsaid, carry}
-use Rattle.acceptance.proofs.Notes.{seven-most}
+use Rattle.acceptance.proofs.Notes.{seven_most}
 use Rattle.flaw.specs.Flaw as Flaw
 use Rattle.flaw.proofs.Tellings.{fine, broken}
 use Rattle.stages.proofs.retreats_ok.Statement.{statement}
@@ -26,7 +26,7 @@ owing-hexes-requires : tie.Need-owing-hexes-requires
 owing-hexes-requires c κs = search rules
 
 returns-2 : tie.Need-returns-2
-returns-2 c = broken (Flaw.someOwe refl refl c.before.before.before.before.before.before.requires.1 (λ l. omega (arith, c.before.owing-hexes.ensures.exact (omega arith))))
+returns-2 c = broken (Flaw.some_owe refl refl c.before.before.before.before.before.before.requires.1 (λ l. omega (arith, c.before.owing-hexes.ensures.exact (omega arith))))
 
 routes-requires : tie.Need-routes-requires
 routes-requires c κs = search rules
@@ -35,7 +35,7 @@ add-if3 : tie.Need-overflow-add-if3
 add-if3 c = search rules
 
 returns-3 : tie.Need-returns-3
-returns-3 c = broken (Flaw.routesRoom refl refl c.before.before.before.before.before.before.before.before.requires.1 (λ l. omega (arith, seven-most c.before.before.before.owing-hexes.ensures)))
+returns-3 c = broken (Flaw.routes_room refl refl c.before.before.before.before.before.before.before.before.requires.1 (λ l. omega (arith, seven_most c.before.before.before.owing-hexes.ensures)))
 
 returns-4 : tie.Need-returns-4
 returns-4 c =

@@ -3,8 +3,8 @@
 use mathlib.Core.Path.{sym, ◌∙◌}
 use borrow.Author.Rules.{rules}
 use borrow.Author.Tests.{not-false}
-use Rattle.paint.proofs.Units.{marked-held}
-use Rattle.march.proofs.Steps.{no-neutral}
+use Rattle.paint.proofs.Units.{marked_held}
+use Rattle.march.proofs.Steps.{no_neutral}
 use Rattle.stepping.proofs.neutral_there.Statement.{statement}
 use Rattle.stepping.proofs.neutral_there.Tie as tie
 
@@ -19,8 +19,8 @@ returns c = search rules
 
 returns-2 : tie.Need-returns-2
 returns-2 c =
-    let held = marked-held c.before.before.before.requires.1 in
-    sym (no-neutral _ _ _ (not-false _ (sym held ∙ sym c.before.has.ensures ∙ c.if1.false)))
+    let held = marked_held c.before.before.before.requires.1 in
+    sym (no_neutral _ _ _ (not-false _ (sym held ∙ sym c.before.has.ensures ∙ c.if1.false)))
 
 pub neutral-there-spec : {M : Type 1} → statement M
 neutral-there-spec = tie.close (tie.spec has-requires holds-neutral-requires returns returns-2)

@@ -5,23 +5,23 @@ use mathlib.Core.Path.{◌≡◌, sym, ap, subst, ◌∙◌}
 use mathlib.Core.Bool.{false, not}
 use native.Mathlib.Omega.{arith}
 use borrow.Author.Rules.{rules}
-use Rattle.position.specs.Board.{board, ground, forceOf}
+use Rattle.position.specs.Board.{board, ground, force_of}
 use Rattle.position.specs.Ground.{bearing}
-use Rattle.position.proofs.Sides.{next-in}
+use Rattle.position.proofs.Sides.{next_in_lem}
 use Rattle.field.specs.Scene.{scene}
-use Rattle.field.specs.Zone.{holdsEnemy, holdsNeutral}
+use Rattle.field.specs.Zone.{holds_enemy, holds_neutral}
 use Rattle.paint.specs.Paint.{Marked}
-use Rattle.paint.proofs.Units.{marked-zone, marked-enemy}
-use Rattle.march.specs.Move.{leg, afterStep, leavesZone, noStep}
-use Rattle.march.proofs.Steps.{turned-next, no-step-there, no-step-apart}
-use Rattle.march.proofs.Judging.{Open, stops-zone, stops-ground, stops-enemy, stops-neutral, stops-spent, passes-step}
+use Rattle.paint.proofs.Units.{marked_zone, marked_enemy}
+use Rattle.march.specs.Move.{leg, after_step, leaves_zone, no_step}
+use Rattle.march.proofs.Steps.{turned_next, no_step_there, no_step_apart}
+use Rattle.march.proofs.Judging.{Open, stops_zone, stops_ground, stops-enemy, stops-neutral, stops_spent, passes_step}
 use Rattle.stepping.proofs.one_step.Statement.{statement}
 use Rattle.stepping.proofs.one_step.Tie as tie
 
 -- the step leaves no zone,
 zone : (c : tie.Else1) →
     let a = c.before.before.args in
-    leavesZone (board a.p.now) a.u (leg a.at a.spent) a.k ≡ false
+    leaves_zone (board a.p.now) a.u (leg a.at a.spent) a.k ≡ false
 zone c = sym c.before.before.requires.2 ∙ c.if1.false
 
 -- has a direction,
@@ -33,30 +33,30 @@ turned c = omega (arith, c.if2.false, c.before.bearing.ensures.is)
 -- and leads where a unit may stand
 way : (c : tie.Else3) →
     let a = c.before.before.before.before.before.before.args in
-    noStep (board a.p.now) a.at a.x ≡ false
-way c = no-step-there _ _ _ (turned c.before.before) ∙ sym (ap not c.before.standable.ensures) ∙ c.if3.false
+    no_step (board a.p.now) a.at a.x ≡ false
+way c = no_step_there _ _ _ (turned c.before.before) ∙ sym (ap not c.before.standable.ensures) ∙ c.if3.false
 
 -- the marks of the hex are those for the unit's force: they tell of Enemies,
 seen : (c : tie.After-look) →
     let a = c.before.before.before.before.before.before.before.before.args in
-    Marked (scene (board a.p.now)) (forceOf (board a.p.now) a.u) a.x c.look.result
+    Marked (scene (board a.p.now)) (force_of (board a.p.now) a.u) a.x c.look.result
 seen c =
     let a = c.before.before.before.before.before.before.before.before.args in
     subst (λ (f : ℕ). Marked (scene (board a.p.now)) f a.x c.look.result) c.before.force-of.ensures c.look.ensures
 
 foe : (c : tie.After-has) →
     let a = c.before.before.before.before.before.before.before.before.before.args in
-    holdsEnemy (scene (board a.p.now)) (forceOf (board a.p.now) a.u) a.x ≡ c.has.result
-foe c = sym (c.has.ensures ∙ marked-enemy (seen c.before))
+    holds_enemy (scene (board a.p.now)) (force_of (board a.p.now) a.u) a.x ≡ c.has.result
+foe c = sym (c.has.ensures ∙ marked_enemy (seen c.before))
 
 -- and of neutrals
 neither : (c : tie.After-neutral-there) →
     let a = c.before.before.before.before.before.before.before.before.before.before.before.args in
-    holdsNeutral (scene (board a.p.now)) (forceOf (board a.p.now) a.u) a.x ≡ c.neutral-there.result
+    holds_neutral (scene (board a.p.now)) (force_of (board a.p.now) a.u) a.x ≡ c.neutral-there.result
 neither c =
     let e = c.before.before.before.before in
     let a = e.before.before.before.before.before.before.before.args in
-    sym (c.neutral-there.ensures ∙ ap (λ (f : ℕ). holdsNeutral (scene (board a.p.now)) f a.x) e.force-of.ensures)
+    sym (c.neutral-there.ensures ∙ ap (λ (f : ℕ). holds_neutral (scene (board a.p.now)) f a.x) e.force-of.ensures)
 
 -- the tests before the last, passed
 open-way : (c : tie.Else5) →
@@ -74,21 +74,21 @@ open-way c =
 
 total : (c : tie.After-step-cost) →
     let a = c.before.before.before.before.before.before.before.before.before.before.before.before.before.args in
-    (afterStep (board a.p.now) (leg a.at a.spent) a.x).spent ≡ a.spent + c.step-cost.result
-unfolding afterStep
+    (after_step (board a.p.now) (leg a.at a.spent) a.x).spent ≡ a.spent + c.step-cost.result
+unfolding after_step
 total c =
     let a = c.before.before.before.before.before.before.before.before.before.before.before.before.before.args in
     ap (λ (n : ℕ). a.spent + n) (sym c.step-cost.ensures.is)
 
 returns : tie.Need-returns
-returns c = stops-zone _ _ _ _ _ _ (sym c.before.before.requires.2 ∙ c.if1.true)
+returns c = stops_zone _ _ _ _ _ _ (sym c.before.before.requires.2 ∙ c.if1.true)
 
 bearing-requires : tie.Need-bearing-requires
 bearing-requires c κs = search rules
 
 returns-2 : tie.Need-returns-2
 returns-2 c =
-    stops-ground _ _ _ _ _ _ (zone c.before.before) (no-step-apart _ _ _ (omega (arith, c.if2.true, c.before.bearing.ensures.is)))
+    stops_ground _ _ _ _ _ _ (zone c.before.before) (no_step_apart _ _ _ (omega (arith, c.if2.true, c.before.bearing.ensures.is)))
 
 standable-requires : tie.Need-standable-requires
 standable-requires c κs = search rules
@@ -96,8 +96,8 @@ standable-requires c κs = search rules
 returns-3 : tie.Need-returns-3
 returns-3 c =
     let t = c.before.before in
-    stops-ground _ _ _ _ _ _ (zone t.before.before)
-    (no-step-there _ _ _ (turned t) ∙ sym (ap not c.before.standable.ensures) ∙ c.if3.true)
+    stops_ground _ _ _ _ _ _ (zone t.before.before)
+    (no_step_there _ _ _ (turned t) ∙ sym (ap not c.before.standable.ensures) ∙ c.if3.true)
 
 force-of-requires : tie.Need-force-of-requires
 force-of-requires c κs = search rules
@@ -106,7 +106,7 @@ look-requires : tie.Need-look-requires
 look-requires c κs =
     let t = c.before.before.before in
     let s = t.before.before.before.before in
-    (s.requires.0, next-in s.requires.0.view _ _ _ (turned-next (board s.args.p.now) _ _ (turned t)))
+    (s.requires.0, next_in_lem s.requires.0.view _ _ _ (turned_next (board s.args.p.now) _ _ (turned t)))
 
 has-requires : tie.Need-has-requires
 has-requires c κs = search rules
@@ -137,7 +137,7 @@ allowed-requires c κs = search rules
 
 returns-6 : tie.Need-returns-6
 returns-6 c =
-    stops-spent _ _ _ _ _ _ (open-way c.before.before.before)
+    stops_spent _ _ _ _ _ _ (open-way c.before.before.before)
     (omega (arith, c.if6.true, c.before.allowed.ensures.is, total c.before.before))
 
 has-requires-2 : tie.Need-has-requires-2
@@ -149,10 +149,10 @@ returns-7 c =
     let w = l.before.before.before in
     let e = total l.before.before in
     record {
-      passes = passes-step _ _ _ _ _ _ (open-way w) (omega (arith, l.if6.false, l.before.allowed.ensures.is, e));
+      passes = passes_step _ _ _ _ _ _ (open-way w) (omega (arith, l.if6.false, l.before.allowed.ensures.is, e));
       is = sym e;
       small = omega (arith, l.if6.false, l.before.allowed.ensures.small);
-      enters = c.has2.ensures ∙ marked-zone (seen w.before.before.before.before);
+      enters = c.has2.ensures ∙ marked_zone (seen w.before.before.before.before);
     }
 
 pub one-step-spec : {M : Type 1} → statement M

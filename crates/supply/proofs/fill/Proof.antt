@@ -4,7 +4,7 @@ use mathlib.Core.Path.{sym}
 use borrow.Author.Rules.{rules}
 use Rattle.position.specs.Board.{board}
 use Rattle.field.specs.Scene.{scene}
-use Rattle.supply.proofs.Supplies.{graded-list, graded, walked-map}
+use Rattle.supply.proofs.Supplies.{graded_list, graded, walked_map}
 use Rattle.supply.proofs.fill.Statement.{statement}
 use Rattle.supply.proofs.fill.Tie as tie
 
@@ -18,7 +18,7 @@ same_length : tie.Need-same-length
 same_length c = search rules
 
 returns : tie.Need-returns
-returns c = let a = c.before.before.before.before.before.before.before.before.before.before.args in walked-map (scene (board a.p.now)) a.n (graded-list c.before.before.before.before.before.before.grades.ensures) c.before.before.walk.ensures
+returns c = let a = c.before.before.before.before.before.before.before.before.before.before.args in walked_map (scene (board a.p.now)) a.n (graded_list c.before.before.before.before.before.before.grades.ensures) c.before.before.walk.ensures
 
 pub fill_spec : {M : Type 1} → statement M
 fill_spec = tie.close (tie.spec grades-requires walk-requires same_length returns)

@@ -2,13 +2,13 @@
 -- Assumes nothing.
 use native.Mathlib.Omega.{arith}
 use borrow.Author.Rules.{rules}
-use Rattle.position.proofs.Sides.{area-view, on-view, on-first}
+use Rattle.position.proofs.Sides.{area_view, on_view, on_first}
 use Rattle.supply.proofs.Grading.{map-shows}
 use Rattle.supply.proofs.grades.Statement.{statement}
 use Rattle.supply.proofs.grades.Tie as tie
 
 whole-requires : tie.Need-whole-requires
-whole-requires c κs = on-first c.before.before.requires.0
+whole-requires c κs = on_first c.before.before.requires.0
 
 force-requires : tie.Need-force-requires
 force-requires c κs = search rules
@@ -17,7 +17,7 @@ paint-requires : tie.Need-paint-requires
 paint-requires c κs =
     let outset = c.before.before.before.before.before in
     let k = c.before.before.whole.ensures in
-    (outset.requires.0, record { region = k.ok; long = omega (arith, k.size, area-view outset.requires.0.view, outset.requires.1) })
+    (outset.requires.0, record { region = k.ok; long = omega (arith, k.size, area_view outset.requires.0.view, outset.requires.1) })
 
 grade-requires : tie.Need-grade-requires
 grade-requires c κs =
@@ -26,7 +26,7 @@ grade-requires c κs =
     let view = l.view in
     let k = rw (view.width, view.height) at c.before.before.before.before.before.before.whole.ensures in (
       l,
-      map-shows k (λ h e. rw (view.width, view.height) at (on-view l h (omega (arith, e, view.hexes))))
+      map-shows k (λ h e. rw (view.width, view.height) at (on_view l h (omega (arith, e, view.hexes))))
           (omega (arith, outset.requires.1, view.hexes)) (rw c.before.before.before.before.before.force.ensures at c.before.before.before.paint.ensures),
     )
 

@@ -6,9 +6,9 @@ use native.Mathlib.Omega.{arith}
 use Rattle.survey.specs.Run.{RunOf, first_of}
 use Rattle.position.specs.Board.{ground}
 use Rattle.position.specs.Ground.{next}
-use Rattle.position.proofs.Sides.{area-view, on-first}
+use Rattle.position.proofs.Sides.{area_view, on_first}
 use Rattle.walk.specs.Swept.{Swept}
-use Rattle.walk.proofs.Joins.{swept_none, swept-trans}
+use Rattle.walk.proofs.Joins.{swept_none, swept_trans}
 use Rattle.sweeping.proofs.down.Statement.{statement}
 use Rattle.sweeping.proofs.down.Tie as tie
 
@@ -19,7 +19,7 @@ abbrev decreases-loop : tie.decreases-loop
 decreases-loop p v buf₀ hexes r₀ reached₀ buf r reached = hexes - first_of v.width r
 
 top-requires : tie.Need-top-requires invariant-loop decreases-loop
-top-requires c κs = on-first c.before.before.requires.0
+top-requires c κs = on_first c.before.before.requires.0
 
 loop-holds : tie.Need-loop-init invariant-loop decreases-loop
 loop-holds c = (swept_none _, c.top.ensures.0)
@@ -31,19 +31,19 @@ past-requires : tie.Need-past-requires invariant-loop decreases-loop
 past-requires c κs = c.before.before.before.before.loop.invariant.1
 
 same_length : tie.Need-same-length invariant-loop decreases-loop
-same_length c = (swept-trans c.before.before.before.before.before.before.loop.invariant.0 c.before.before.before.before.pass.ensures).same
+same_length c = (swept_trans c.before.before.before.before.before.before.loop.invariant.0 c.before.before.before.before.pass.ensures).same
 
 returns : tie.Need-returns invariant-loop decreases-loop
-returns c = swept-trans c.before.before.before.before.before.before.loop.invariant.0 c.before.before.before.before.pass.ensures
+returns c = swept_trans c.before.before.before.before.before.before.loop.invariant.0 c.before.before.before.before.pass.ensures
 
 after-requires : tie.Need-after-requires invariant-loop decreases-loop
-after-requires c κs = (c.before.before.before.before.before.before.loop.invariant.1, omega (arith, c.before.past.ensures.0, area-view c.before.before.before.before.before.before.before.before.before.before.requires.0.view))
+after-requires c κs = (c.before.before.before.before.before.before.loop.invariant.1, omega (arith, c.before.past.ensures.0, area_view c.before.before.before.before.before.before.before.before.before.before.requires.0.view))
 
 loop-less : tie.Need-loop-smaller invariant-loop decreases-loop
 loop-less c = omega (arith, c.after.ensures.1, c.before.before.past.ensures.0, c.before.before.before.before.before.before.before.loop.invariant.1.on.wide)
 
 loop-again : tie.Need-loop-preserved invariant-loop decreases-loop
-loop-again c = (swept-trans c.before.before.before.before.before.before.before.loop.invariant.0 c.before.before.before.before.before.pass.ensures, c.after.ensures.0)
+loop-again c = (swept_trans c.before.before.before.before.before.before.before.loop.invariant.0 c.before.before.before.before.before.pass.ensures, c.after.ensures.0)
 
 pub down-spec : {M : Type 1} → statement M
 down-spec =

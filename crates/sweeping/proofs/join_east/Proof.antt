@@ -3,7 +3,7 @@
 use borrow.Author.Tests.{not-false}
 use borrow.Author.Rules.{rules}
 use Rattle.walk.specs.Chain.{mark}
-use Rattle.walk.proofs.Joins.{spot_in, swept_none, swept-join}
+use Rattle.walk.proofs.Joins.{spot_in, swept_none, swept_join}
 use Rattle.sweeping.proofs.join_east.Statement.{statement}
 use Rattle.sweeping.proofs.join_east.Tie as tie
 
@@ -30,7 +30,7 @@ same-length-2 c = search rules
 
 returns-3 : tie.Need-returns-3
 unfolding mark
-returns-3 c = swept-join _ _ c.before.before.before.if1.false (c.before.from-east.ensures (not-false _ c.if2.false))
+returns-3 c = swept_join _ _ c.before.before.before.if1.false (c.before.from-east.ensures (not-false _ c.if2.false))
 
 pub join-east-spec : {M : Type 1} → statement M
 join-east-spec =

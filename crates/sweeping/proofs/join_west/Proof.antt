@@ -2,7 +2,7 @@
 -- Assumes nothing.
 use borrow.Author.Rules.{rules}
 use Rattle.walk.specs.Chain.{mark}
-use Rattle.walk.proofs.Joins.{spot_in, swept_none, swept-join}
+use Rattle.walk.proofs.Joins.{spot_in, swept_none, swept_join}
 use Rattle.sweeping.proofs.join_west.Statement.{statement}
 use Rattle.sweeping.proofs.join_west.Tie as tie
 
@@ -23,7 +23,7 @@ same_length c = search rules
 
 returns-2 : tie.Need-returns-2
 unfolding mark
-returns-2 c = swept-join _ _ c.before.before.before.if1.false (c.before.from-west.ensures c.if2.true)
+returns-2 c = swept_join _ _ c.before.before.before.if1.false (c.before.from-west.ensures c.if2.true)
 
 from-behind-requires : tie.Need-from-behind-requires
 from-behind-requires c κs = search rules
@@ -36,7 +36,7 @@ same-length-2 c = search rules
 
 returns-3 : tie.Need-returns-3
 unfolding mark
-returns-3 c = swept-join _ _ c.before.before.before.before.before.before.if1.false (c.before.from-behind.ensures c.if3.true)
+returns-3 c = swept_join _ _ c.before.before.before.before.before.before.if1.false (c.before.from-behind.ensures c.if3.true)
 
 same-length-3 : tie.Need-same-length-3
 same-length-3 c = search rules

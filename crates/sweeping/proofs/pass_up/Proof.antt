@@ -2,13 +2,13 @@
 -- Assumes nothing.
 use mathlib.Core.Path.{◌∙◌}
 use borrow.Author.Rules.{rules}
-use Rattle.position.proofs.Sides.{area-view}
+use Rattle.position.proofs.Sides.{area_view}
 use Rattle.walk.proofs.Joins.{swept_none}
 use Rattle.sweeping.proofs.pass_up.Statement.{statement}
 use Rattle.sweeping.proofs.pass_up.Tie as tie
 
 has-requires : tie.Need-has-requires
-has-requires c κs = let s = c.before.before.before.requires in (s.2, s.1 ∙ area-view s.0.view)
+has-requires c κs = let s = c.before.before.before.requires in (s.2, s.1 ∙ area_view s.0.view)
 
 same_length : tie.Need-same-length
 same_length c = search rules

@@ -2,8 +2,8 @@
 -- Assumes nothing.
 use mathlib.Core.Path.{◌∙◌}
 use borrow.Author.Rules.{rules}
-use Rattle.position.proofs.Sides.{area-view}
-use Rattle.walk.proofs.Joins.{swept-trans}
+use Rattle.position.proofs.Sides.{area_view}
+use Rattle.walk.proofs.Joins.{swept_trans}
 use Rattle.sweeping.proofs.spread.Statement.{statement}
 use Rattle.sweeping.proofs.spread.Tie as tie
 
@@ -17,7 +17,7 @@ returns : tie.Need-returns
 returns c = search rules
 
 has-requires : tie.Need-has-requires
-has-requires c κs = let s = c.before.before.before.before.before.before.before.before.requires in (s.2, c.before.before.before.before.eastward.ensures.same ∙ s.1 ∙ area-view s.0.view)
+has-requires c κs = let s = c.before.before.before.before.before.before.before.before.requires in (s.2, c.before.before.before.before.eastward.ensures.same ∙ s.1 ∙ area_view s.0.view)
 
 same-length-2 : tie.Need-same-length-2
 same-length-2 c = search rules
@@ -31,14 +31,14 @@ westward-requires c κs = search rules
 mostly-requires : tie.Need-mostly-requires
 mostly-requires c κs =
     let s = c.before.before.before.before.before.before.before.before.before.before.before.before.before.before.before.requires in
-    let w = swept-trans c.before.before.before.before.before.before.before.before.before.before.before.eastward.ensures c.before.before.before.westward.ensures in
-    (s.2, w.same ∙ s.1 ∙ area-view s.0.view)
+    let w = swept_trans c.before.before.before.before.before.before.before.before.before.before.before.eastward.ensures c.before.before.before.westward.ensures in
+    (s.2, w.same ∙ s.1 ∙ area_view s.0.view)
 
 same-length-3 : tie.Need-same-length-3
 same-length-3 c = search rules
 
 returns-3 : tie.Need-returns-3
-returns-3 c = swept-trans c.before.before.before.before.before.before.before.before.before.before.before.before.eastward.ensures c.before.before.before.before.westward.ensures
+returns-3 c = swept_trans c.before.before.before.before.before.before.before.before.before.before.before.before.eastward.ensures c.before.before.before.before.westward.ensures
 
 pub spread-spec : {M : Type 1} → statement M
 spread-spec =

@@ -5,9 +5,9 @@ use native.Mathlib.Omega.{arith}
 use Rattle.survey.specs.Run.{RunOf, first_of}
 use Rattle.position.specs.Board.{ground}
 use Rattle.position.specs.Ground.{next}
-use Rattle.position.proofs.Sides.{on-first}
+use Rattle.position.proofs.Sides.{on_first}
 use Rattle.walk.specs.Swept.{Swept}
-use Rattle.walk.proofs.Joins.{swept_none, swept-trans}
+use Rattle.walk.proofs.Joins.{swept_none, swept_trans}
 use Rattle.sweeping.proofs.up.Statement.{statement}
 use Rattle.sweeping.proofs.up.Tie as tie
 
@@ -18,7 +18,7 @@ abbrev decreases-loop : tie.decreases-loop
 decreases-loop p v buf₀ r₀ reached₀ buf r reached = first_of v.width r
 
 bottom-requires : tie.Need-bottom-requires invariant-loop decreases-loop
-bottom-requires c κs = on-first c.before.before.requires.0
+bottom-requires c κs = on_first c.before.before.requires.0
 
 loop-holds : tie.Need-loop-init invariant-loop decreases-loop
 loop-holds c = (swept_none _, c.bottom.ensures.0)
@@ -30,10 +30,10 @@ first-requires : tie.Need-first-requires invariant-loop decreases-loop
 first-requires c κs = c.before.before.before.before.loop.invariant.1
 
 same_length : tie.Need-same-length invariant-loop decreases-loop
-same_length c = (swept-trans c.before.before.before.before.before.before.loop.invariant.0 c.before.before.before.before.pass_up.ensures).same
+same_length c = (swept_trans c.before.before.before.before.before.before.loop.invariant.0 c.before.before.before.before.pass_up.ensures).same
 
 returns : tie.Need-returns invariant-loop decreases-loop
-returns c = swept-trans c.before.before.before.before.before.before.loop.invariant.0 c.before.before.before.before.pass_up.ensures
+returns c = swept_trans c.before.before.before.before.before.before.loop.invariant.0 c.before.before.before.before.pass_up.ensures
 
 before-requires : tie.Need-before-requires invariant-loop decreases-loop
 before-requires c κs = (c.before.before.before.before.before.before.loop.invariant.1, omega (arith, c.before.first.ensures))
@@ -42,7 +42,7 @@ loop-less : tie.Need-loop-smaller invariant-loop decreases-loop
 loop-less c = omega (arith, c.before2.ensures.1, c.before.before.before.before.before.before.before.loop.invariant.1.on.wide)
 
 loop-again : tie.Need-loop-preserved invariant-loop decreases-loop
-loop-again c = (swept-trans c.before.before.before.before.before.before.before.loop.invariant.0 c.before.before.before.before.before.pass_up.ensures, c.before2.ensures.0)
+loop-again c = (swept_trans c.before.before.before.before.before.before.before.loop.invariant.0 c.before.before.before.before.before.pass_up.ensures, c.before2.ensures.0)
 
 pub up-spec : {M : Type 1} → statement M
 up-spec =

@@ -7,7 +7,7 @@ use borrow.Author.Rules.{rules}
 use Rattle.position.specs.Board.{ground}
 use Rattle.position.specs.Ground.{next}
 use Rattle.walk.specs.Swept.{Swept}
-use Rattle.walk.proofs.Joins.{swept_none, swept-trans}
+use Rattle.walk.proofs.Joins.{swept_none, swept_trans}
 use Rattle.sweeping.proofs.westward.Statement.{statement}
 use Rattle.sweeping.proofs.westward.Tie as tie
 
@@ -33,7 +33,7 @@ loop-less : tie.Need-loop-smaller invariant-loop decreases-loop
 loop-less c = search rules
 
 loop-again : tie.Need-loop-preserved invariant-loop decreases-loop
-loop-again c = (swept-trans c.before.before.before.before.before.before.loop.invariant.0 c.before.before.join-east.ensures, omega (arith, c.before.before.before.before.before.before.loop.invariant.1))
+loop-again c = (swept_trans c.before.before.before.before.before.before.loop.invariant.0 c.before.before.join-east.ensures, omega (arith, c.before.before.before.before.before.before.loop.invariant.1))
 
 same_length : tie.Need-same-length invariant-loop decreases-loop
 same_length c = c.before.loop.invariant.0.same

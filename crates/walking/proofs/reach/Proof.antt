@@ -6,9 +6,9 @@ use native.Mathlib.Omega.{arith}
 use borrow.Author.Tests.{not-true}
 use borrow.Author.Rules.{rules}
 use Rattle.position.specs.Board.{ground}
-use Rattle.walk.proofs.Steps.{two-way}
-use Rattle.walk.proofs.Joins.{swept_none, swept-trans, swept-grades}
-use Rattle.walk.proofs.Runs.{graded-rest, seeded-sourceless, seeded-full, walked}
+use Rattle.walk.proofs.Steps.{two_way}
+use Rattle.walk.proofs.Joins.{swept_none, swept_trans, swept_grades}
+use Rattle.walk.proofs.Runs.{graded_rest, seeded_sourceless, seeded_full, walked}
 use Rattle.walking.proofs.reach.Statement.{statement}
 use Rattle.walking.proofs.reach.Tie as tie
 
@@ -21,9 +21,9 @@ same_length c = search rules
 returns : tie.Need-returns
 returns c =
     let s = c.before.before.before.before.before in
-    let g = two-way (ground s.args.p.now) in
+    let g = two_way (ground s.args.p.now) in
     let most = s.requires.1.grades in
-    walked g most (swept_none _) (seeded-sourceless (graded-rest _ most) s.requires.1.size (c.before.some.ensures (not-true _ c.if1.true)))
+    walked g most (swept_none _) (seeded_sourceless (graded_rest _ most) s.requires.1.size (c.before.some.ensures (not-true _ c.if1.true)))
 
 down-requires : tie.Need-down-requires
 down-requires c κs = (c.before.before.before.before.before.before.requires.0, c.before.before.before.before.before.before.requires.1.size)
@@ -37,10 +37,10 @@ same-length-2 c = search rules
 returns-2 : tie.Need-returns-2
 returns-2 c =
     let s = c.before.before.before.before.before.before.before.before.before.before.before.before in
-    let g = two-way (ground s.args.p.now) in
+    let g = two_way (ground s.args.p.now) in
     let most = s.requires.1.grades in
     let w = c.before.before.before.before.before.down.ensures in
-    walked g most w (seeded-full (graded-rest _ (swept-grades w most)) (w.same ∙ s.requires.1.size) (c.before.some2.ensures (not-true _ c.if2.true)))
+    walked g most w (seeded_full (graded_rest _ (swept_grades w most)) (w.same ∙ s.requires.1.size) (c.before.some2.ensures (not-true _ c.if2.true)))
 
 up-requires : tie.Need-up-requires
 up-requires c κs = (c.before.before.before.before.before.before.before.before.before.before.before.before.before.requires.0, c.before.before.before.before.before.before.down.ensures.same ∙ c.before.before.before.before.before.before.before.before.before.before.before.before.before.requires.1.size)
@@ -48,8 +48,8 @@ up-requires c κs = (c.before.before.before.before.before.before.before.before.b
 seeds-requires : tie.Need-seeds-requires
 seeds-requires c κs =
     let s = c.before.before.before.before.before.before.before.before.before.before.before.before.before.before.before.before.before in
-    let w = swept-trans c.before.before.before.before.before.before.before.before.before.before.down.ensures c.before.before.before.up.ensures in
-    ((s.requires.0, w.same ∙ s.requires.1.size), graded-rest _ (swept-grades w s.requires.1.grades))
+    let w = swept_trans c.before.before.before.before.before.before.before.before.before.before.down.ensures c.before.before.before.up.ensures in
+    ((s.requires.0, w.same ∙ s.requires.1.size), graded_rest _ (swept_grades w s.requires.1.grades))
 
 same-length-3 : tie.Need-same-length-3
 same-length-3 c = search rules
@@ -57,9 +57,9 @@ same-length-3 c = search rules
 returns-3 : tie.Need-returns-3
 returns-3 c =
     let s = c.before.before.before.before.before.before.before.before.before.before.before.before.before.before.before.before.before.before.before.before in
-    let g = two-way (ground s.args.p.now) in
+    let g = two_way (ground s.args.p.now) in
     let most = s.requires.1.grades in
-    walked g most (swept-trans c.before.before.before.before.before.before.before.before.before.before.before.before.before.down.ensures c.before.before.before.before.before.before.up.ensures) c.before.before.seeds.ensures
+    walked g most (swept_trans c.before.before.before.before.before.before.before.before.before.before.before.before.before.down.ensures c.before.before.before.before.before.before.up.ensures) c.before.before.seeds.ensures
 
 pub reach-spec : {M : Type 1} → statement M
 reach-spec =

@@ -7,10 +7,10 @@ use Rattle.position.specs.Board.{ground}
 use Rattle.position.specs.Ground.{next}
 use Rattle.walk.specs.Chain.{mark}
 use Rattle.walk.specs.Trail.{First}
-use Rattle.walk.proofs.Steps.{two-way}
+use Rattle.walk.proofs.Steps.{two_way}
 use Rattle.walk.proofs.Trails.{all-shut}
 use Rattle.walk.proofs.Joins.{joined, spot_in}
-use Rattle.walk.proofs.Runs.{sown-one, sown-flood}
+use Rattle.walk.proofs.Runs.{sown_one, sown_flood}
 use Rattle.walking.proofs.seed.Statement.{statement}
 use Rattle.walking.proofs.seed.Tie as tie
 
@@ -19,7 +19,7 @@ slice-read-if1 c = spot_in c.before.before.before.args.buf.now c.before.before.b
 
 returns : tie.Need-returns
 unfolding mark
-returns c = let s = c.before.before.before.before in sown-one s.requires.1.1 (λ e. absurd (c.if1.true e))
+returns c = let s = c.before.before.before.before in sown_one s.requires.1.1 (λ e. absurd (c.if1.true e))
 
 look-0-requires : tie.Need-look-0-requires
 look-0-requires c κs = search rules
@@ -30,10 +30,10 @@ same_length c = search rules
 returns-2 : tie.Need-returns-2
 returns-2 c =
     let s = c.before.before.before.before.before.before.before in
-    let g = two-way (ground s.args.p.now) in
+    let g = two_way (ground s.args.p.now) in
     let six : c.before.look-0.result ≡ 6 = omega (arith, c.before.look-0.ensures.most) in
     let none = subst (First (next (ground s.args.p.now)) (mark s.args.buf.now) 2 s.args.s.hex 0 0) six c.before.look-0.ensures in
-    sown-one s.requires.1.1 (λ e. all-shut g (λ d p. absurd (omega arith)) none)
+    sown_one s.requires.1.1 (λ e. all-shut g (λ d p. absurd (omega arith)) none)
 
 flood-requires : tie.Need-flood-requires
 unfolding mark
@@ -43,7 +43,7 @@ same-length-2 : tie.Need-same-length-2
 same-length-2 c = search rules
 
 returns-3 : tie.Need-returns-3
-returns-3 c = sown-flood c.before.before.flood.ensures
+returns-3 c = sown_flood c.before.before.flood.ensures
 
 pub seed-spec : {M : Type 1} → statement M
 seed-spec =

@@ -8,10 +8,10 @@ use borrow.Author.Rules.{rules}
 use Rattle.survey.specs.Run.{first_of}
 use Rattle.position.specs.Board.{ground}
 use Rattle.position.specs.Ground.{next}
-use Rattle.position.proofs.Sides.{area-view}
+use Rattle.position.proofs.Sides.{area_view}
 use Rattle.walk.specs.Trail.{Sown}
 use Rattle.walk.proofs.Joins.{apart_next}
-use Rattle.walk.proofs.Runs.{sown-none, sown-on, sown-less}
+use Rattle.walk.proofs.Runs.{sown_none, sown-on, sown_less}
 use Rattle.walking.proofs.seed_run.Statement.{statement}
 use Rattle.walking.proofs.seed_run.Tie as tie
 
@@ -22,7 +22,7 @@ abbrev decreases-loop : tie.decreases-loop
 decreases-loop p v buf₀ r w i₀ buf i = w - i
 
 joinable-requires : tie.Need-joinable-requires invariant-loop decreases-loop
-joinable-requires c κs = let s = c.before.before.before.requires.0 in (s.2, s.1 ∙ area-view s.0.view)
+joinable-requires c κs = let s = c.before.before.before.requires.0 in (s.2, s.1 ∙ area_view s.0.view)
 
 same_length : tie.Need-same-length invariant-loop decreases-loop
 same_length c = search rules
@@ -30,10 +30,10 @@ same_length c = search rules
 returns : tie.Need-returns invariant-loop decreases-loop
 returns c =
     let s = c.before.before.before.before.before.requires in
-    sown-none s.1 (λ k p q. apart_next s.0.0.view k (c.before.joinable.ensures (not-true _ c.if1.true) k p q))
+    sown_none s.1 (λ k p q. apart_next s.0.0.view k (c.before.joinable.ensures (not-true _ c.if1.true) k p q))
 
 loop-holds : tie.Need-loop-init invariant-loop decreases-loop
-loop-holds c = sown-none c.before.before.before.before.before.requires.1 (λ k p q. absurd (omega arith))
+loop-holds c = sown_none c.before.before.before.before.before.requires.1 (λ k p q. absurd (omega arith))
 
 spot-requires : tie.Need-spot-requires invariant-loop decreases-loop
 spot-requires c κs = (c.before.before.before.before.before.before.before.before.requires.0.2, c.before.loop-test.true)
@@ -57,7 +57,7 @@ same-length-2 : tie.Need-same-length-2 invariant-loop decreases-loop
 same-length-2 c = c.before.loop.invariant.kept.same
 
 returns-2 : tie.Need-returns-2 invariant-loop decreases-loop
-returns-2 c = sown-less (omega arith) c.before.loop.invariant
+returns-2 c = sown_less (omega arith) c.before.loop.invariant
 
 pub seed-run-spec : {M : Type 1} → statement M
 seed-run-spec =

@@ -6,9 +6,9 @@ use native.Mathlib.Omega.{arith}
 use Rattle.survey.specs.Run.{RunOf, first_of, past_of}
 use Rattle.position.specs.Board.{ground}
 use Rattle.position.specs.Ground.{next}
-use Rattle.position.proofs.Sides.{area-view, on-first}
+use Rattle.position.proofs.Sides.{area_view, on_first}
 use Rattle.walk.specs.Trail.{Sown}
-use Rattle.walk.proofs.Runs.{sown-none, sown-on, sown-all}
+use Rattle.walk.proofs.Runs.{sown_none, sown-on, sown_all}
 use Rattle.walking.proofs.seeds.Statement.{statement}
 use Rattle.walking.proofs.seeds.Tie as tie
 
@@ -19,12 +19,12 @@ abbrev decreases-loop : tie.decreases-loop
 decreases-loop p v buf₀ hexes r₀ buf r = hexes - first_of v.width r
 
 top-requires : tie.Need-top-requires invariant-loop decreases-loop
-top-requires c κs = on-first c.before.before.requires.0.0
+top-requires c κs = on_first c.before.before.requires.0.0
 
 loop-holds : tie.Need-loop-init invariant-loop decreases-loop
 loop-holds c =
     let t = c.top.ensures in
-    (sown-none c.before.before.before.requires.1 (λ k p q. absurd (omega (arith, t.1))), t.0)
+    (sown_none c.before.before.before.requires.1 (λ k p q. absurd (omega (arith, t.1))), t.0)
 
 seed-run-requires : tie.Need-seed-run-requires invariant-loop decreases-loop
 seed-run-requires c κs =
@@ -41,11 +41,11 @@ same_length c = c.before.before.before.before.seed-run.ensures.kept.same ∙ c.b
 returns : tie.Need-returns invariant-loop decreases-loop
 returns c =
     let s = c.before.before.before.before.before.before.before.before.before.before.requires.0 in
-    sown-all (past_of c.before.before.before.before.before.before.before.before.before.before.args.v.width c.before.before.before.before.before.before.loop.r) (omega (arith, s.1, c.before.past.ensures.0))
+    sown_all (past_of c.before.before.before.before.before.before.before.before.before.before.args.v.width c.before.before.before.before.before.before.loop.r) (omega (arith, s.1, c.before.past.ensures.0))
     (sown-on (omega arith) (omega arith) c.before.before.before.before.before.before.loop.invariant.0 c.before.before.before.before.seed-run.ensures)
 
 after-requires : tie.Need-after-requires invariant-loop decreases-loop
-after-requires c κs = (c.before.before.before.before.before.before.loop.invariant.1, omega (arith, c.before.past.ensures.0, area-view c.before.before.before.before.before.before.before.before.before.before.requires.0.0.view))
+after-requires c κs = (c.before.before.before.before.before.before.loop.invariant.1, omega (arith, c.before.past.ensures.0, area_view c.before.before.before.before.before.before.before.before.before.before.requires.0.0.view))
 
 loop-less : tie.Need-loop-smaller invariant-loop decreases-loop
 loop-less c = omega (arith, c.after.ensures.1, c.before.before.past.ensures.0, c.before.before.before.before.before.before.before.loop.invariant.1.on.wide)

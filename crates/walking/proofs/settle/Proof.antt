@@ -6,7 +6,7 @@ use mathlib.Core.Logic.{⊎_elim, inl, inr}
 use lib.ListN.{length}
 use borrow.Author.Rules.{rules}
 use Rattle.walk.specs.Chain.{mark}
-use Rattle.walk.proofs.Runs.{Settling, settle-none, settle-turn, settle-all}
+use Rattle.walk.proofs.Runs.{Settling, settle_none, settle-turn, settle_all}
 use Rattle.walking.proofs.settle.Statement.{statement}
 use Rattle.walking.proofs.settle.Tie as tie
 
@@ -17,7 +17,7 @@ abbrev decreases-loop : tie.decreases-loop
 decreases-loop buf₀ i₀ buf i = length buf₀ - i
 
 loop-holds : tie.Need-loop-init invariant-loop decreases-loop
-loop-holds c = settle-none _
+loop-holds c = settle_none _
 
 slice-read-m : tie.Need-slice-read-m invariant-loop decreases-loop
 slice-read-m c = search rules
@@ -47,7 +47,7 @@ same_length : tie.Need-same-length invariant-loop decreases-loop
 same_length c = search rules
 
 returns : tie.Need-returns invariant-loop decreases-loop
-returns c = settle-all c.loop-test.false c.before.loop.invariant
+returns c = settle_all c.loop-test.false c.before.loop.invariant
 
 pub settle-spec : {M : Type 1} → statement M
 settle-spec =

@@ -3,14 +3,14 @@
 use Prim.Native.Nat.{ℕ, ◌+◌}
 use mathlib.Core.Path.{ap, ◌∙◌}
 use lib.Dec.{eqb}
-use Rattle.position.proofs.Sides.{on-view}
-use Rattle.routes.proofs.Steps.{far-view}
+use Rattle.position.proofs.Sides.{on_view}
+use Rattle.routes.proofs.Steps.{far_view}
 use borrow.Author.Rules.{rules}
 use Rattle.window.proofs.as_far.Statement.{statement}
 use Rattle.window.proofs.as_far.Tie as tie
 
 distance-requires : tie.Need-distance-requires
-distance-requires c κs = (on-view c.before.requires.0 _ c.before.requires.1, on-view c.before.requires.0 _ c.before.requires.2)
+distance-requires c κs = (on_view c.before.requires.0 _ c.before.requires.1, on_view c.before.requires.0 _ c.before.requires.2)
 
 add-result : tie.Need-overflow-add-result
 add-result c = search rules
@@ -18,7 +18,7 @@ add-result c = search rules
 returns : tie.Need-returns
 returns c =
     let a = c.before.before.args in
-    ap (λ (n : ℕ). eqb n (a.i + 1)) (c.distance.ensures ∙ far-view c.before.before.requires.0 a.start a.x)
+    ap (λ (n : ℕ). eqb n (a.i + 1)) (c.distance.ensures ∙ far_view c.before.before.requires.0 a.start a.x)
 
 pub as-far-spec : {M : Type 1} → statement M
 as-far-spec = tie.close (tie.spec distance-requires add-result returns)

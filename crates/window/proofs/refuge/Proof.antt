@@ -4,8 +4,8 @@ use mathlib.Core.Path.{sym, ap, subst, ◌∙◌}
 use native.Mathlib.Omega.{arith}
 use Rattle.position.specs.Board.{board}
 use Rattle.survey.specs.Region.{Inside, place_of}
-use Rattle.position.proofs.Sides.{on-view}
-use Rattle.routes.proofs.Windows.{refuge-barred, refuge-free, window-marked}
+use Rattle.position.proofs.Sides.{on_view}
+use Rattle.routes.proofs.Windows.{refuge_barred, refuge_free, window-marked}
 use borrow.Author.Rules.{rules}
 use Rattle.window.proofs.refuge.Statement.{statement}
 use Rattle.window.proofs.refuge.Tie as tie
@@ -16,7 +16,7 @@ standable-requires c κs = search rules
 spot-requires : tie.Need-spot-requires
 spot-requires c κs =
     let outset = c.before.before.before.before in
-    on-view outset.requires.0 _ outset.requires.2
+    on_view outset.requires.0 _ outset.requires.2
 
 place-requires : tie.Need-place-requires
 place-requires c κs =
@@ -40,13 +40,13 @@ returns c =
     let b = board a.p.now in
     let e = c.before.before.before.place.ensures.0 ∙ ap (place_of a.v.width a.at) c.before.before.before.before.spot.ensures.1 in
     let k = window-marked outset.requires.0 outset.requires.1 a.x outset.requires.3 e c.before.wide.ensures.is in
-    c.free.ensures ∙ refuge-free b a.f a.x k (sym c.before.before.before.before.before.before.standable.ensures ∙ c.before.before.before.before.before.if1.true)
+    c.free.ensures ∙ refuge_free b a.f a.x k (sym c.before.before.before.before.before.before.standable.ensures ∙ c.before.before.before.before.before.if1.true)
 
 returns-2 : tie.Need-returns-2
 returns-2 c =
     let a = c.before.before.before.before.args in
     let b = board a.p.now in
-    sym (refuge-barred b a.f a.x (sym c.before.standable.ensures ∙ c.if1.false))
+    sym (refuge_barred b a.f a.x (sym c.before.standable.ensures ∙ c.if1.false))
 
 pub refuge-spec : {M : Type 1} → statement M
 refuge-spec =

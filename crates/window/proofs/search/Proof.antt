@@ -5,7 +5,7 @@ use Prim.Native.Nat.{◌-◌}
 use native.Mathlib.Omega.{arith}
 use Rattle.position.specs.Board.{board}
 use Rattle.routes.specs.declared.Found.TheVariants.{Nothing}
-use Rattle.routes.specs.Search.{firstRoute}
+use Rattle.routes.specs.Search.{first_route}
 use Rattle.routes.proofs.Ahead.{from, further, rest, Ahead, begins, none, reached, inward, outward, done}
 use borrow.Author.Rules.{rules}
 use Rattle.window.proofs.search.Statement.{statement}
@@ -14,7 +14,7 @@ use Rattle.window.proofs.search.Tie as tie
 abbrev invariant-loop2 : tie.invariant-loop2
 invariant-loop2 p v at painted f start n found₀ d1 a d2 b d3₀ found d3 =
     let k = from (board p) f start n in
-    Ahead found (firstRoute (board p) f start n) (further (further k a) b) d3 (rest (further k a) d2 (rest k d1 Nothing))
+    Ahead found (first_route (board p) f start n) (further (further k a) b) d3 (rest (further k a) d2 (rest k d1 Nothing))
 
 abbrev decreases-loop2 : tie.decreases-loop2
 decreases-loop2 p v at painted f start n found₀ d1 a d2 b d3₀ found d3 = 6 - d3
@@ -22,13 +22,13 @@ decreases-loop2 p v at painted f start n found₀ d1 a d2 b d3₀ found d3 = 6 -
 abbrev invariant-loop : tie.invariant-loop
 invariant-loop p v at painted f start n found₀ d1 a d2₀ found d2 =
     let k = from (board p) f start n in
-    Ahead found (firstRoute (board p) f start n) (further k a) d2 (rest k d1 Nothing)
+    Ahead found (first_route (board p) f start n) (further k a) d2 (rest k d1 Nothing)
 
 abbrev decreases-loop : tie.decreases-loop
 decreases-loop p v at painted f start n found₀ d1 a d2₀ found d2 = 6 - d2
 
 abbrev invariant-search : tie.invariant-search
-invariant-search p v at painted f start n found₀ d1₀ found d1 = Ahead found (firstRoute (board p) f start n) (from (board p) f start n) d1 Nothing
+invariant-search p v at painted f start n found₀ d1₀ found d1 = Ahead found (first_route (board p) f start n) (from (board p) f start n) d1 Nothing
 
 abbrev decreases-search : tie.decreases-search
 decreases-search p v at painted f start n found₀ d1₀ found d1 = 6 - d1

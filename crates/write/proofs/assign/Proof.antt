@@ -1,6 +1,6 @@
 -- `write::assign` makes its change.
 -- Assumes nothing.
-use Rattle.position.specs.Layout.{setRole}
+use Rattle.position.specs.Layout.{set_role}
 use Rattle.position.specs.Change.{make}
 use borrow.Author.Rules.{rules}
 use Rattle.write.proofs.assign.Statement.{statement}
@@ -13,7 +13,7 @@ same_length : tie.Need-same-length
 same_length c = search rules
 
 returns : tie.Need-returns
-unfolding make setRole
+unfolding make set_role
 returns c = c.before.before.set-unit.ensures
 
 pub assign-spec : {M : Type 1} → statement M

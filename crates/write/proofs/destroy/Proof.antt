@@ -5,9 +5,9 @@ use mathlib.Core.Path.{◌≡◌, ap, ap₂, ◌∙◌}
 use mathlib.Core.List.{List}
 use native.Mathlib.Omega.{arith}
 use Rattle.position.specs.Bits.{faced}
-use Rattle.position.specs.Layout.{marksField, roleField, marks, setUnit, setMarks, setRole}
+use Rattle.position.specs.Layout.{marks_field, role_field, marks, set_unit, set_marks, set_role}
 use Rattle.position.specs.Change.{make}
-use Rattle.position.proofs.Laying.{laid-unit, laid-hex}
+use Rattle.position.proofs.Laying.{laid_unit, laid_hex}
 use borrow.Author.Rules.{rules}
 use Rattle.write.proofs.destroy.Statement.{statement}
 use Rattle.write.proofs.destroy.Tie as tie
@@ -19,23 +19,23 @@ set-hex-requires : tie.Need-set-hex-requires
 set-hex-requires c κs = search rules
 
 set-unit-requires : tie.Need-set-unit-requires
-set-unit-requires c κs = (laid-hex _ _ c.before.before.before.before.before.before.before.before.requires c.before.before.before.set-hex.ensures, omega arith, omega arith)
+set-unit-requires c κs = (laid_hex _ _ c.before.before.before.before.before.before.before.before.requires c.before.before.before.set-hex.ensures, omega arith, omega arith)
 
 set-unit-requires-2 : tie.Need-set-unit-requires-2
-set-unit-requires-2 c κs = (laid-unit _ _ _ (laid-hex _ _ c.before.before.before.before.before.before.before.before.before.before.before.before.requires c.before.before.before.before.before.before.before.set-hex.ensures) c.before.before.before.set-unit.ensures, omega arith, omega arith)
+set-unit-requires-2 c κs = (laid_unit _ _ _ (laid_hex _ _ c.before.before.before.before.before.before.before.before.before.before.before.before.requires c.before.before.before.before.before.before.before.set-hex.ensures) c.before.before.before.set-unit.ensures, omega arith, omega arith)
 
 same_length : tie.Need-same-length
 same_length c = search rules
 
 returns : tie.Need-returns
-unfolding make setMarks setRole faced
+unfolding make set_marks set_role faced
 returns c =
     let s = c.before.before.before.before.before.before.before.before.before.before.before.before.before.before.before in
     let u = s.args.u in
     let old : c.before.before.before.before.before.before.before.before.before.before.before.before.marks.result % 2 ≡ 0 / 2 * 2 + marks s.args.p.now u % 2 = omega (arith, c.before.before.before.before.before.before.before.before.before.before.before.before.marks.ensures.is) in
     c.before.before.set-unit2.ensures
-    ∙ ap (λ (q : List ℕ). setUnit q u roleField 0)
-    (c.before.before.before.before.before.before.set-unit.ensures ∙ ap₂ (λ (q : List ℕ) (x : ℕ). setUnit q u marksField x) c.before.before.before.before.before.before.before.before.before.before.set-hex.ensures old)
+    ∙ ap (λ (q : List ℕ). set_unit q u role_field 0)
+    (c.before.before.before.before.before.before.set-unit.ensures ∙ ap₂ (λ (q : List ℕ) (x : ℕ). set_unit q u marks_field x) c.before.before.before.before.before.before.before.before.before.before.set-hex.ensures old)
 
 pub destroy-spec : {M : Type 1} → statement M
 destroy-spec =

@@ -3,7 +3,7 @@
 use Prim.Native.Nat.{ℕ, ◌+◌, ◌*◌, ◌/◌, ◌%◌}
 use mathlib.Core.Path.{ap, ◌∙◌}
 use Rattle.position.specs.Bits.{faced}
-use Rattle.position.specs.Layout.{marksField, setUnit, setMarks}
+use Rattle.position.specs.Layout.{marks_field, set_unit, set_marks}
 use Rattle.position.specs.Change.{make}
 use borrow.Author.Rules.{rules}
 use Rattle.write.proofs.mark.Statement.{statement}
@@ -25,8 +25,8 @@ same_length : tie.Need-same-length
 same_length c = search rules
 
 returns : tie.Need-returns
-unfolding make setMarks faced
-returns c = let s = c.before.before.before.before.before.before.before in c.before.before.set-unit.ensures ∙ ap (λ (x : ℕ). setUnit s.args.p.now s.args.u marksField (s.args.m / 2 * 2 + x % 2)) c.before.before.before.before.marks.ensures.is
+unfolding make set_marks faced
+returns c = let s = c.before.before.before.before.before.before.before in c.before.before.set-unit.ensures ∙ ap (λ (x : ℕ). set_unit s.args.p.now s.args.u marks_field (s.args.m / 2 * 2 + x % 2)) c.before.before.before.before.marks.ensures.is
 
 pub mark_spec : {M : Type 1} → statement M
 mark_spec =

@@ -4,8 +4,8 @@ use Prim.Native.Nat.{ℕ, ◌+◌, ◌/◌}
 use mathlib.Core.Path.{ap, ◌∙◌}
 use mathlib.Core.List.{List}
 use native.Mathlib.Omega.{arith}
-use Rattle.position.specs.Layout.{routeField, setDesk, setRouteHex}
-use Rattle.position.proofs.Laying.{laid-desk}
+use Rattle.position.specs.Layout.{route_field, set_desk, set_route_hex}
+use Rattle.position.proofs.Laying.{laid_desk}
 use borrow.Author.Rules.{rules}
 use Rattle.write.proofs.set_route_hex.Statement.{statement}
 use Rattle.write.proofs.set_route_hex.Tie as tie
@@ -29,16 +29,16 @@ add-set-desk : tie.Need-overflow-add-set-desk
 add-set-desk c = search rules
 
 set-desk-requires-2 : tie.Need-set-desk-requires-2
-set-desk-requires-2 c κs = (laid-desk _ _ c.before.before.before.before.before.before.requires.0 c.before.before.before.set-desk.ensures, omega arith, omega arith)
+set-desk-requires-2 c κs = (laid_desk _ _ c.before.before.before.before.before.before.requires.0 c.before.before.before.set-desk.ensures, omega arith, omega arith)
 
 same_length : tie.Need-same-length
 same_length c = search rules
 
 returns : tie.Need-returns
-unfolding setRouteHex
+unfolding set_route_hex
 returns c =
     let a = c.before.before.before.before.before.before.before.before.before.args in
-    c.before.before.set-desk2.ensures ∙ ap (λ (q : List ℕ). setDesk q (routeField a.r a.j + 1) (a.h / 256)) c.before.before.before.before.before.before.set-desk.ensures
+    c.before.before.set-desk2.ensures ∙ ap (λ (q : List ℕ). set_desk q (route_field a.r a.j + 1) (a.h / 256)) c.before.before.before.before.before.before.set-desk.ensures
 
 pub set-route-hex-spec : {M : Type 1} → statement M
 set-route-hex-spec =

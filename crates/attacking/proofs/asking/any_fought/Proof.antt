@@ -4,16 +4,16 @@ use Prim.Native.Nat.{◌-◌}
 use mathlib.Core.Path.{◌∙◌, ap, sym}
 use native.Mathlib.Omega.{arith}
 use borrow.Author.Rules.{rules}
-use Rattle.position.proofs.Tallies.{any-true}
+use Rattle.position.proofs.Tallies.{any_true}
 use Rattle.position.specs.Board.{board}
 use Rattle.position.specs.Tally.{any}
-use Rattle.battle.specs.Attack.{foughtOn}
+use Rattle.battle.specs.Attack.{fought_on}
 use Rattle.field.proofs.Zones.{None, none_yet, one_more, none_at_all}
 use Rattle.attacking.proofs.asking.any_fought.Statement.{statement}
 use Rattle.attacking.proofs.asking.any_fought.Tie as tie
 
 abbrev invariant-loop : tie.invariant-loop
-invariant-loop p v h count u₀ u = None (foughtOn (board p) h) u count
+invariant-loop p v h count u₀ u = None (fought_on (board p) h) u count
 
 abbrev decreases-loop : tie.decreases-loop
 decreases-loop p v h count u₀ u = count - u
@@ -25,7 +25,7 @@ fought-on-requires : tie.Need-fought-on-requires invariant-loop decreases-loop
 fought-on-requires c κs = search rules
 
 returns : tie.Need-returns invariant-loop decreases-loop
-returns c = sym (any-true _ _ c.before.before.before.loop.u (omega arith) (sym c.before.fought-on.ensures ∙ c.if1.true))
+returns c = sym (any_true _ _ c.before.before.before.loop.u (omega arith) (sym c.before.fought-on.ensures ∙ c.if1.true))
 
 add-u : tie.Need-overflow-add-u invariant-loop decreases-loop
 add-u c = search rules
@@ -39,7 +39,7 @@ loop-again c = one_more c.before.before.before.loop.invariant (omega arith) (sym
 returns-2 : tie.Need-returns-2 invariant-loop decreases-loop
 returns-2 c =
     let a = c.before.before.before.args in
-    sym (ap (any (foughtOn (board a.p.now) a.h)) (sym c.before.before.before.requires.view.count) ∙ none_at_all c.before.loop.invariant (omega arith))
+    sym (ap (any (fought_on (board a.p.now) a.h)) (sym c.before.before.before.requires.view.count) ∙ none_at_all c.before.loop.invariant (omega arith))
 
 pub any-fought-spec : {M : Type 1} → statement M
 any-fought-spec =

@@ -2,7 +2,7 @@
 -- Assumes nothing.
 use mathlib.Core.Path.{◌∙◌, sym}
 use borrow.Author.Rules.{rules}
-use Rattle.battle.proofs.Asks.{passes-attacker, stops-apart, stops_named, stops-phasing, stops-type}
+use Rattle.battle.proofs.Asks.{passes_attacker, stops_apart, stops_named, stops_phasing, stops_type}
 use Rattle.attacking.proofs.asking.attacker.Statement.{statement}
 use Rattle.attacking.proofs.asking.attacker.Tie as tie
 
@@ -13,13 +13,13 @@ not-phasing-requires : tie.Need-not-phasing-requires
 not-phasing-requires c κs = search rules
 
 returns : tie.Need-returns
-returns c = stops-phasing _ _ _ _ _ _ (sym c.before.not-phasing.ensures ∙ c.if1.true)
+returns c = stops_phasing _ _ _ _ _ _ (sym c.before.not-phasing.ensures ∙ c.if1.true)
 
 cannot-attack-requires : tie.Need-cannot-attack-requires
 cannot-attack-requires c κs = search rules
 
 returns-2 : tie.Need-returns-2
-returns-2 c = stops-type _ _ _ _ _ _ (sym c.before.before.before.not-phasing.ensures ∙ c.before.before.if1.false) (sym c.before.cannot-attack.ensures ∙ c.if2.true)
+returns-2 c = stops_type _ _ _ _ _ _ (sym c.before.before.before.not-phasing.ensures ∙ c.before.before.if1.false) (sym c.before.cannot-attack.ensures ∙ c.if2.true)
 
 named-requires : tie.Need-named-requires
 named-requires c κs = search rules
@@ -32,12 +32,12 @@ not-beside-requires c κs = search rules
 
 returns-4 : tie.Need-returns-4
 returns-4 c =
-    stops-apart _ _ _ _ _ _ (sym c.before.before.before.before.before.before.before.not-phasing.ensures ∙ c.before.before.before.before.before.before.if1.false) (sym c.before.before.before.before.before.cannot-attack.ensures ∙ c.before.before.before.before.if2.false) (sym c.before.before.before.named.ensures ∙ c.before.before.if3.false)
+    stops_apart _ _ _ _ _ _ (sym c.before.before.before.before.before.before.before.not-phasing.ensures ∙ c.before.before.before.before.before.before.if1.false) (sym c.before.before.before.before.before.cannot-attack.ensures ∙ c.before.before.before.before.if2.false) (sym c.before.before.before.named.ensures ∙ c.before.before.if3.false)
     (sym c.before.not-beside.ensures ∙ c.if4.true)
 
 returns-5 : tie.Need-returns-5
 returns-5 c =
-    passes-attacker _ _ _ _ _ _ (sym c.before.before.before.before.before.before.before.not-phasing.ensures ∙ c.before.before.before.before.before.before.if1.false) (sym c.before.before.before.before.before.cannot-attack.ensures ∙ c.before.before.before.before.if2.false) (sym c.before.before.before.named.ensures ∙ c.before.before.if3.false)
+    passes_attacker _ _ _ _ _ _ (sym c.before.before.before.before.before.before.before.not-phasing.ensures ∙ c.before.before.before.before.before.before.if1.false) (sym c.before.before.before.before.before.cannot-attack.ensures ∙ c.before.before.before.before.if2.false) (sym c.before.before.before.named.ensures ∙ c.before.before.if3.false)
     (sym c.before.not-beside.ensures ∙ c.if4.false)
 
 pub attacker-spec : {M : Type 1} → statement M

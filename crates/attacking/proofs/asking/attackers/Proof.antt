@@ -5,7 +5,7 @@ use Prim.Native.Nat.{◌-◌}
 use mathlib.Core.Path.{subst}
 use native.Mathlib.Omega.{arith}
 use borrow.Author.Rules.{rules}
-use Rattle.ruling.proofs.Going.{gone-end, gone-none, gone-stop}
+use Rattle.ruling.proofs.Going.{gone-end, gone_none, gone-stop}
 use Rattle.ruling.specs.Judged.{TestedOf}
 use Rattle.battle.proofs.Asks.{Asked, asked-more}
 use Rattle.battle.specs.Attack.{attackers}
@@ -19,7 +19,7 @@ abbrev decreases-loop : tie.decreases-loop
 decreases-loop p v target units i₀ i-end i = i-end - i
 
 loop-holds : tie.Need-loop-init invariant-loop decreases-loop
-loop-holds c = record { gone = gone-none; able = λ j l. absurd (omega arith) }
+loop-holds c = record { gone = gone_none; able = λ j l. absurd (omega arith) }
 
 mul-attacker : tie.Need-overflow-mul-attacker invariant-loop decreases-loop
 mul-attacker c = search rules

@@ -5,8 +5,8 @@ use borrow.Author.Rules.{rules}
 use borrow.Author.Tests.{not-true}
 use Rattle.position.specs.Bits.{fought, has}
 use Rattle.position.specs.Board.{board}
-use Rattle.position.specs.Kind.{mayAttack}
-use Rattle.battle.proofs.Asks.{cannot-mark, cannot-type}
+use Rattle.position.specs.Kind.{may_attack}
+use Rattle.battle.proofs.Asks.{cannot_mark, cannot_type}
 use Rattle.position.proofs.Answers.{holds}
 use Rattle.attacking.proofs.asking.cannot_attack.Statement.{statement}
 use Rattle.attacking.proofs.asking.cannot_attack.Tie as tie
@@ -14,8 +14,8 @@ use Rattle.attacking.proofs.asking.cannot_attack.Tie as tie
 -- the answer for the unit's type
 asked : (c : tie.After-may-attack) →
     let a = c.before.before.before.args in
-    c.may-attack.result ≡ mayAttack ((board a.p.now).units.counter.kind a.u)
-asked c = c.may-attack.ensures ∙ ap mayAttack c.before.kind.ensures.is
+    c.may-attack.result ≡ may_attack ((board a.p.now).units.counter.kind a.u)
+asked c = c.may-attack.ensures ∙ ap may_attack c.before.kind.ensures.is
 
 kind-requires : tie.Need-kind-requires
 kind-requires c κs = search rules
@@ -24,7 +24,7 @@ may-attack-requires : tie.Need-may-attack-requires
 may-attack-requires c κs = search rules
 
 returns : tie.Need-returns
-returns c = sym (cannot-type _ _ (sym (asked c.before) ∙ not-true _ c.if1.true))
+returns c = sym (cannot_type _ _ (sym (asked c.before) ∙ not-true _ c.if1.true))
 
 marks-requires : tie.Need-marks-requires
 marks-requires c κs = search rules
@@ -33,7 +33,7 @@ has-requires : tie.Need-has-requires
 has-requires c κs = search rules
 
 returns-2 : tie.Need-returns-2
-returns-2 c = c.has.ensures ∙ ap (has fought) c.before.marks.ensures.is ∙ sym (cannot-mark _ _ (holds (asked c.before.before.before) c.before.before.if1.false))
+returns-2 c = c.has.ensures ∙ ap (has fought) c.before.marks.ensures.is ∙ sym (cannot_mark _ _ (holds (asked c.before.before.before) c.before.before.if1.false))
 
 pub cannot-attack-spec : {M : Type 1} → statement M
 cannot-attack-spec =

@@ -8,7 +8,7 @@ use Rattle.ruling.proofs.Going.{tested-through}
 use Rattle.ruling.proofs.Meets.{pass, stop}
 use Rattle.ruling.specs.Judged.{Passes, TestedOf}
 use Rattle.battle.specs.Asked.{InRange}
-use Rattle.battle.specs.Attack.{attackChecks, in_range}
+use Rattle.battle.specs.Attack.{attack_checks, in_range}
 use Rattle.attacking.proofs.asking.judge_attack.Statement.{statement}
 use Rattle.attacking.proofs.asking.judge_attack.Tie as tie
 
@@ -26,7 +26,7 @@ enum-known-n : tie.Need-enum-known-n
 enum-known-n c = search rules
 
 returns : tie.Need-returns
-unfolding attackChecks
+unfolding attack_checks
 returns c = λ l v. subst (TestedOf _ _ _) c.before.n.given.1 c.before.before.before.in-range.ensures l _
 
 enum_told : tie.Need-enum-told
@@ -36,14 +36,14 @@ may-attack-now-requires : tie.Need-may-attack-now-requires
 may-attack-now-requires c κs = search rules
 
 returns-2 : tie.Need-returns-2
-unfolding attackChecks
+unfolding attack_checks
 returns-2 c = λ l v. (ranged c.before.before).0 l _ _ _ _ (stop (sym (ap not c.before.may-attack-now.ensures) ∙ c.if1.true))
 
 no-target-requires : tie.Need-no-target-requires
 no-target-requires c κs = search rules
 
 returns-3 : tie.Need-returns-3
-unfolding attackChecks
+unfolding attack_checks
 returns-3 c =
     λ l v.
     (ranged c.before.before.before.before).0 l _ _ _ _
@@ -53,7 +53,7 @@ attackers-requires : tie.Need-attackers-requires
 attackers-requires c κs = (c.before.before.before.before.before.before.before.before.before.requires, (ranged c.before.before.before.before).1.most)
 
 returns-4 : tie.Need-returns-4
-unfolding attackChecks
+unfolding attack_checks
 returns-4 c =
     let k = ranged c.before.before.before.before.before in
     tested-through

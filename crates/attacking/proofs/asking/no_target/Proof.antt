@@ -6,18 +6,18 @@ use borrow.Author.Rules.{rules}
 use borrow.Author.Tests.{not-false, not-true}
 use Rattle.position.specs.Board.{board}
 use Rattle.field.specs.Scene.{scene}
-use Rattle.field.specs.Zone.{holdsEnemy}
-use Rattle.battle.proofs.Asks.{target-empty, target-held}
+use Rattle.field.specs.Zone.{holds_enemy}
+use Rattle.battle.proofs.Asks.{target_empty, target_held}
 use Rattle.attacking.proofs.asking.no_target.Statement.{statement}
 use Rattle.attacking.proofs.asking.no_target.Tie as tie
 
 -- whether an Enemy stands there
 held : (c : tie.After-holds-enemy) →
     let a = c.before.before.before.args in
-    holdsEnemy (scene (board a.p.now)) (board a.p.now).desk.clock.force a.target ≡ c.holds-enemy.result
+    holds_enemy (scene (board a.p.now)) (board a.p.now).desk.clock.force a.target ≡ c.holds-enemy.result
 held c =
     let a = c.before.before.before.args in
-    sym (c.holds-enemy.ensures ∙ ap (λ (f : ℕ). holdsEnemy (scene (board a.p.now)) f a.target) c.before.phasing.ensures.is)
+    sym (c.holds-enemy.ensures ∙ ap (λ (f : ℕ). holds_enemy (scene (board a.p.now)) f a.target) c.before.phasing.ensures.is)
 
 phasing-requires : tie.Need-phasing-requires
 phasing-requires c κs = search rules
@@ -26,13 +26,13 @@ holds-enemy-requires : tie.Need-holds-enemy-requires
 holds-enemy-requires c κs = search rules
 
 returns : tie.Need-returns
-returns c = sym (target-empty _ _ (held c.before ∙ not-true _ c.if1.true))
+returns c = sym (target_empty _ _ (held c.before ∙ not-true _ c.if1.true))
 
 any-fought-requires : tie.Need-any-fought-requires
 any-fought-requires c κs = search rules
 
 returns-2 : tie.Need-returns-2
-returns-2 c = c.any-fought.ensures ∙ sym (target-held _ _ (held c.before.before ∙ not-false _ c.before.if1.false))
+returns-2 c = c.any-fought.ensures ∙ sym (target_held _ _ (held c.before.before ∙ not-false _ c.before.if1.false))
 
 pub no-target-spec : {M : Type 1} → statement M
 no-target-spec =

@@ -6,7 +6,7 @@ use mathlib.Core.Path.{◌∙◌, ap}
 use borrow.Author.Rules.{rules}
 use Rattle.position.specs.Board.{ground}
 use Rattle.position.specs.Ground.{joined}
-use Rattle.battle.specs.Attack.{notBeside}
+use Rattle.battle.specs.Attack.{not_beside}
 use Rattle.attacking.proofs.asking.not_beside.Statement.{statement}
 use Rattle.attacking.proofs.asking.not_beside.Tie as tie
 
@@ -17,7 +17,7 @@ joined-requires : tie.Need-joined-requires
 joined-requires c κs = search rules
 
 returns : tie.Need-returns
-unfolding notBeside
+unfolding not_beside
 returns c =
     let a = c.before.before.before.args in
     ap not (c.joined.ensures ∙ ap (λ (h : ℕ). joined (ground a.p.now) h a.target) c.before.hex.ensures.is)

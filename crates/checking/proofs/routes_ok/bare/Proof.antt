@@ -4,10 +4,10 @@ use Prim.Native.Nat.{ℕ, ◌-◌}
 use mathlib.Core.Path.{◌≡◌, sym, ◌∙◌}
 use native.Mathlib.Omega.{arith}
 use borrow.Author.Rules.{rules}
-use Rattle.position.specs.Layout.{routeHexes}
+use Rattle.position.specs.Layout.{route_hexes}
 use Rattle.position.specs.Board.{board}
 use Rattle.checking.specs.Bare.{BareTo}
-use Rattle.checking.proofs.Bares.{bare-none, bare-more}
+use Rattle.checking.proofs.Bares.{bare_none, bare_more}
 use Rattle.checking.proofs.routes_ok.bare.Statement.{statement}
 use Rattle.checking.proofs.routes_ok.bare.Tie as tie
 
@@ -15,10 +15,10 @@ abbrev invariant-loop : tie.invariant-loop
 invariant-loop p v r j₀ j = BareTo (board p) r j
 
 abbrev decreases-loop : tie.decreases-loop
-decreases-loop p v r j₀ j = routeHexes - j
+decreases-loop p v r j₀ j = route_hexes - j
 
 loop-holds : tie.Need-loop-init invariant-loop decreases-loop
-loop-holds c = bare-none (board c.before.args.p.now) c.before.args.r
+loop-holds c = bare_none (board c.before.args.p.now) c.before.args.r
 
 route-requires : tie.Need-route-requires invariant-loop decreases-loop
 route-requires c κs = search rules
@@ -35,7 +35,7 @@ loop-less c = search rules
 loop-again : tie.Need-loop-preserved invariant-loop decreases-loop
 loop-again c =
     let a = c.before.before.before.before.before.args in
-    bare-more (board a.p.now) a.r c.before.before.before.loop.j c.before.before.before.loop.invariant (sym c.before.route.ensures.is ∙ c.if1.false)
+    bare_more (board a.p.now) a.r c.before.before.before.loop.j c.before.before.before.loop.invariant (sym c.before.route.ensures.is ∙ c.if1.false)
 
 returns-2 : tie.Need-returns-2 invariant-loop decreases-loop
 returns-2 c = λ e k l. c.before.loop.invariant k (omega arith)

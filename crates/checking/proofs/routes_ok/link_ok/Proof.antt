@@ -34,7 +34,7 @@ returns c = fine (record { front = λ n. absurd (n (omega arith)); step = λ n. 
 returns-2 : tie.Need-returns-2
 returns-2 c =
     broken
-    (Flaw.routeFront c.before.before.before.before.before.args.r c.before.before.before.before.before.args.j refl refl c.before.before.before.before.before.requires.1 c.before.before.before.before.before.requires.2 (λ t. t (λ e. omega arith) (omega arith)))
+    (Flaw.route_front c.before.before.before.before.before.args.r c.before.before.before.before.before.args.j refl refl c.before.before.before.before.before.requires.1 c.before.before.before.before.before.requires.2 (λ t. t (λ e. omega arith) (omega arith)))
 
 joined-requires : tie.Need-joined-requires
 joined-requires c κs = c.before.before.before.before.before.requires.0
@@ -42,7 +42,7 @@ joined-requires c κs = c.before.before.before.before.before.requires.0
 returns-3 : tie.Need-returns-3
 returns-3 c =
     broken
-    (Flaw.routeStep c.before.before.before.before.before.before.before.args.r c.before.before.before.before.before.before.before.args.j refl refl c.before.before.before.before.before.before.before.requires.1 c.before.before.before.before.before.before.before.requires.2
+    (Flaw.route_step c.before.before.before.before.before.before.before.args.r c.before.before.before.before.before.before.before.args.j refl refl c.before.before.before.before.before.before.before.requires.1 c.before.before.before.before.before.before.before.requires.2
     (λ t. fails (is-joined c.before) c.if3.true (t (λ e. omega arith))))
 
 returns-4 : tie.Need-returns-4

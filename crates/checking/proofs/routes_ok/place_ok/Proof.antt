@@ -34,7 +34,7 @@ standable-requires c κs = c.before.before.before.before.before.requires.0
 returns-3 : tie.Need-returns-3
 returns-3 c =
     broken
-    (Flaw.routeGround c.before.before.before.before.before.before.before.args.r c.before.before.before.before.before.before.before.args.j refl refl c.before.before.before.before.before.before.before.requires.1 c.before.before.before.before.before.before.before.requires.2
+    (Flaw.route_ground c.before.before.before.before.before.before.before.args.r c.before.before.before.before.before.before.before.args.j refl refl c.before.before.before.before.before.before.before.requires.1 c.before.before.before.before.before.before.before.requires.2
     (λ t. fails (stands c.before) c.if3.true (t (λ e. omega arith))))
 
 returns-4 : tie.Need-returns-4

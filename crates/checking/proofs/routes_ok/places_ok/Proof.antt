@@ -3,26 +3,26 @@
 use Prim.Native.Nat.{◌-◌}
 use native.Mathlib.Omega.{arith}
 use borrow.Author.Rules.{rules}
-use Rattle.position.specs.Layout.{routeHexes}
+use Rattle.position.specs.Layout.{route_hexes}
 use Rattle.position.specs.Board.{board}
 use Rattle.position.proofs.Answers.{Passed, none_yet, one_more, all}
 use Rattle.acceptance.specs.Accepted.{PlaceOk}
-use Rattle.flaw.proofs.Tellings.{fine, line_small, broken-there}
-use Rattle.checking.proofs.Bares.{bare-places}
+use Rattle.flaw.proofs.Tellings.{fine, line_small, broken_there}
+use Rattle.checking.proofs.Bares.{bare_places}
 use Rattle.checking.proofs.routes_ok.places_ok.Statement.{statement}
 use Rattle.checking.proofs.routes_ok.places_ok.Tie as tie
 
 abbrev invariant-loop : tie.invariant-loop
-invariant-loop p v r j₀ j = Passed (PlaceOk (board p) r) j routeHexes
+invariant-loop p v r j₀ j = Passed (PlaceOk (board p) r) j route_hexes
 
 abbrev decreases-loop : tie.decreases-loop
-decreases-loop p v r j₀ j = routeHexes - j
+decreases-loop p v r j₀ j = route_hexes - j
 
 bare-requires : tie.Need-bare-requires invariant-loop decreases-loop
 bare-requires c κs = search rules
 
 returns : tie.Need-returns invariant-loop decreases-loop
-returns c = fine (bare-places _ _ (c.before.bare.ensures c.if1.true))
+returns c = fine (bare_places _ _ (c.before.bare.ensures c.if1.true))
 
 loop-holds : tie.Need-loop-init invariant-loop decreases-loop
 loop-holds c = none_yet
@@ -43,7 +43,7 @@ add-result-2 : tie.Need-overflow-add-result-2 invariant-loop decreases-loop
 add-result-2 c = omega (arith, c.before.before.before.before.before.before.before.requires.1, line_small (c.before.Place-ok.ensures.named c.if2.true))
 
 returns-2 : tie.Need-returns-2 invariant-loop decreases-loop
-returns-2 c = broken-there (c.before.Place-ok.ensures.named c.if2.true)
+returns-2 c = broken_there (c.before.Place-ok.ensures.named c.if2.true)
 
 add-j : tie.Need-overflow-add-j invariant-loop decreases-loop
 add-j c = search rules

@@ -3,9 +3,9 @@
 use mathlib.Core.Path.{refl, sym, ◌∙◌}
 use native.Mathlib.Omega.{arith}
 use borrow.Author.Rules.{rules}
-use Rattle.position.proofs.Tallies.{not-both}
+use Rattle.position.proofs.Tallies.{not_both}
 use Rattle.flaw.specs.Flaw as Flaw
-use Rattle.flaw.proofs.Tellings.{fine, passed_on, broken-there}
+use Rattle.flaw.proofs.Tellings.{fine, passed_on, broken_there}
 use Rattle.checking.proofs.routes_ok.route_ok.Statement.{statement}
 use Rattle.checking.proofs.routes_ok.route_ok.Tie as tie
 
@@ -36,15 +36,15 @@ add-result c = omega (arith, c.before.before.before.before.before.before.before.
 
 returns-3 : tie.Need-returns-3
 returns-3 c =
-    broken-there
-    (Flaw.routesFirst refl c.before.before.before.before.before.before.before.requires.1
-    (λ t. not-both _ (t (sym c.before.filled2.ensures ∙ c.if3.true)) (sym c.before.before.before.filled.ensures ∙ c.before.before.if2.false)))
+    broken_there
+    (Flaw.routes_first refl c.before.before.before.before.before.before.before.requires.1
+    (λ t. not_both _ (t (sym c.before.filled2.ensures ∙ c.if3.true)) (sym c.before.before.before.filled.ensures ∙ c.before.before.if2.false)))
 
 returns-4 : tie.Need-returns-4
 returns-4 c =
     fine
     (record {
-      first = λ e. not-both _ e (sym c.before.filled2.ensures ∙ c.if3.false);
+      first = λ e. not_both _ e (sym c.before.filled2.ensures ∙ c.if3.false);
       places = c.before.before.before.before.before.places-ok.ensures.kept c.before.before.before.before.if1.false;
     })
 

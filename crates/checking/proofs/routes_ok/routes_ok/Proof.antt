@@ -3,7 +3,7 @@
 use Prim.Native.Nat.{◌-◌}
 use native.Mathlib.Omega.{arith}
 use borrow.Author.Rules.{rules}
-use Rattle.position.specs.Layout.{routeCount}
+use Rattle.position.specs.Layout.{route_count}
 use Rattle.position.specs.Board.{board}
 use Rattle.position.proofs.Answers.{Passed, none_yet, one_more, all}
 use Rattle.acceptance.specs.Accepted.{RouteOk}
@@ -12,10 +12,10 @@ use Rattle.checking.proofs.routes_ok.routes_ok.Statement.{statement}
 use Rattle.checking.proofs.routes_ok.routes_ok.Tie as tie
 
 abbrev invariant-loop : tie.invariant-loop
-invariant-loop p v r₀ r = Passed (RouteOk (board p)) r routeCount
+invariant-loop p v r₀ r = Passed (RouteOk (board p)) r route_count
 
 abbrev decreases-loop : tie.decreases-loop
-decreases-loop p v r₀ r = routeCount - r
+decreases-loop p v r₀ r = route_count - r
 
 loop-holds : tie.Need-loop-init invariant-loop decreases-loop
 loop-holds c = none_yet

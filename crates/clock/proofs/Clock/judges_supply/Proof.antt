@@ -2,16 +2,16 @@
 -- Assumes nothing.
 use borrow.Author.Tests.{eq-eqb, ne_eqb}
 use Rattle.clock.specs.Phase as Phase
-use Rattle.clock.specs.Clock.{judgesSupply}
+use Rattle.clock.specs.Clock.{judges_supply}
 use Rattle.clock.proofs.Clock.judges_supply.Statement.{statement}
 use Rattle.clock.proofs.Clock.judges_supply.Tie as tie
 
 returns : tie.Need-returns
-unfolding judgesSupply
+unfolding judges_supply
 returns c = simp (eq-eqb c.before.args.self.phase Phase.land c.if1.true)
 
 returns-2 : tie.Need-returns-2
-unfolding judgesSupply
+unfolding judges_supply
 returns-2 c = simp (ne_eqb c.before.args.self.phase Phase.land c.if1.false)
 
 pub judges-supply-spec : {M : Type 1} → statement M

@@ -38,7 +38,7 @@ use denote.Triple.Entry.{on_entry}
 use denote.Triple.Spec.{Meets, triple_of}
 use denote.Triple.Table.{entered, cited}
 use denote.Triple.Walked.{says, needs, Stays, stay_ref, walk_of, Goes-ref, Walks, ends_at, walked, walk_Meets}
-use Rattle.clock.specs.Clock.{nextClock}
+use Rattle.clock.specs.Clock.{next_clock}
 use Rattle.clock.specs.declared.Clock.{Clock}
 use Rattle.clock.specs.contracts.Clock as T
 use Rattle.clock.proofs.Clock.TheLaws as T'
@@ -78,8 +78,8 @@ module _ {M : Type 1} {𝓤 : Ura M} (𝓛 : Logic 𝓤) (mem : Memory → SProp
   abbrev Next : Contract 𝓤
   Next = triple_of 𝓛 next.signature (next.spec 𝓛 mem run)
 
-  next_of : (h r : Clock) → ent 𝓤 (ensured 𝓛 next.ended (next.clauses 𝓛 mem run) tt (h, tt) tt r) (fact 𝓤 (r ≡ nextClock h))
-  next_of h r = ex_e 𝓤 _ (λ ws. snd∗ 𝓤 (sem 𝓛 (lasts next.ended tt (h, tt) ws)) (fact 𝓤 (r ≡ nextClock h)))
+  next_of : (h r : Clock) → ent 𝓤 (ensured 𝓛 next.ended (next.clauses 𝓛 mem run) tt (h, tt) tt r) (fact 𝓤 (r ≡ next_clock h))
+  next_of h r = ex_e 𝓤 _ (λ ws. snd∗ 𝓤 (sem 𝓛 (lasts next.ended tt (h, tt) ws)) (fact 𝓤 (r ≡ next_clock h)))
 
 module _ {M : Type 1} {𝓤 : Ura M} (𝓛 : Logic 𝓤) (at_mem : Memory → SProp 𝓤) (run : Routine → Fun 𝓤) (κ : Lft) (q : Share) (b o : ℕ) (γ : GName) (h : Clock) (ok : Bytes h) where
   open 𝓛 use {H, A}
@@ -101,7 +101,7 @@ module _ {M : Type 1} {𝓤 : Ura M} (𝓛 : Logic 𝓤) (at_mem : Memory → SP
   spelled : (r : Clock) (v : Val) → Is T.the_row r (v ∷ []) → v ≡ LL.val T.the_type T'.the_laws r
   spelled r v is = ap only (LL.tells T.the_type T'.the_laws r (v ∷ []) is)
 
-  exits : (r : Clock) → r ≡ nextClock h → ent 𝓤 (sep 𝓤 (A.obs γ ((T.the_row).coded.code r)) (sep 𝓤 (A.bor κ (Body (mem T.the_row) b o γ)) (A.lft κ q))) (Post vunit)
+  exits : (r : Clock) → r ≡ next_clock h → ent 𝓤 (sep 𝓤 (A.obs γ ((T.the_row).coded.code r)) (sep 𝓤 (A.bor κ (Body (mem T.the_row) b o γ)) (A.lft κ q))) (Post vunit)
   exits r e =
       qed 𝓛 (‵ (fobs γ ((T.the_row).coded.code r)) ∷ ‵ (fbor κ (Body (mem T.the_row) b o γ)) ∷ ‵ (flft κ q) ∷ []) ∵
       suffices ! _ (ends_at 𝓛 self.ended stayed (self.clauses 𝓛 at_mem run) (((κ, tt), (q, tt), tt, x, at), tt) vunit tt (r, tt) (tt, tt)) $ says ! e $ nothing ! $ move ! (3 ∷ 0 ∷ []) $ join ! $
@@ -109,15 +109,15 @@ module _ {M : Type 1} {𝓤 : Ura M} (𝓛 : Logic 𝓤) (at_mem : Memory → SP
       feq_i ! (List Val) (vunit ∷ []) (vunit ∷ []) refl $ move ! (1 ∷ 0 ∷ []) $ done !
 
   -- what `next`'s triple binds outside, and that what the record owns is what it asks
-  abbrev to-next : (Next 𝓛 at_mem run).Ghost
-  to-next = ((tt, tt, tt, (h, tt), (mach ∷ [], tt)), tt)
+  abbrev to_next : (Next 𝓛 at_mem run).Ghost
+  to_next = ((tt, tt, tt, (h, tt), (mach ∷ [], tt)), tt)
 
-  goes-next : ent 𝓤 (sem 𝓛 ((T.the_row).own_val h (mach ∷ []))) ((Next 𝓛 at_mem run).pre to-next)
-  goes-next = qed 𝓛 (‵ ((T.the_row).own_val h (mach ∷ [])) ∷ []) ∵ says ! ok $ nothing ! $ move ! (1 ∷ 0 ∷ []) $ nothing ! $ done !
+  goes_next : ent 𝓤 (sem 𝓛 ((T.the_row).own_val h (mach ∷ []))) ((Next 𝓛 at_mem run).pre to_next)
+  goes_next = qed 𝓛 (‵ ((T.the_row).own_val h (mach ∷ [])) ∷ []) ∵ says ! ok $ nothing ! $ move ! (1 ∷ 0 ∷ []) $ nothing ! $ done !
 
   module _ (C : Calls 𝓤 H) (Λ : Loops 𝓤 H) (fm : FmC 𝓤 H 𝓛.laws C) (known : Triple 𝓤 (C #next) (Next 𝓛 at_mem run)) where
-    whole-walk : ent 𝓤 (on_entry 𝓛 self.signature (κ, tt) (q, tt) x at) (WpFn 𝓤 H C Λ (function 0) (vptr b o ∷ []) Post)
-    whole-walk =
+    whole_walk : ent 𝓤 (on_entry 𝓛 self.signature (κ, tt) (q, tt) x at) (WpFn 𝓤 H C Λ (function 0) (vptr b o ∷ []) Post)
+    whole_walk =
         qed 𝓛 ((‵ (flft κ q) ⊛ ‵ ftrue) ∷ ‵ (owns (MutRef (named 0) κ T.the_row ∷ []) x at) ∷ []) ∵ enter ! C Λ (function 0) (vptr b o ∷ []) _ $
         alloc1 ! (λ l₀. alloc1 ! (λ l₁. alloc1 ! (λ l₂. alloc1 ! (λ l₃. alloc0 ! $ params1 ! $ pass1 ! (init ! 4 refl (tt, tt)) $ pass0 ! $
         move ! (9 ∷ []) $ fsplit ! $ fsplit3 ! $ drop ! $ move ! (11 ∷ []) $ split ! $ move ! (2 ∷ 3 ∷ 0 ∷ []) $
@@ -127,10 +127,10 @@ module _ {M : Type 1} {𝓤 : Ura M} (𝓛 : Logic 𝓤) (at_mem : Memory → SP
         -- [the record's cell; what a Clock owns; the open borrow; obs; auth; true; true; _3; …; _2; …; _1; …; room for _0; …]
         assigns ! (of_opd ! (load ! (from ! (hop ! (look ! 11 refl) (stop !))) (look ! 0 refl))) (from ! (stop !)) (init ! 7 refl ((LL.lawful T.the_type T'.the_laws 𝓛).typed h _ was).0) $
         -- what the record owns goes to `next`, and what it returns is had
-        move ! (1 ∷ []) $ use1 𝓛 (raw ((Next 𝓛 at_mem run).pre to-next)) goes-next $
-        calls_at ! fm (Next 𝓛 at_mem run) known to-next (and_then ! (load ! (from ! (stop !)) (look ! 7 refl)) (no_more !)) (λ v.
+        move ! (1 ∷ []) $ use1 𝓛 (raw ((Next 𝓛 at_mem run).pre to_next)) goes_next $
+        calls_at ! fm (Next 𝓛 at_mem run) known to_next (and_then ! (load ! (from ! (stop !)) (look ! 7 refl)) (no_more !)) (λ v.
         use1 𝓛 (later (some (λ (r : Clock). (‵ ftrue ⊛ ‵ ((T.the_row).own_val r (v ∷ []))) ⊛ raw (ensured 𝓛 next.ended (next.clauses 𝓛 at_mem run) tt (h, tt) tt r)))) (id⊢ 𝓤 _) $ await ! tt $ pick ! (λ r.
-        split ! $ move ! (1 ∷ []) $ use1 𝓛 (raw (fact 𝓤 (r ≡ nextClock h))) (next_of 𝓛 at_mem run h r) $ heard ! (r ≡ nextClock h) (λ e. split ! $ drop ! $
+        split ! $ move ! (1 ∷ []) $ use1 𝓛 (raw (fact 𝓤 (r ≡ next_clock h))) (next_of 𝓛 at_mem run h r) $ heard ! (r ≡ next_clock h) (λ e. split ! $ drop ! $
         peeks ! T.the_row (Is T.the_row) (shows 𝓛 T.the_row) r (v ∷ []) (λ is.
         -- [what the new record owns; the record's cell; the open borrow; obs; auth; true; true; _3; …; room for _2; …; _1; …; room for _0; …]
         land ! (from ! (stop !)) (init ! 9 refl ((LL.lawful T.the_type T'.the_laws 𝓛).typed r _ is).0) $
@@ -146,19 +146,19 @@ module _ {M : Type 1} {𝓤 : Ura M} (𝓛 : Logic 𝓤) (at_mem : Memory → SP
         keep ! (0 ∷ 1 ∷ 2 ∷ []) $ by ! (exits r e)))))))))))
 
     walk : (k : ℕ) → k ≡ 0 → ent 𝓤 (on_entry 𝓛 self.signature (κ, tt) (q, tt) x at) (WpFn 𝓤 H C Λ (function k) (vptr b o ∷ []) Post)
-    walk k e = subst (λ (k : ℕ). ent 𝓤 (on_entry 𝓛 self.signature (κ, tt) (q, tt) x at) (WpFn 𝓤 H C Λ (function k) (vptr b o ∷ []) Post)) (sym e) whole-walk
+    walk k e = subst (λ (k : ℕ). ent 𝓤 (on_entry 𝓛 self.signature (κ, tt) (q, tt) x at) (WpFn 𝓤 H C Λ (function k) (vptr b o ∷ []) Post)) (sym e) whole_walk
 
 module _ {M : Type 1} {𝓤 : Ura M} (𝓛 : Logic 𝓤) (mem : Memory → SProp 𝓤) (run : Routine → Fun 𝓤) where
   open 𝓛 use {H}
 
-  move-on-walks : (C : Calls 𝓤 H) (Λ : Loops 𝓤 H) → FmC 𝓤 H 𝓛.laws C → Triple 𝓤 (C #next) (Next 𝓛 mem run) → Walks 𝓛 self.ended stayed (WpFn 𝓤 H C Λ code.function) (self.clauses 𝓛 mem run)
-  move-on-walks C Λ fm known = walked 𝓛 self.ended stayed (self.clauses 𝓛 mem run) (WpFn 𝓤 H C Λ code.function) (λ κs. (mut_vals, tt)) (λ κs. (mut_Tells (named 0) κs.0 T.the_row, tt))
+  move_on_walks : (C : Calls 𝓤 H) (Λ : Loops 𝓤 H) → FmC 𝓤 H 𝓛.laws C → Triple 𝓤 (C #next) (Next 𝓛 mem run) → Walks 𝓛 self.ended stayed (WpFn 𝓤 H C Λ code.function) (self.clauses 𝓛 mem run)
+  move_on_walks C Λ fm known = walked 𝓛 self.ended stayed (self.clauses 𝓛 mem run) (WpFn 𝓤 H C Λ code.function) (λ κs. (mut_vals, tt)) (λ κs. (mut_Tells (named 0) κs.0 T.the_row, tt))
       (λ κs qs bounds a _ _. needs 𝓤 (Bytes a.0.now) _ (λ ok. walk 𝓛 mem run κs.0 qs.0 a.0.ref_ptr.0 a.0.ref_ptr.1 a.0.ghost_name a.0.now ok C Λ fm known _ (omega arith)))
 
 move-on-meets : {M : Type 1} {𝓤 : Ura M} (𝓛 : Logic 𝓤) → (mem : Memory → SProp 𝓤) (run : Routine → Fun 𝓤) (𝓣 : Tables 𝓤 𝓛.H) → Triple 𝓤 (𝓣.C #next) (Next 𝓛 mem run)
     → Meets 𝓛 self.signature (WpFn 𝓤 𝓛.H 𝓣.C 𝓣.Λ code.function) (self.spec 𝓛 mem run)
 move-on-meets {𝓤 = 𝓤} 𝓛 mem run 𝓣 known = walk_Meets 𝓛 self.ended stayed (Goes-ref 𝓛 1 0 tt (plain (λ _. T.the_row)), tt) (self.clauses 𝓛 mem run) (WpFn 𝓤 𝓛.H 𝓣.C 𝓣.Λ code.function) (WpFn-mono 𝓤 𝓛.H 𝓛.laws 𝓣 code.function)
-    (move-on-walks 𝓛 mem run 𝓣.C 𝓣.Λ (fm_of 𝓤 𝓛.H 𝓛.laws 𝓣) known)
+    (move_on_walks 𝓛 mem run 𝓣.C 𝓣.Λ (fm_of 𝓤 𝓛.H 𝓛.laws 𝓣) known)
 
 pub move-on-spec : {M : Type 1} → stated.statement M
 unfolding code.routine tables_of

@@ -6,9 +6,9 @@ use native.Mathlib.Omega.{arith}
 use borrow.Author.Rules.{rules}
 use lib.ListN.{get_or}
 use Rattle.position.specs.Board.{board}
-use Rattle.ruling.proofs.Going.{gone-end, gone-none, gone-stop}
+use Rattle.ruling.proofs.Going.{gone-end, gone_none, gone-stop}
 use Rattle.field.proofs.Lists.{There, is_none, there-more}
-use Rattle.field.specs.Listed.{allThere}
+use Rattle.field.specs.Listed.{all_there}
 use Rattle.field.proofs.listed.all_there.Statement.{statement}
 use Rattle.field.proofs.listed.all_there.Tie as tie
 
@@ -19,7 +19,7 @@ abbrev decreases-loop : tie.decreases-loop
 decreases-loop p units count i₀ i-end i = i-end - i
 
 loop-holds : tie.Need-loop-init invariant-loop decreases-loop
-loop-holds c = record { gone = gone-none; counted = λ j l. absurd (omega arith) }
+loop-holds c = record { gone = gone_none; counted = λ j l. absurd (omega arith) }
 
 mul-if1 : tie.Need-overflow-mul-if1 invariant-loop decreases-loop
 mul-if1 c = search rules
@@ -34,7 +34,7 @@ add-t12 : tie.Need-overflow-add-t12 invariant-loop decreases-loop
 add-t12 c = search rules
 
 returns : tie.Need-returns invariant-loop decreases-loop
-unfolding allThere
+unfolding all_there
 returns c =
     let a = c.before.before.before.before.args in
     λ l v.
@@ -51,7 +51,7 @@ loop-again : tie.Need-loop-preserved invariant-loop decreases-loop
 loop-again c = there-more c.before.before.before.loop.invariant (omega arith) (omega arith)
 
 returns-2 : tie.Need-returns-2 invariant-loop decreases-loop
-unfolding allThere
+unfolding all_there
 returns-2 c = (λ l v a q m w. gone-end c.before.loop.invariant.gone (omega arith) l (λ s. v) a q m w, λ j l. c.before.loop.invariant.counted j (omega arith))
 
 pub all-there-spec : {M : Type 1} → statement M

@@ -4,7 +4,7 @@
 use Prim.Native.Nat.{◌-◌}
 use native.Mathlib.Omega.{arith}
 use borrow.Author.Rules.{rules}
-use Rattle.field.proofs.Lists.{OnMap, map-end, map_more, map-none, map-stop}
+use Rattle.field.proofs.Lists.{OnMap, map_end, map_more, map_none, map_stop}
 use Rattle.field.proofs.listed.on_map_from.Statement.{statement}
 use Rattle.field.proofs.listed.on_map_from.Tie as tie
 
@@ -15,7 +15,7 @@ abbrev decreases-loop : tie.decreases-loop
 decreases-loop p path k hexes i₀ i-end i = i-end - i
 
 loop-holds : tie.Need-loop-init invariant-loop decreases-loop
-loop-holds c = map-none
+loop-holds c = map_none
 
 mul-if1 : tie.Need-overflow-mul-if1 invariant-loop decreases-loop
 mul-if1 c = search rules
@@ -30,7 +30,7 @@ add-t13 : tie.Need-overflow-add-t13 invariant-loop decreases-loop
 add-t13 c = search rules
 
 returns : tie.Need-returns invariant-loop decreases-loop
-returns c = map-stop c.before.before.before.loop.invariant (omega arith) (omega arith)
+returns c = map_stop c.before.before.before.loop.invariant (omega arith) (omega arith)
 
 add-i : tie.Need-overflow-add-i invariant-loop decreases-loop
 add-i c = search rules
@@ -42,7 +42,7 @@ loop-again : tie.Need-loop-preserved invariant-loop decreases-loop
 loop-again c = map_more c.before.before.before.loop.invariant (omega arith) (omega arith)
 
 returns-2 : tie.Need-returns-2 invariant-loop decreases-loop
-returns-2 c = (map-end c.before.loop.invariant (omega arith), λ j l. c.before.loop.invariant.charted j (omega arith))
+returns-2 c = (map_end c.before.loop.invariant (omega arith), λ j l. c.before.loop.invariant.charted j (omega arith))
 
 pub on-map-from-spec : {M : Type 1} → statement M
 on-map-from-spec =

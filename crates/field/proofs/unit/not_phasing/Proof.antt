@@ -5,7 +5,7 @@ use mathlib.Core.Path.{sym, ap₂, ◌∙◌}
 use mathlib.Core.Bool.{not}
 use borrow.Author.Rules.{rules}
 use lib.Dec.{eqb}
-use Rattle.field.proofs.Workings.{phasing-destroyed, phasing-mapped}
+use Rattle.field.proofs.Workings.{phasing_destroyed, phasing_mapped}
 use Rattle.field.proofs.unit.not_phasing.Statement.{statement}
 use Rattle.field.proofs.unit.not_phasing.Tie as tie
 
@@ -13,7 +13,7 @@ hex-requires : tie.Need-hex-requires
 hex-requires c κs = search rules
 
 returns : tie.Need-returns
-returns c = sym (phasing-destroyed _ _ (sym c.before.hex.ensures.is ∙ c.if1.true))
+returns c = sym (phasing_destroyed _ _ (sym c.before.hex.ensures.is ∙ c.if1.true))
 
 force-of-requires : tie.Need-force-of-requires
 force-of-requires c κs = search rules
@@ -24,7 +24,7 @@ phasing-requires c κs = search rules
 returns-2 : tie.Need-returns-2
 returns-2 c =
     ap₂ (λ (f g : ℕ). not (eqb f g)) c.before.force-of.ensures c.phasing.ensures.is
-    ∙ sym (phasing-mapped _ _ (λ e. c.before.before.if1.false (c.before.before.before.hex.ensures.is ∙ e)))
+    ∙ sym (phasing_mapped _ _ (λ e. c.before.before.if1.false (c.before.before.before.hex.ensures.is ∙ e)))
 
 pub not-phasing-spec : {M : Type 1} → statement M
 not-phasing-spec =

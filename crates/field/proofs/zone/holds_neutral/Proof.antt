@@ -2,15 +2,15 @@
 -- Assumes nothing.
 use mathlib.Core.Path.{sym, ◌∙◌}
 use borrow.Author.Rules.{rules}
-use Rattle.position.proofs.Players.{none-neutral}
-use Rattle.field.proofs.Zones.{holds-no-neutral}
+use Rattle.position.proofs.Players.{none_neutral}
+use Rattle.field.proofs.Zones.{holds_no_neutral}
 use Rattle.field.proofs.zone.holds_neutral.Statement.{statement}
 use Rattle.field.proofs.zone.holds_neutral.Tie as tie
 
 returns : tie.Need-returns
 returns c =
     let s = c.before.before.before in
-    sym (holds-no-neutral _ _ _ (none-neutral s.args.p.now (sym s.requires.view.players ∙ c.if1.true) s.args.f))
+    sym (holds_no_neutral _ _ _ (none_neutral s.args.p.now (sym s.requires.view.players ∙ c.if1.true) s.args.f))
 
 holds-related-requires : tie.Need-holds-related-requires
 holds-related-requires c κs = search rules

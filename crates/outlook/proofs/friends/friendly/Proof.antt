@@ -4,7 +4,7 @@ use mathlib.Core.Path.{sym, ap, ◌∙◌}
 use mathlib.Core.Bool.{not}
 use borrow.Author.Rules.{rules}
 use borrow.Author.Tests.{not-false, not-true}
-use Rattle.routes.proofs.Nearby.{friendly-depot, friendly-none, friendly-zone}
+use Rattle.routes.proofs.Nearby.{friendly_depot, friendly_none, friendly_zone}
 use Rattle.outlook.proofs.friends.friendly.Statement.{statement}
 use Rattle.outlook.proofs.friends.friendly.Tie as tie
 
@@ -12,7 +12,7 @@ has-requires : tie.Need-has-requires
 has-requires c κs = search rules
 
 returns : tie.Need-returns
-returns c = sym (friendly-none _ (sym c.before.has.ensures ∙ not-true _ c.if1.true))
+returns c = sym (friendly_none _ (sym c.before.has.ensures ∙ not-true _ c.if1.true))
 
 has-requires-2 : tie.Need-has-requires-2
 has-requires-2 c κs = search rules
@@ -21,7 +21,7 @@ returns-2 : tie.Need-returns-2
 returns-2 c =
     let i = c.before.before in
     sym
-    (friendly-depot _ (sym i.before.has.ensures ∙ not-false _ i.if1.false)
+    (friendly_depot _ (sym i.before.has.ensures ∙ not-false _ i.if1.false)
     (sym c.before.has2.ensures ∙ c.if2.true))
 
 has-requires-3 : tie.Need-has-requires-3
@@ -32,7 +32,7 @@ returns-3 c =
     let i = c.before.before.before in
     ap not c.has3.ensures
     ∙ sym
-    (friendly-zone _ (sym i.before.has.ensures ∙ not-false _ i.if1.false)
+    (friendly_zone _ (sym i.before.has.ensures ∙ not-false _ i.if1.false)
     (sym c.before.before.has2.ensures ∙ c.before.if2.false))
 
 pub friendly-spec : {M : Type 1} → statement M

@@ -3,9 +3,9 @@
 use mathlib.Core.Path.{sym, ◌∙◌}
 use Rattle.position.specs.Board.{board}
 use Rattle.field.specs.Scene.{scene}
-use Rattle.paint.specs.Paint.{inZone}
-use Rattle.paint.proofs.Adding.{adds_none, adds-as}
-use Rattle.paint.proofs.Units.{shown-no-cast, part_none, part-reaches}
+use Rattle.paint.specs.Paint.{in_zone}
+use Rattle.paint.proofs.Adding.{adds_none, adds_as}
+use Rattle.paint.proofs.Units.{shown_no_cast, part_none, part_reaches}
 use borrow.Author.Rules.{rules}
 use Rattle.paint.proofs.cast.cast.Statement.{statement}
 use Rattle.paint.proofs.cast.cast.Tie as tie
@@ -26,13 +26,13 @@ returns c =
     let outset = c.before.before.before.before.before.before.before.before in
     let a = outset.args in
     let b = board a.p.now in
-    adds-as c.before.before.around.ensures (λ k h i. part-reaches (scene b) a.f a.u outset.requires.2.here (sym c.before.before.before.before.before.casts-against.ensures ∙ c.before.before.before.before.if1.true) k h)
+    adds_as c.before.before.around.ensures (λ k h i. part_reaches (scene b) a.f a.u outset.requires.2.here (sym c.before.before.before.before.before.casts-against.ensures ∙ c.before.before.before.before.if1.true) k h)
 
 returns-2 : tie.Need-returns-2
 returns-2 c =
     let a = c.before.before.before.before.args in
     let b = board a.p.now in
-    adds_none (λ k h i. part_none (scene b) a.f a.u inZone (shown-no-cast (scene b) a.f a.u (sym c.before.casts-against.ensures ∙ c.if1.false)) k h)
+    adds_none (λ k h i. part_none (scene b) a.f a.u in_zone (shown_no_cast (scene b) a.f a.u (sym c.before.casts-against.ensures ∙ c.if1.false)) k h)
 
 pub cast-spec : {M : Type 1} → statement M
 cast-spec =

@@ -3,10 +3,10 @@
 use mathlib.Core.Path.{sym, ◌∙◌}
 use native.Mathlib.Omega.{arith}
 use Rattle.position.specs.Board.{ground}
-use Rattle.position.proofs.Sides.{beside-view}
-use Rattle.paint.proofs.Adding.{adds_none, adds-as}
-use Rattle.paint.proofs.Units.{zone-stamp}
-use Rattle.paint.proofs.Casting.{near-off, near-at, covers-edge, covers-stopped, covers-sea, covers-land, cast-none, cast-only}
+use Rattle.position.proofs.Sides.{beside_view}
+use Rattle.paint.proofs.Adding.{adds_none, adds_as}
+use Rattle.paint.proofs.Units.{zone_stamp}
+use Rattle.paint.proofs.Casting.{near_off, near_at, covers_edge, covers_stopped, covers_sea, covers_land, cast_none, cast_only}
 use borrow.Author.Rules.{rules}
 use Rattle.paint.proofs.cast.over.Statement.{statement}
 use Rattle.paint.proofs.cast.over.Tie as tie
@@ -26,8 +26,8 @@ returns c =
     let a = outset.args in
     let m = ground a.p.now in
     let n = a.s.hex in
-    let e = sym (beside-view outset.requires.0.view n a.d) ∙ near-off a.v.width a.v.height n a.d c.before.before.near.result c.before.before.near.ensures c.enum_told.given.1 in
-    adds_none (λ k h i. cast-none m n a.d k h (covers-edge m n a.d h e))
+    let e = sym (beside_view outset.requires.0.view n a.d) ∙ near_off a.v.width a.v.height n a.d c.before.before.near.result c.before.before.near.ensures c.enum_told.given.1 in
+    adds_none (λ k h i. cast_none m n a.d k h (covers_edge m n a.d h e))
 
 between-requires : tie.Need-between-requires
 between-requires c κs =
@@ -35,8 +35,8 @@ between-requires c κs =
     let a = outset.args in
     let m = ground a.p.now in
     let n = a.s.hex in
-    let t = near-at outset.args.v.width outset.args.v.height outset.args.s.hex outset.args.d c.before.before.before.near.result c.before.before.before.near.ensures c.before.t.given.1 in
-    let e = sym (beside-view outset.requires.0.view n a.d) ∙ t.0 in
+    let t = near_at outset.args.v.width outset.args.v.height outset.args.s.hex outset.args.d c.before.before.before.near.result c.before.before.before.near.ensures c.before.t.given.1 in
+    let e = sym (beside_view outset.requires.0.view n a.d) ∙ t.0 in
     (outset.requires.0, outset.requires.3, e)
 
 returns-2 : tie.Need-returns-2
@@ -44,7 +44,7 @@ returns-2 c =
     let a = c.before.before.before.before.before.before.before.before.args in
     let m = ground a.p.now in
     let n = a.s.hex in
-    adds_none (λ k h i. cast-none m n a.d k h (covers-stopped m n a.d h (omega (arith, c.before.between.ensures.is))))
+    adds_none (λ k h i. cast_none m n a.d k h (covers_stopped m n a.d h (omega (arith, c.before.between.ensures.is))))
 
 surface-requires : tie.Need-surface-requires
 surface-requires c κs = search rules
@@ -55,14 +55,14 @@ returns-3 c =
     let a = outset.args in
     let m = ground a.p.now in
     let n = a.s.hex in
-    let t = near-at outset.args.v.width outset.args.v.height outset.args.s.hex outset.args.d c.before.before.before.before.before.before.before.near.result c.before.before.before.before.before.before.before.near.ensures c.before.before.before.before.before.t.given.1 in
-    let e = sym (beside-view outset.requires.0.view n a.d) ∙ t.0 in
-    adds_none (λ k h i. cast-none m n a.d k h (covers-sea m n a.d _ e h (omega (arith, c.before.surface.ensures.is))))
+    let t = near_at outset.args.v.width outset.args.v.height outset.args.s.hex outset.args.d c.before.before.before.before.before.before.before.near.result c.before.before.before.before.before.before.before.near.ensures c.before.before.before.before.before.t.given.1 in
+    let e = sym (beside_view outset.requires.0.view n a.d) ∙ t.0 in
+    adds_none (λ k h i. cast_none m n a.d k h (covers_sea m n a.d _ e h (omega (arith, c.before.surface.ensures.is))))
 
 stamp-requires : tie.Need-stamp-requires
 stamp-requires c κs =
     let outset = c.before.before.before.before.before.before.before.before.before.before.before in
-    ((near-at outset.args.v.width outset.args.v.height outset.args.s.hex outset.args.d c.before.before.before.before.before.before.before.before.near.result c.before.before.before.before.before.before.before.before.near.ensures c.before.before.before.before.before.before.t.given.1).1, outset.requires.1, zone-stamp)
+    ((near_at outset.args.v.width outset.args.v.height outset.args.s.hex outset.args.d c.before.before.before.before.before.before.before.before.near.result c.before.before.before.before.before.before.before.before.near.ensures c.before.before.before.before.before.before.t.given.1).1, outset.requires.1, zone_stamp)
 
 same_length : tie.Need-same-length
 same_length c = search rules
@@ -73,10 +73,10 @@ returns-4 c =
     let a = outset.args in
     let m = ground a.p.now in
     let n = a.s.hex in
-    let t = near-at outset.args.v.width outset.args.v.height outset.args.s.hex outset.args.d c.before.before.before.before.before.before.before.before.before.before.before.near.result c.before.before.before.before.before.before.before.before.before.before.before.near.ensures c.before.before.before.before.before.before.before.before.before.t.given.1 in
-    let e = sym (beside-view outset.requires.0.view n a.d) ∙ t.0 in
-    adds-as c.before.before.stamp.ensures
-    (λ k h i. cast-only m n a.d k h _ (covers-land m n a.d _ e h (omega (arith, c.before.before.before.before.before.before.before.between.ensures.is)) (λ z. omega (arith, c.before.before.before.before.before.surface.ensures.is, z))))
+    let t = near_at outset.args.v.width outset.args.v.height outset.args.s.hex outset.args.d c.before.before.before.before.before.before.before.before.before.before.before.near.result c.before.before.before.before.before.before.before.before.before.before.before.near.ensures c.before.before.before.before.before.before.before.before.before.t.given.1 in
+    let e = sym (beside_view outset.requires.0.view n a.d) ∙ t.0 in
+    adds_as c.before.before.stamp.ensures
+    (λ k h i. cast_only m n a.d k h _ (covers_land m n a.d _ e h (omega (arith, c.before.before.before.before.before.before.before.between.ensures.is)) (λ z. omega (arith, c.before.before.before.before.before.surface.ensures.is, z))))
 
 pub over-spec : {M : Type 1} → statement M
 over-spec =

@@ -2,7 +2,7 @@
 -- Assumes nothing.
 use Prim.Native.Nat.{◌-◌, ◌*◌, ◌≤◌}
 use native.Mathlib.Omega.{arith}
-use Rattle.story.proofs.Widths.{at-least-1, at-most-64}
+use Rattle.story.proofs.Widths.{at_least_1, at_most_64}
 use borrow.Author.Rules.{rules}
 use Rattle.picture.proofs.rows.layer.Statement.{statement}
 use Rattle.picture.proofs.rows.layer.Tie as tie

@@ -2,7 +2,7 @@
 -- Assumes nothing.
 use Prim.Native.Nat.{◌-◌, ◌≤◌}
 use native.Mathlib.Omega.{arith}
-use Rattle.story.proofs.Widths.{at-most-64}
+use Rattle.story.proofs.Widths.{at_most_64}
 use borrow.Author.Rules.{rules}
 use Rattle.picture.proofs.rows.row.Statement.{statement}
 use Rattle.picture.proofs.rows.row.Tie as tie
@@ -17,7 +17,7 @@ loop-holds : tie.Need-loop-init invariant-loop decreases-loop
 loop-holds c = search rules
 
 add-cell : tie.Need-overflow-add-cell invariant-loop decreases-loop
-add-cell c = omega (arith, at-most-64 c.before.before.before.before.before.requires.0)
+add-cell c = omega (arith, at_most_64 c.before.before.before.before.before.requires.0)
 
 of-requires : tie.Need-of-requires invariant-loop decreases-loop
 of-requires c κs = search rules

@@ -2,12 +2,12 @@
 -- Assumes nothing.
 use native.Mathlib.Omega.{arith}
 use borrow.Author.Rules.{rules}
-use Rattle.position.proofs.Sides.{area-view, on-first}
+use Rattle.position.proofs.Sides.{area_view, on_first}
 use Rattle.picture.proofs.shades.painted.Statement.{statement}
 use Rattle.picture.proofs.shades.painted.Tie as tie
 
 whole-requires : tie.Need-whole-requires
-whole-requires c κs = on-first c.before.before.requires.0
+whole-requires c κs = on_first c.before.before.requires.0
 
 force-requires : tie.Need-force-requires
 force-requires c κs = search rules
@@ -16,7 +16,7 @@ paint-requires : tie.Need-paint-requires
 paint-requires c κs =
     let outset = c.before.before.before.before.before in
     let k = c.before.before.whole.ensures in
-    (outset.requires.0, record { region = k.ok; long = omega (arith, k.size, area-view outset.requires.0.view, outset.requires.1) })
+    (outset.requires.0, record { region = k.ok; long = omega (arith, k.size, area_view outset.requires.0.view, outset.requires.1) })
 
 same_length : tie.Need-same-length
 same_length c = search rules

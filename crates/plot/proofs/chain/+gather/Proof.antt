@@ -9,12 +9,12 @@ use borrow.Author.Tests.{not-false, not-true}
 use borrow.Fn.Kinds.{In}
 use borrow.Fn.PlainCycle.{Measures, is, falls, and}
 use Rattle.plot.specs.Ends.{Marks}
-use Rattle.plot.specs.Trail.{trailOf, unused}
-use Rattle.plot.specs.Plot.{standIn, nextIn}
-use Rattle.plot.proofs.Plots.{next-below}
+use Rattle.plot.specs.Trail.{trail_of, unused}
+use Rattle.plot.specs.Plot.{stand_in, next_in}
+use Rattle.plot.proofs.Plots.{next_below}
 use Rattle.plot.proofs.Trails.{one_left, push-uses}
-use Rattle.plot.proofs.Ends.{close_more, close-step, endVia, ends-rest, ends-via, marks-as, marks-left}
-use Rattle.plot.proofs.Ends.{up_to, upto_all, upto-ends, upto-held, upto-none, upto_skip, via-off}
+use Rattle.plot.proofs.Ends.{close_more, close_step, end_via, ends_rest, ends-via, marks_as, marks-left}
+use Rattle.plot.proofs.Ends.{up_to, upto_all, upto-ends, upto-held, upto_none, upto_skip, via_off}
 use Rattle.plot.proofs.chain.gather.Reads as gather
 use Rattle.plot.proofs.chain.gather.Kinds as gather-kinds
 use Rattle.plot.proofs.chain.+gather.Lts-gather as gather-lts
@@ -28,7 +28,7 @@ use Rattle.plot.proofs.chain.+gather.{statement}
 use Rattle.plot.proofs.chain.+gather.Tie.{close}
 
 abbrev μ-gather : Measures 2 gather-kinds.ps ℕ
-μ-gather κs a = unused (a.1.1.1.1.1.0 ∷ trailOf a.1.1.1.0)
+μ-gather κs a = unused (a.1.1.1.1.1.0 ∷ trail_of a.1.1.1.0)
 
 -- what `gather` is given at the measure t, and what a call of it asks below t
 abbrev gather-at : ℕ → In 2 gather-kinds.ps
@@ -39,7 +39,7 @@ gather-below t = and 2 gather-kinds.ps (falls 2 gather-kinds.ps ◌<◌ μ-gathe
 
 abbrev gather-Inv-loop : gather-lts.invariant-loop
 gather-Inv-loop plot ends₀ x t left h used d₀ ends d =
-    (d ≤ 6) × Marks x (up_to (endVia (nextIn plot) (standIn plot) (h ∷ trailOf t) (left - 1) h) d) ends₀ ends
+    (d ≤ 6) × Marks x (up_to (end_via (next_in plot) (stand_in plot) (h ∷ trail_of t) (left - 1) h) d) ends₀ ends
 
 abbrev gather-μ-loop : gather-lts.decreases-loop
 gather-μ-loop plot ends₀ x t left h used d₀ ends d = 6 - d
@@ -77,7 +77,7 @@ gather-mark-rests-requires t c κs = let p = c.before.before.before.requires.1 i
 )
 
 gather-returns : (t : ℕ) → gather-lts.Need-returns (gather-claims t) (gather-at t) gather.Post gather-Inv-loop gather-μ-loop
-gather-returns t c = marks-as (λ y k. ends-rest _ _ _ _ _ y (one_left c.before.before.before.before.requires.1.3)
+gather-returns t c = marks_as (λ y k. ends_rest _ _ _ _ _ y (one_left c.before.before.before.before.requires.1.3)
     (sym c.before.before.before.has_rest.ensures ∙ c.before.before.if1.true)) c.mark-rests.ensures
 
 gather-longer-requires : (t : ℕ) → gather-lts.Need-longer-requires (gather-claims t) (gather-at t) gather.Post gather-Inv-loop
@@ -85,7 +85,7 @@ gather-longer-requires : (t : ℕ) → gather-lts.Need-longer-requires (gather-c
 gather-longer-requires t c κs = let p = c.before.before.requires.1 in (p.4, omega arith, p.5.below)
 
 gather-loop-holds : (t : ℕ) → gather-lts.Need-loop-init (gather-claims t) (gather-at t) gather.Post gather-Inv-loop gather-μ-loop
-gather-loop-holds t c = (omega arith, upto-none _)
+gather-loop-holds t c = (omega arith, upto_none _)
 
 gather-next-in-requires : (t : ℕ) → gather-lts.Need-next-in-requires (gather-claims t) (gather-at t) gather.Post gather-Inv-loop
     gather-μ-loop
@@ -98,14 +98,14 @@ gather-next-in-requires t c κs = let p = c.before.before.before.before.before.r
 gather-loop-again : (t : ℕ) → gather-lts.Need-loop-preserved (gather-claims t) (gather-at t) gather.Post gather-Inv-loop gather-μ-loop
 gather-loop-again t c = (
   omega arith,
-  upto_skip _ c.before.before.before.before.loop.invariant.1 (via-off _ _ _ _ _ _ (sym c.before.before.next-in.ensures ∙ c.enum_told.given.1)),
+  upto_skip _ c.before.before.before.before.loop.invariant.1 (via_off _ _ _ _ _ _ (sym c.before.before.next-in.ensures ∙ c.enum_told.given.1)),
 )
 
 gather-yields-requires : (t : ℕ) → gather-lts.Need-yields-requires (gather-claims t) (gather-at t) gather.Post gather-Inv-loop
     gather-μ-loop
 gather-yields-requires t c κs = (
   c.before.before.before.before.before.before.before.before.before.requires.1.0,
-  next-below _ _ _ _ (sym c.before.before.before.next-in.ensures ∙ c.before.z.given.1),
+  next_below _ _ _ _ (sym c.before.before.before.next-in.ensures ∙ c.before.z.given.1),
 )
 
 gather-loop-again-2 : (t : ℕ) → gather-lts.Need-loop-preserved-2 (gather-claims t) (gather-at t) gather.Post gather-Inv-loop gather-μ-loop
@@ -120,7 +120,7 @@ gather-mark-last-requires t c κs = let p = c.before.before.before.before.before
   p.0,
   c.before.before.before.before.before.before.before.before.before.loop.invariant.1.long ∙ p.1,
   p.2,
-  close_more 2 (omega (arith, p.4.few)) (close-step _ _ _ _ (sym c.before.before.before.before.before.before.before.next-in.ensures ∙ c.before.before.before.before.before.z.given.1) p.5),
+  close_more 2 (omega (arith, p.4.few)) (close_step _ _ _ _ (sym c.before.before.before.before.before.before.before.next-in.ensures ∙ c.before.before.before.before.before.z.given.1) p.5),
 )
 
 gather-loop-again-3 : (t : ℕ) → gather-lts.Need-loop-preserved-3 (gather-claims t) (gather-at t) gather.Post gather-Inv-loop gather-μ-loop
@@ -139,9 +139,9 @@ gather-gather-requires t c κs =
     let step = sym c.before.before.before.before.before.before.before.next-in.ensures
     ∙ c.before.before.before.before.before.z.given.1 in
     let loose = sym c.before.before.before.yields.ensures ∙ not-false _ c.before.before.if2.false in
-    let pushed = push-uses _ _ used.0 (next-below _ _ _ _ step) loose in
+    let pushed = push-uses _ _ used.0 (next_below _ _ _ _ step) loose in
     let long = c.before.before.before.before.before.before.before.before.before.loop.invariant.1.long in
-    let close = close-step _ _ _ _ step q.5 in
+    let close = close_step _ _ _ _ step q.5 in
     (omega (arith, p.0, pushed), (q.0, long ∙ q.1, q.2, omega arith, used.1, close_more _ (omega (arith, q.4.few)) close))
 
 gather-loop-again-4 : (t : ℕ) → gather-lts.Need-loop-preserved-4 (gather-claims t) (gather-at t) gather.Post gather-Inv-loop gather-μ-loop

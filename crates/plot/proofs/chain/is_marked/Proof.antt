@@ -2,7 +2,7 @@
 -- Assumes nothing.
 use native.Mathlib.Omega.{arith}
 use borrow.Author.Rules.{rules}
-use Rattle.plot.proofs.Marking.{mark-read}
+use Rattle.plot.proofs.Marking.{mark_read}
 use Rattle.plot.proofs.chain.is_marked.Statement.{statement}
 use Rattle.plot.proofs.chain.is_marked.Tie as tie
 
@@ -21,7 +21,7 @@ has-requires c κs = omega (arith, c.before.before.bit.ensures.1)
 returns : tie.Need-returns
 returns c =
     let a = c.before.before.before.before.args in
-    mark-read a.k a.ends.now c.before.before.before.bit.result c.before.wide.result c.has.result
+    mark_read a.k a.ends.now c.before.before.before.bit.result c.before.wide.result c.has.result
     c.has.ensures c.before.before.before.bit.ensures.0 c.before.wide.ensures.is
 
 pub is-marked-spec : {M : Type 1} → statement M

@@ -2,7 +2,7 @@
 -- Assumes nothing.
 use mathlib.Core.Path.{refl}
 use borrow.Author.Rules.{rules}
-use Rattle.plot.proofs.Trails.{longer-is, longer-ok}
+use Rattle.plot.proofs.Trails.{longer_is, longer_ok}
 use Rattle.plot.proofs.chain.longer.Statement.{statement}
 use Rattle.plot.proofs.chain.longer.Tie as tie
 
@@ -13,7 +13,7 @@ add-result : tie.Need-overflow-add-result
 add-result c = search rules
 
 returns : tie.Need-returns
-returns c = let p = c.requires in (longer-is _ _ _ _ p.0 p.1 p.2 refl, longer-ok _ _ _ _ p.0 p.1 p.2 refl)
+returns c = let p = c.requires in (longer_is _ _ _ _ p.0 p.1 p.2 refl, longer_ok _ _ _ _ p.0 p.1 p.2 refl)
 
 pub longer-spec : {M : Type 1} → statement M
 longer-spec = tie.close (tie.spec mul-result add-result returns)

@@ -3,7 +3,7 @@
 use mathlib.Core.Path.{sym, ◌∙◌}
 use native.Mathlib.Omega.{arith}
 use borrow.Author.Rules.{rules}
-use Rattle.plot.proofs.Marking.{mark-known, mark-fits, mark_set}
+use Rattle.plot.proofs.Marking.{mark_known, mark_fits, mark_set}
 use Rattle.plot.proofs.chain.mark.Statement.{statement}
 use Rattle.plot.proofs.chain.mark.Tie as tie
 
@@ -13,7 +13,7 @@ is-marked-requires c κs = search rules
 returns : tie.Need-returns
 returns c =
     let a = c.before.before.before.args in
-    mark-known a.k a.ends.now (sym c.before.is-marked.ensures ∙ c.if1.true)
+    mark_known a.k a.ends.now (sym c.before.is-marked.ensures ∙ c.if1.true)
 
 element-copy-out-wide : tie.Need-element-copy-out-wide
 element-copy-out-wide c = omega arith
@@ -32,7 +32,7 @@ cast_ends c =
     let a = c.before.before.before.before.before.before.args in
     omega (
       arith,
-      mark-fits a.k a.ends.now c.before.wide.result c.bit.result c.before.wide.ensures.is c.bit.ensures.0
+      mark_fits a.k a.ends.now c.before.wide.result c.bit.result c.before.wide.ensures.is c.bit.ensures.0
           (sym c.before.before.before.before.is-marked.ensures ∙ c.before.before.before.if1.false)
           c.before.wide.ensures.small,
     )

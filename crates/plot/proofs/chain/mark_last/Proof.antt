@@ -2,7 +2,7 @@
 -- Assumes nothing.
 use mathlib.Core.Path.{sym, ◌∙◌}
 use native.Mathlib.Omega.{arith}
-use Rattle.plot.proofs.Ends.{ends-never, ends-rest, marks-as, marks-none}
+use Rattle.plot.proofs.Ends.{ends_never, ends_rest, marks_as, marks_none}
 use Rattle.plot.proofs.chain.mark_last.Statement.{statement}
 use Rattle.plot.proofs.chain.mark_last.Tie as tie
 
@@ -13,10 +13,10 @@ mark-rests-requires : tie.Need-mark-rests-requires
 mark-rests-requires c κs = c.before.before.before.requires
 
 returns : tie.Need-returns
-returns c = marks-as (λ y k. ends-rest _ _ _ _ _ y (omega arith) (sym c.before.before.before.has_rest.ensures ∙ c.before.before.if1.true)) c.mark-rests.ensures
+returns c = marks_as (λ y k. ends_rest _ _ _ _ _ y (omega arith) (sym c.before.before.before.has_rest.ensures ∙ c.before.before.if1.true)) c.mark-rests.ensures
 
 returns-2 : tie.Need-returns-2
-returns-2 c = marks-none (λ y k. ends-never _ _ _ _ _ y (omega arith) (omega arith) (sym c.before.has_rest.ensures ∙ c.if1.false))
+returns-2 c = marks_none (λ y k. ends_never _ _ _ _ _ y (omega arith) (omega arith) (sym c.before.has_rest.ensures ∙ c.if1.false))
 
 pub mark-last-spec : {M : Type 1} → statement M
 mark-last-spec =

@@ -1,8 +1,8 @@
-use Rattle.plot.proofs.Ends.{close-step, up_to, upto-none, upto_skip, upto_all, upto_rest, upto-stay, rest_at, rest-off, rest_all}
-use Rattle.plot.proofs.Plots.{next-below}
+use Rattle.plot.proofs.Ends.{close_step, up_to, upto_none, upto_skip, upto_all, upto_rest, upto-stay, rest_at, rest_off, rest_all_lem}
+use Rattle.plot.proofs.Plots.{next_below}
 use Rattle.plot.specs.Ends.{Close, MarkSet, Marks}
-use Rattle.plot.specs.Trail.{trailOf}
-use Rattle.plot.specs.Plot.{standIn, nextIn}
+use Rattle.plot.specs.Trail.{trail_of}
+use Rattle.plot.specs.Plot.{stand_in, next_in}
 use mathlib.Core.List.{◌∷◌}
 use mathlib.Core.Logic.{⊎_elim}
 use mathlib.Core.Path.{sym, subst, ◌∙◌}
@@ -13,14 +13,14 @@ use Rattle.plot.proofs.chain.mark_rests.Statement.{statement}
 use Rattle.plot.proofs.chain.mark_rests.Tie as tie
 
 abbrev invariant-loop : tie.invariant-loop
-invariant-loop plot ends₀ x t h d₀ ends d = (d ≤ 6) × Marks x (up_to (rest_at (nextIn plot) (standIn plot) (h ∷ trailOf t) h) d) ends₀ ends
+invariant-loop plot ends₀ x t h d₀ ends d = (d ≤ 6) × Marks x (up_to (rest_at (next_in plot) (stand_in plot) (h ∷ trail_of t) h) d) ends₀ ends
 
 abbrev decreases-loop : tie.decreases-loop
 decreases-loop plot ends₀ x t h d₀ ends d = 6 - d
 
 -- src/chain.rt:104:5
 loop-holds : tie.Need-loop-init invariant-loop decreases-loop
-loop-holds c = (omega arith, upto-none _)
+loop-holds c = (omega arith, upto_none _)
 
 -- src/chain.rt:105:29
 next-in-requires : tie.Need-next-in-requires invariant-loop decreases-loop
@@ -44,15 +44,15 @@ loop-less c = search rules
 
 -- src/chain.rt:104:5
 loop-again : tie.Need-loop-preserved invariant-loop decreases-loop
-loop-again c = (omega arith, upto_skip _ c.before.before.before.before.loop.invariant.1 (rest-off _ _ _ _ _ (sym c.before.before.next-in.ensures ∙ c.enum_told.given.1)))
+loop-again c = (omega arith, upto_skip _ c.before.before.before.before.loop.invariant.1 (rest_off _ _ _ _ _ (sym c.before.before.next-in.ensures ∙ c.enum_told.given.1)))
 
 -- src/chain.rt:108:12
 rests-requires : tie.Need-rests-requires invariant-loop decreases-loop
-rests-requires c κs = (c.before.before.before.before.before.before.requires.0, next-below _ _ _ _ (sym c.before.before.before.next-in.ensures ∙ c.before.z.given.1))
+rests-requires c κs = (c.before.before.before.before.before.before.requires.0, next_below _ _ _ _ (sym c.before.before.before.next-in.ensures ∙ c.before.z.given.1))
 
 -- the place at hand is close
 z-close : (c : tie.After-rests invariant-loop decreases-loop) → Close c.before.before.before.before.before.before.before.args.x c.before.before.z.given.0.0 3
-z-close c = close-step _ _ _ _ (sym c.before.before.before.before.next-in.ensures ∙ c.before.before.z.given.1) c.before.before.before.before.before.before.before.requires.3
+z-close c = close_step _ _ _ _ (sym c.before.before.before.before.next-in.ensures ∙ c.before.before.z.given.1) c.before.before.before.before.before.before.before.requires.3
 
 add-mark : tie.Need-overflow-add-mark invariant-loop decreases-loop
 add-mark c = let k = z-close c.before.before in omega arith
@@ -88,7 +88,7 @@ loop-again-2 c =
 
 -- src/chain.rt:100:1
 returns : tie.Need-returns invariant-loop decreases-loop
-returns c = upto_all _ (omega arith) (omega arith) (rest_all _ _ _ _) c.before.loop.invariant.1
+returns c = upto_all _ (omega arith) (omega arith) (rest_all_lem _ _ _ _) c.before.loop.invariant.1
 
 pub mark-rests-spec : {M : Type 1} → statement M
 mark-rests-spec =

@@ -2,7 +2,7 @@
 -- Assumes nothing.
 use mathlib.Core.Path.{refl}
 use borrow.Author.Rules.{rules}
-use Rattle.plot.proofs.Trails.{own-trail, own-ok}
+use Rattle.plot.proofs.Trails.{own_trail, own_ok}
 use Rattle.plot.proofs.chain.own.Statement.{statement}
 use Rattle.plot.proofs.chain.own.Tie as tie
 
@@ -19,7 +19,7 @@ add-result-2 : tie.Need-overflow-add-result-2
 add-result-2 c = search rules
 
 returns : tie.Need-returns
-returns c = (own-trail _ _ c.requires refl, own-ok _ _ c.requires refl)
+returns c = (own_trail _ _ c.requires refl, own_ok _ _ c.requires refl)
 
 pub own-spec : {M : Type 1} → statement M
 own-spec = tie.close (tie.spec mul-result add-result mul-result-2 add-result-2 returns)

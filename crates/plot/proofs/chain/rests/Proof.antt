@@ -1,5 +1,5 @@
-use Rattle.plot.proofs.Trails.{not_free, rests-other, rests-own, rests-past}
-use Rattle.chains.specs.Stand.{isFree}
+use Rattle.plot.proofs.Trails.{not_free, rests_other, rests_own, rests_past}
+use Rattle.chains.specs.Stand.{is_free}
 use mathlib.Core.Bool.{not}
 use mathlib.Core.Path.{sym, ap, ◌∙◌}
 use borrow.Author.Rules.{rules}
@@ -15,11 +15,11 @@ enum_told c = search rules
 
 -- src/chain.rt:61:9
 returns : tie.Need-returns
-returns c = sym (rests-other _ _ _ _ (ap isFree (sym c.before.stand-in.ensures) ∙ not_free c.before.stand-in.result c.match.keys2))
+returns c = sym (rests_other _ _ _ _ (ap is_free (sym c.before.stand-in.ensures) ∙ not_free c.before.stand-in.result c.match.keys2))
 
 -- src/chain.rt:64:9
 returns-2 : tie.Need-returns-2
-returns-2 c = sym (rests-own _ _ _ _ c.if1.true)
+returns-2 c = sym (rests_own _ _ _ _ c.if1.true)
 
 -- src/chain.rt:66:6
 on-trail-requires : tie.Need-on-trail-requires
@@ -27,7 +27,7 @@ on-trail-requires c κs = search rules
 
 -- src/chain.rt:56:1
 returns-3 : tie.Need-returns-3
-returns-3 c = ap not c.on-trail.ensures ∙ sym (rests-past _ _ _ _ (sym c.before.before.before.before.stand-in.ensures ∙ c.before.before.enum_told.given.1) c.before.if1.false)
+returns-3 c = ap not c.on-trail.ensures ∙ sym (rests_past _ _ _ _ (sym c.before.before.before.before.stand-in.ensures ∙ c.before.before.enum_told.given.1) c.before.if1.false)
 
 pub rests-spec : {M : Type 1} → statement M
 rests-spec =

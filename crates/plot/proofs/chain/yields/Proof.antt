@@ -1,5 +1,5 @@
-use Rattle.plot.proofs.Trails.{not-loose, yields-other, yields_own, yields-past}
-use Rattle.chains.specs.Stand.{isLoose}
+use Rattle.plot.proofs.Trails.{not_loose, yields_other, yields_own, yields_past}
+use Rattle.chains.specs.Stand.{is_loose}
 use mathlib.Core.Bool.{not}
 use mathlib.Core.Path.{sym, ap, ◌∙◌}
 use borrow.Author.Rules.{rules}
@@ -15,7 +15,7 @@ enum_told c = search rules
 
 -- src/chain.rt:75:9
 returns : tie.Need-returns
-returns c = sym (yields-other _ _ _ _ (ap isLoose (sym c.before.stand-in.ensures) ∙ not-loose c.before.stand-in.result c.match.keys2))
+returns c = sym (yields_other _ _ _ _ (ap is_loose (sym c.before.stand-in.ensures) ∙ not_loose c.before.stand-in.result c.match.keys2))
 
 -- src/chain.rt:78:9
 returns-2 : tie.Need-returns-2
@@ -27,7 +27,7 @@ on-trail-requires c κs = search rules
 
 -- src/chain.rt:70:1
 returns-3 : tie.Need-returns-3
-returns-3 c = ap not c.on-trail.ensures ∙ sym (yields-past _ _ _ _ (sym c.before.before.before.before.stand-in.ensures ∙ c.before.before.enum_told.given.1) c.before.if1.false)
+returns-3 c = ap not c.on-trail.ensures ∙ sym (yields_past _ _ _ _ (sym c.before.before.before.before.stand-in.ensures ∙ c.before.before.enum_told.given.1) c.before.if1.false)
 
 pub yields-spec : {M : Type 1} → statement M
 yields-spec =

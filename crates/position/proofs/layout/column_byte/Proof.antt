@@ -2,7 +2,7 @@
 -- Assumes nothing.
 use mathlib.Core.Path.{refl}
 use borrow.Author.Rules.{rules}
-use Rattle.position.specs.Layout.{columnSize, columnByte}
+use Rattle.position.specs.Layout.{column_size, column_byte}
 use Rattle.position.proofs.Cells.{read_at}
 use Rattle.position.proofs.layout.column_byte.Statement.{statement}
 use Rattle.position.proofs.layout.column_byte.Tie as tie
@@ -14,9 +14,9 @@ cell-requires : tie.Need-cell-requires
 cell-requires c κs = search rules
 
 returns : tie.Need-returns
-unfolding columnByte
+unfolding column_byte
 returns c =
-    let v = c.before.before.requires.0.view in read_at _ columnSize _ _ c.cell.ensures refl v.columns
+    let v = c.before.before.requires.0.view in read_at _ column_size _ _ c.cell.ensures refl v.columns
 
 pub column-byte-spec : {M : Type 1} → statement M
 column-byte-spec = tie.close (tie.spec add-cell cell-requires returns)

@@ -3,7 +3,7 @@
 use Prim.Native.Nat.{ℕ, ◌+◌}
 use mathlib.Core.Path.{ap, ◌∙◌}
 use borrow.Author.Rules.{rules}
-use Rattle.position.specs.Layout.{byte, deskByte}
+use Rattle.position.specs.Layout.{byte, desk_byte}
 use Rattle.position.proofs.layout.desk_byte.Statement.{statement}
 use Rattle.position.proofs.layout.desk_byte.Tie as tie
 
@@ -17,7 +17,7 @@ wide-requires : tie.Need-wide-requires
 wide-requires c κs = search rules
 
 returns : tie.Need-returns
-unfolding deskByte
+unfolding desk_byte
 returns c =
     let s = c.before.before.before.before in
     record {

@@ -2,7 +2,7 @@
 -- Assumes nothing.
 use native.Mathlib.Omega.{arith}
 use borrow.Author.Rules.{rules}
-use Rattle.position.specs.Layout.{hexSize, hexByte, mapAt}
+use Rattle.position.specs.Layout.{hex_size, hex_byte, map_at}
 use Rattle.position.proofs.Cells.{read_at}
 use Rattle.position.proofs.layout.hex_byte.Statement.{statement}
 use Rattle.position.proofs.layout.hex_byte.Tie as tie
@@ -23,10 +23,10 @@ cell-requires : tie.Need-cell-requires
 cell-requires c κs = search rules
 
 returns : tie.Need-returns
-unfolding hexByte mapAt
+unfolding hex_byte map_at
 returns c =
     let v = c.before.before.before.requires.0.view in
-    read_at _ hexSize _ _ c.cell.ensures (omega (arith, v.columns)) v.hexes
+    read_at _ hex_size _ _ c.cell.ensures (omega (arith, v.columns)) v.hexes
 
 pub hex-byte-spec : {M : Type 1} → statement M
 hex-byte-spec = tie.close (tie.spec add-cell mul-cell add-cell-2 add-cell-3 cell-requires returns)

@@ -3,7 +3,7 @@
 use mathlib.Core.Path.{sym, ◌∙◌}
 use native.Mathlib.Omega.{arith}
 use borrow.Author.Rules.{rules}
-use Rattle.position.specs.Layout.{hexSize, hexByte, mapAt}
+use Rattle.position.specs.Layout.{hex_size, hex_byte, map_at}
 use Rattle.position.proofs.Cells.{cell_in, read_at}
 use Rattle.position.proofs.layout.map_byte.Statement.{statement}
 use Rattle.position.proofs.layout.map_byte.Tie as tie
@@ -36,12 +36,12 @@ wide-requires : tie.Need-wide-requires
 wide-requires c κs = search rules
 
 returns : tie.Need-returns
-unfolding hexByte mapAt
+unfolding hex_byte map_at
 returns c =
     let o = c.before.before.before.before.requires in
     let v = o.0.view in
-    let is = c.wide.ensures.is ∙ sym (cell_in _ _ hexSize _ _ _ o.2) in
-    read_at _ hexSize _ _ (record { is = is; small = c.wide.ensures.small }) (omega (arith, v.columns)) v.hexes
+    let is = c.wide.ensures.is ∙ sym (cell_in _ _ hex_size _ _ _ o.2) in
+    read_at _ hex_size _ _ (record { is = is; small = c.wide.ensures.small }) (omega (arith, v.columns)) v.hexes
 
 pub map-byte-spec : {M : Type 1} → statement M
 map-byte-spec =

@@ -5,7 +5,7 @@ use mathlib.Core.Path.{ap}
 use native.Mathlib.Omega.{arith}
 use lib.ListN.{set}
 use borrow.Author.Rules.{rules}
-use Rattle.position.specs.Layout.{setDesk}
+use Rattle.position.specs.Layout.{set_desk}
 use Rattle.position.proofs.layout.set_desk.Statement.{statement}
 use Rattle.position.proofs.layout.set_desk.Tie as tie
 
@@ -22,7 +22,7 @@ same_length : tie.Need-same-length
 same_length c = search rules
 
 returns : tie.Need-returns
-unfolding setDesk
+unfolding set_desk
 returns c =
     let a = c.before.args in
     ap (λ (i : ℕ). set a.p.now i a.x) (omega arith)

@@ -6,7 +6,7 @@ use native.Mathlib.Omega.{arith}
 use lib.ListN.{set}
 use borrow.Author.Rules.{rules}
 use Rattle.position.specs.Layout.{unit_at}
-use Rattle.position.proofs.Tables.{set-unit-in, set-unit-out}
+use Rattle.position.proofs.Tables.{set_unit_in, set_unit_out}
 use Rattle.position.proofs.layout.set_unit.Statement.{statement}
 use Rattle.position.proofs.layout.set_unit.Tie as tie
 
@@ -35,10 +35,10 @@ returns : tie.Need-returns
 unfolding unit_at
 returns c =
     let a = c.before.before.args in
-    ap (λ (i : ℕ). set a.p.now i a.x) (omega arith) ∙ sym (set-unit-in a.p.now a.u a.f a.x (omega arith))
+    ap (λ (i : ℕ). set a.p.now i a.x) (omega arith) ∙ sym (set_unit_in a.p.now a.u a.f a.x (omega arith))
 
 returns-2 : tie.Need-returns-2
-returns-2 c = let a = c.before.args in sym (set-unit-out a.p.now a.u a.f a.x (omega arith))
+returns-2 c = let a = c.before.args in sym (set_unit_out a.p.now a.u a.f a.x (omega arith))
 
 pub set-unit-spec : {M : Type 1} → statement M
 set-unit-spec =

@@ -2,7 +2,7 @@
 -- Assumes nothing.
 use native.Mathlib.Omega.{arith}
 use borrow.Author.Rules.{rules}
-use Rattle.position.specs.Layout.{unitSize, unitByte}
+use Rattle.position.specs.Layout.{unit_size, unit_byte}
 use Rattle.position.proofs.Cells.{read_at}
 use Rattle.position.proofs.layout.unit_byte.Statement.{statement}
 use Rattle.position.proofs.layout.unit_byte.Tie as tie
@@ -14,10 +14,10 @@ cell-requires : tie.Need-cell-requires
 cell-requires c κs = search rules
 
 returns : tie.Need-returns
-unfolding unitByte
+unfolding unit_byte
 returns c =
     let v = c.before.before.before.requires.0.view in
-    read_at _ unitSize _ _ c.cell.ensures (omega (arith, v.units)) v.count
+    read_at _ unit_size _ _ c.cell.ensures (omega (arith, v.units)) v.count
 
 pub unit-byte-spec : {M : Type 1} → statement M
 unit-byte-spec = tie.close (tie.spec add-cell cell-requires returns)

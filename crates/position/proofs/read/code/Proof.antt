@@ -3,15 +3,15 @@
 use mathlib.Core.Path.{sym, ◌∙◌}
 use native.Mathlib.Omega.{arith}
 use borrow.Author.Rules.{rules}
-use Rattle.position.proofs.Tables.{code_in, code-none, code-past}
+use Rattle.position.proofs.Tables.{code_in, code_none, code_past}
 use Rattle.position.proofs.read.code.Statement.{statement}
 use Rattle.position.proofs.read.code.Tie as tie
 
 returns : tie.Need-returns
-returns c = record { is = sym (code-none _ _ _ c.if1.true); small = omega arith }
+returns c = record { is = sym (code_none _ _ _ c.if1.true); small = omega arith }
 
 returns-2 : tie.Need-returns-2
-returns-2 c = record { is = sym (code-past _ _ _ (omega (arith, c.before.if1.false)) c.if2.true); small = omega arith }
+returns-2 c = record { is = sym (code_past _ _ _ (omega (arith, c.before.if1.false)) c.if2.true); small = omega arith }
 
 add-column-byte : tie.Need-overflow-add-column-byte
 add-column-byte c = search rules

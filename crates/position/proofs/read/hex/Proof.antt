@@ -2,14 +2,14 @@
 -- Assumes nothing.
 use native.Mathlib.Omega.{arith}
 use borrow.Author.Rules.{rules}
-use Rattle.position.proofs.Tables.{hex-in, hex-out}
+use Rattle.position.proofs.Tables.{hex_in, hex_out}
 use Rattle.position.proofs.read.hex.Statement.{statement}
 use Rattle.position.proofs.read.hex.Tie as tie
 
 returns : tie.Need-returns
 returns c =
     let a = c.before.before.args in
-    record { is = omega (arith, hex-out a.p.now a.u (omega arith)); small = omega arith }
+    record { is = omega (arith, hex_out a.p.now a.u (omega arith)); small = omega arith }
 
 unit-byte-requires : tie.Need-unit-byte-requires
 unit-byte-requires c κs = search rules
@@ -29,7 +29,7 @@ add-result c = search rules
 returns-2 : tie.Need-returns-2
 returns-2 c =
     let a = c.before.before.before.before.args in
-    record { is = omega (arith, hex-in a.p.now a.u (omega arith)); small = omega arith }
+    record { is = omega (arith, hex_in a.p.now a.u (omega arith)); small = omega arith }
 
 pub hex-spec : {M : Type 1} → statement M
 hex-spec =

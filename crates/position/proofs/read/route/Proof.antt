@@ -2,19 +2,19 @@
 -- Assumes nothing.
 use native.Mathlib.Omega.{arith}
 use borrow.Author.Rules.{rules}
-use Rattle.position.proofs.Tables.{route-in, route-past, route-over}
+use Rattle.position.proofs.Tables.{route_in, route_past, route_over}
 use Rattle.position.proofs.read.route.Statement.{statement}
 use Rattle.position.proofs.read.route.Tie as tie
 
 returns : tie.Need-returns
 returns c =
     let a = c.before.before.args in
-    record { is = omega (arith, route-past a.p.now a.r a.j (omega arith)); small = omega arith }
+    record { is = omega (arith, route_past a.p.now a.r a.j (omega arith)); small = omega arith }
 
 returns-2 : tie.Need-returns-2
 returns-2 c =
     let a = c.before.before.before.args in
-    record { is = omega (arith, route-over a.p.now a.r a.j (omega arith) (omega arith)); small = omega arith }
+    record { is = omega (arith, route_over a.p.now a.r a.j (omega arith) (omega arith)); small = omega arith }
 
 mul_at : tie.Need-overflow-mul-at
 mul_at c = search rules
@@ -46,7 +46,7 @@ add-result c = search rules
 returns-3 : tie.Need-returns-3
 returns-3 c =
     let a = c.before.before.before.before.before.args in
-    record { is = omega (arith, route-in a.p.now a.r a.j (omega arith) (omega arith)); small = omega arith }
+    record { is = omega (arith, route_in a.p.now a.r a.j (omega arith) (omega arith)); small = omega arith }
 
 pub route-spec : {M : Type 1} → statement M
 route-spec =

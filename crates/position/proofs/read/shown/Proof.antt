@@ -5,7 +5,7 @@ use native.Mathlib.Omega.{arith}
 use borrow.Author.Rules.{rules}
 use Rattle.position.specs.Bits.{has, tried}
 use Rattle.position.specs.Layout.{marks}
-use Rattle.position.proofs.Effects.{shown-is, shown-not}
+use Rattle.position.proofs.Effects.{shown_is, shown_not}
 use Rattle.position.proofs.read.shown.Statement.{statement}
 use Rattle.position.proofs.read.shown.Tie as tie
 
@@ -27,12 +27,12 @@ strength-requires c κs = search rules
 returns : tie.Need-returns
 returns c =
     record {
-      is = c.strength.ensures.is ∙ sym (shown-is _ _ (sym (asked c.before.before) ∙ c.before.if1.true));
+      is = c.strength.ensures.is ∙ sym (shown_is _ _ (sym (asked c.before.before) ∙ c.before.if1.true));
       small = c.strength.ensures.small;
     }
 
 returns-2 : tie.Need-returns-2
-returns-2 c = record { is = sym (shown-not _ _ (sym (asked c.before) ∙ c.if1.false)); small = omega arith }
+returns-2 c = record { is = sym (shown_not _ _ (sym (asked c.before) ∙ c.if1.false)); small = omega arith }
 
 pub shown-spec : {M : Type 1} → statement M
 shown-spec = tie.close (tie.spec marks-requires has-requires strength-requires returns returns-2)

@@ -5,9 +5,9 @@ use mathlib.Core.Path.{sym, ap₂, subst, ◌∙◌}
 use native.Mathlib.Omega.{arith}
 use borrow.Author.Rules.{rules}
 use Rattle.position.specs.Board.{board}
-use Rattle.paint.proofs.Bytes.{round_room, blank-long, blank-all}
+use Rattle.paint.proofs.Bytes.{round_room, blank_long, blank_all}
 use Rattle.pushes.specs.Drawn.{ShownIn, DrawnTo}
-use Rattle.pushes.proofs.Drawing.{drawing-none, shown-in, drawing-more, drawn}
+use Rattle.pushes.proofs.Drawing.{drawing_none, shown_in, drawing_more, drawn}
 use Rattle.pushes.proofs.draw.draw.Statement.{statement}
 use Rattle.pushes.proofs.draw.draw.Tie as tie
 
@@ -20,10 +20,10 @@ decreases-loop p v at f start room₀ i₀ room i = 182 - i
 show-requires : tie.Need-show-requires invariant-loop decreases-loop
 show-requires c κs =
     let outset = c.before.before.before in
-    (outset.requires.0, round_room outset.requires.1 (omega (arith, blank-long 182 outset.requires.2)), blank-all 182 outset.requires.2)
+    (outset.requires.0, round_room outset.requires.1 (omega (arith, blank_long 182 outset.requires.2)), blank_all 182 outset.requires.2)
 
 loop-holds : tie.Need-loop-init invariant-loop decreases-loop
-loop-holds c = (omega arith, drawing-none (c.before.room.given ∙ blank-long 182 c.before.before.before.before.before.before.requires.2) c.before.before.show.ensures)
+loop-holds c = (omega arith, drawing_none (c.before.room.given ∙ blank_long 182 c.before.before.before.before.before.before.requires.2) c.before.before.show.ensures)
 
 slice-read-wide : tie.Need-slice-read-wide invariant-loop decreases-loop
 slice-read-wide c = omega (arith, c.before.before.loop.invariant.1.long)
@@ -39,7 +39,7 @@ byte-for-requires c κs =
       outset.requires.0,
       r.ok,
       omega (arith, ap₂ (λ (m n : ℕ). m * n) r.wide r.high),
-      subst (ShownIn (board a.p.now) a.f a.at c.before.before.before.loop.i) (sym c.wide.ensures.is) (shown-in c.before.before.before.loop.invariant.1),
+      subst (ShownIn (board a.p.now) a.f a.at c.before.before.before.loop.i) (sym c.wide.ensures.is) (shown_in c.before.before.before.loop.invariant.1),
     )
 
 cast-room : tie.Need-overflow-cast-room invariant-loop decreases-loop
@@ -55,10 +55,10 @@ loop-less : tie.Need-loop-smaller invariant-loop decreases-loop
 loop-less c = search rules
 
 loop-again : tie.Need-loop-preserved invariant-loop decreases-loop
-loop-again c = (omega arith, drawing-more c.before.before.before.before.loop.invariant.1 _ (omega arith) c.byte-for.ensures.0)
+loop-again c = (omega arith, drawing_more c.before.before.before.before.loop.invariant.1 _ (omega arith) c.byte-for.ensures.0)
 
 same_length : tie.Need-same-length invariant-loop decreases-loop
-same_length c = omega (arith, c.before.loop.invariant.1.long, blank-long 182 c.before.before.before.before.before.before.before.before.requires.2)
+same_length c = omega (arith, c.before.loop.invariant.1.long, blank_long 182 c.before.before.before.before.before.before.before.before.requires.2)
 
 returns : tie.Need-returns invariant-loop decreases-loop
 returns c =

@@ -6,13 +6,13 @@ use mathlib.Core.Logic.{⊎_elim}
 use native.Mathlib.Omega.{arith}
 use borrow.Author.Rules.{rules}
 use Rattle.position.specs.Board.{ground}
-use Rattle.pushes.specs.Drawn.{openBits}
-use Rattle.pushes.proofs.Drawing.{opens_at, opens-off, bits_none, bits-open, bits-shut, bits-low}
+use Rattle.pushes.specs.Drawn.{open_bits}
+use Rattle.pushes.proofs.Drawing.{opens_at, opens_off, bits_none, bits_open, bits_shut, bits_low}
 use Rattle.pushes.proofs.draw.open_bits.Statement.{statement}
 use Rattle.pushes.proofs.draw.open_bits.Tie as tie
 
 abbrev invariant-loop : tie.invariant-loop
-invariant-loop p v x m₀ d₀ m d = (d ≤ 6) × (m ≡ openBits (ground p) x d)
+invariant-loop p v x m₀ d₀ m d = (d ≤ 6) × (m ≡ open_bits (ground p) x d)
 
 abbrev decreases-loop : tie.decreases-loop
 decreases-loop p v x m₀ d₀ m d = 6 - d
@@ -33,7 +33,7 @@ add-m : tie.Need-overflow-add-m invariant-loop decreases-loop
 add-m c =
     let k = c.before.before.before.before.before in
     let a = k.before.before.args in
-    omega (arith, c.side-bit.ensures, k.loop.invariant.1, bits-low (ground a.p.now) a.x k.loop.d (omega arith))
+    omega (arith, c.side-bit.ensures, k.loop.invariant.1, bits_low (ground a.p.now) a.x k.loop.d (omega arith))
 
 enum-told-2 : tie.Need-enum-told-2 invariant-loop decreases-loop
 enum-told-2 c = search rules
@@ -53,8 +53,8 @@ loop-again c =
     let e = c.before.next.ensures in (
       omega arith,
       ⊎_elim
-          (λ w. omega (arith, w.3, w.2.ensures, k.loop.invariant.1, bits-open m a.x d (opens_at m a.x d e w.1.given.1)))
-          (λ w. omega (arith, w.2, k.loop.invariant.1, bits-shut m a.x d (opens-off m a.x d e w.1.given.1)))
+          (λ w. omega (arith, w.3, w.2.ensures, k.loop.invariant.1, bits_open m a.x d (opens_at m a.x d e w.1.given.1)))
+          (λ w. omega (arith, w.2, k.loop.invariant.1, bits_shut m a.x d (opens_off m a.x d e w.1.given.1)))
           c.match.branch,
     )
 
@@ -62,8 +62,8 @@ returns : tie.Need-returns invariant-loop decreases-loop
 returns c =
     let a = c.before.before.before.args in
     let e : c.before.loop.d ≡ 6 = omega arith in
-    let q = c.before.loop.invariant.1 ∙ ap (openBits (ground a.p.now) a.x) e in
-    (q, omega (arith, q, bits-low (ground a.p.now) a.x 6 (omega arith)))
+    let q = c.before.loop.invariant.1 ∙ ap (open_bits (ground a.p.now) a.x) e in
+    (q, omega (arith, q, bits_low (ground a.p.now) a.x 6 (omega arith)))
 
 pub open-bits-spec : {M : Type 1} → statement M
 open-bits-spec =

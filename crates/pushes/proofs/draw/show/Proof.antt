@@ -1,7 +1,7 @@
 -- `draw::show` meets its contract: over what is painted come the bars.
 -- Assumes nothing.
 use borrow.Author.Rules.{rules}
-use Rattle.paint.proofs.Adding.{room-kept}
+use Rattle.paint.proofs.Adding.{room_kept}
 use Rattle.pushes.proofs.Drawing.{shown}
 use Rattle.pushes.proofs.draw.show.Statement.{statement}
 use Rattle.pushes.proofs.draw.show.Tie as tie
@@ -10,7 +10,7 @@ paint-blank-requires : tie.Need-paint-blank-requires
 paint-blank-requires c κs = search rules
 
 bar-all-requires : tie.Need-bar-all-requires
-bar-all-requires c κs = (c.before.before.before.before.before.before.before.requires.0, room-kept c.before.before.before.before.before.before.before.requires.1 c.before.before.room.given)
+bar-all-requires c κs = (c.before.before.before.before.before.before.before.requires.0, room_kept c.before.before.before.before.before.before.before.requires.1 c.before.before.room.given)
 
 same_length : tie.Need-same-length
 same_length c = search rules

@@ -4,7 +4,7 @@ use Prim.Native.Nat.{◌-◌}
 use mathlib.Core.Path.{◌∙◌, ap, sym}
 use native.Mathlib.Omega.{arith}
 use borrow.Author.Rules.{rules}
-use Rattle.position.proofs.Tallies.{any-true}
+use Rattle.position.proofs.Tallies.{any_true}
 use Rattle.position.specs.Board.{board}
 use Rattle.position.specs.Tally.{any}
 use Rattle.chains.specs.Stand.{apart}
@@ -25,7 +25,7 @@ apart-requires : tie.Need-apart-requires invariant-loop decreases-loop
 apart-requires c κs = search rules
 
 returns : tie.Need-returns invariant-loop decreases-loop
-returns c = sym (any-true _ _ c.before.before.before.loop.u (omega arith) (sym c.before.apart.ensures ∙ c.if1.true))
+returns c = sym (any_true _ _ c.before.before.before.loop.u (omega arith) (sym c.before.apart.ensures ∙ c.if1.true))
 
 add-u : tie.Need-overflow-add-u invariant-loop decreases-loop
 add-u c = search rules

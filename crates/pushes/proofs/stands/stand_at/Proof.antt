@@ -8,7 +8,7 @@ use borrow.Author.Tests.{not-true, not-false}
 use Rattle.position.specs.Board.{board}
 use Rattle.routes.specs.Bears.{bears}
 use Rattle.chains.specs.Stand.{stand}
-use Rattle.pushes.proofs.Standing.{stand-barred, stand-zone, borne, stand-vacant, other-firm, other-loose}
+use Rattle.pushes.proofs.Standing.{stand_barred, stand_zone, borne, stand_vacant, other_firm, other_loose}
 use Rattle.pushes.proofs.stands.stand_at.Statement.{statement}
 use Rattle.pushes.proofs.stands.stand_at.Tie as tie
 
@@ -26,7 +26,7 @@ standable-requires c κs = search rules
 returns : tie.Need-returns
 returns c =
     let a = c.before.before.before.args in
-    sym (stand-barred (board a.p.now) a.f a.a a.h (sym c.before.standable.ensures ∙ not-true _ c.if1.true))
+    sym (stand_barred (board a.p.now) a.f a.a a.h (sym c.before.standable.ensures ∙ not-true _ c.if1.true))
 
 has-requires : tie.Need-has-requires
 has-requires c κs = search rules
@@ -35,7 +35,7 @@ returns-2 : tie.Need-returns-2
 returns-2 c =
     let a = c.before.before.before.before.before.args in
     sym
-    (stand-zone (board a.p.now) a.f a.a a.h c.before.before.before.before.before.requires.2 (sym c.before.before.before.standable.ensures ∙ not-false _ c.before.before.if1.false)
+    (stand_zone (board a.p.now) a.f a.a a.h c.before.before.before.before.before.requires.2 (sym c.before.before.before.standable.ensures ∙ not-false _ c.before.before.if1.false)
     (sym c.before.has.ensures ∙ c.if2.true))
 
 has-requires-2 : tie.Need-has-requires-2
@@ -45,7 +45,7 @@ returns-3 : tie.Need-returns-3
 returns-3 c =
     let a = c.before.before.before.before.before.before.before.args in
     sym
-    (stand-vacant (board a.p.now) a.f a.a a.h (may c.before.before) c.before.before.before.before.before.before.before.requires.2
+    (stand_vacant (board a.p.now) a.f a.a a.h (may c.before.before) c.before.before.before.before.before.before.before.requires.2
     (sym c.before.has2.ensures ∙ not-true _ c.if3.true))
 
 own-stand-requires : tie.Need-own-stand-requires
@@ -65,14 +65,14 @@ returns-5 : tie.Need-returns-5
 returns-5 c =
     let a = c.before.before.before.before.before.before.before.before.before.before.args in
     sym
-    (other-firm (board a.p.now) a.f a.a a.h (may c.before.before.before.before.before) c.before.before.if4.false c.before.before.before.before.before.before.before.before.before.before.requires.2
+    (other_firm (board a.p.now) a.f a.a a.h (may c.before.before.before.before.before) c.before.before.if4.false c.before.before.before.before.before.before.before.before.before.before.requires.2
     (sym c.before.before.before.before.has2.ensures ∙ not-false _ c.before.before.before.if3.false) (sym c.before.has3.ensures ∙ c.if5.true))
 
 returns-6 : tie.Need-returns-6
 returns-6 c =
     let a = c.before.before.before.before.before.before.before.before.before.before.args in
     sym
-    (other-loose (board a.p.now) a.f a.a a.h (may c.before.before.before.before.before) c.before.before.if4.false c.before.before.before.before.before.before.before.before.before.before.requires.2
+    (other_loose (board a.p.now) a.f a.a a.h (may c.before.before.before.before.before) c.before.before.if4.false c.before.before.before.before.before.before.before.before.before.before.requires.2
     (sym c.before.before.before.before.has2.ensures ∙ not-false _ c.before.before.before.if3.false) (sym c.before.has3.ensures ∙ c.if5.false))
 
 pub stand-at-spec : {M : Type 1} → statement M

@@ -4,7 +4,7 @@ use Prim.Native.Nat.{◌-◌}
 use mathlib.Core.Path.{refl}
 use native.Mathlib.Omega.{arith}
 use borrow.Author.Rules.{rules}
-use Rattle.results.proofs.Settles.{Marking, fought-byte, marking-all, marking-more, marking-none}
+use Rattle.results.proofs.Settles.{Marking, fought_byte, marking_all, marking-more, marking_none}
 use Rattle.results.proofs.settling.mark_all.Statement.{statement}
 use Rattle.results.proofs.settling.mark_all.Tie as tie
 
@@ -15,7 +15,7 @@ abbrev decreases-loop : tie.decreases-loop
 decreases-loop p₀ v us i₀ i-end p i = i-end - i
 
 loop-holds : tie.Need-loop-init invariant-loop decreases-loop
-loop-holds c = marking-none c.before.before.requires
+loop-holds c = marking_none c.before.before.requires
 
 mul-u : tie.Need-overflow-mul-u invariant-loop decreases-loop
 mul-u c = search rules
@@ -33,7 +33,7 @@ with-requires : tie.Need-with-requires invariant-loop decreases-loop
 with-requires c κs = (omega arith, omega arith, c.before.marks.ensures.small)
 
 mark-requires : tie.Need-mark-requires invariant-loop decreases-loop
-mark-requires c κs = (c.before.before.before.before.before.before.loop.invariant.laid, rw c.with.ensures (fought-byte _ c.before.before.marks.ensures.small))
+mark-requires c κs = (c.before.before.before.before.before.before.loop.invariant.laid, rw c.with.ensures (fought_byte _ c.before.before.marks.ensures.small))
 
 add-i : tie.Need-overflow-add-i invariant-loop decreases-loop
 add-i c = search rules
@@ -48,7 +48,7 @@ same_length : tie.Need-same-length invariant-loop decreases-loop
 same_length c = omega (arith, c.before.loop.invariant.laid.fits.whole, c.before.before.before.before.requires.fits.whole)
 
 returns : tie.Need-returns invariant-loop decreases-loop
-returns c = marking-all c.before.loop.invariant (omega arith)
+returns c = marking_all c.before.loop.invariant (omega arith)
 
 pub mark-all-spec : {M : Type 1} → statement M
 mark-all-spec =

@@ -7,27 +7,27 @@ use native.Mathlib.Omega.{arith}
 use borrow.Author.Rules.{rules}
 use Rattle.position.specs.Change.{makes}
 use Rattle.position.specs.Laid.{Laid}
-use Rattle.position.proofs.Changes.{laid-makes}
-use Rattle.results.proofs.Settles.{all-behind, all-long, all_settled, likened-refl, turned-over}
+use Rattle.position.proofs.Changes.{laid_makes}
+use Rattle.results.proofs.Settles.{all_behind, all_long, all_settled, likened_refl, turned_over}
 use Rattle.results.specs.Results.{suffers}
 use Rattle.results.proofs.settling.settle.Statement.{statement}
 use Rattle.results.proofs.settling.settle.Tie as tie
 
 -- the layout stays, from one part to the next
 laid-1 : (c : tie.After-turn-all) → Laid c.turn-all.new.0 c.before.before.before.before.before.args.v
-laid-1 c = rw c.turn-all.ensures (turned-over c.before.before.before.before.before.requires.0 c.before.before.before.before.before.args.all.now).laid
+laid-1 c = rw c.turn-all.ensures (turned_over c.before.before.before.before.before.requires.0 c.before.before.before.before.before.args.all.now).laid
 
 laid-2 : (c : tie.After-mark-all) → Laid c.mark-all.new.0 c.before.before.before.before.before.before.before.before.before.args.v
-laid-2 c = laid-makes _ (laid-1 c.before.before.before.before) (c.mark-all.ensures.made _ (likened-refl _))
+laid-2 c = laid_makes _ (laid-1 c.before.before.before.before) (c.mark-all.ensures.made _ (likened_refl _))
 
 laid-3 : (c : tie.After-write-routes) → Laid c.write-routes.new.0 c.before.before.before.before.before.before.before.before.before.before.before.before.before.args.v
-laid-3 c = laid-makes _ (laid-2 c.before.before.before.before) c.write-routes.ensures
+laid-3 c = laid_makes _ (laid-2 c.before.before.before.before) c.write-routes.ensures
 
 laid-4 : (c : tie.After-suffer) → Laid c.suffer.new.0 c.before.before.before.before.before.before.before.before.before.before.before.before.before.before.before.before.before.args.v
-laid-4 c = laid-makes _ (laid-3 c.before.before.before.before) c.suffer.ensures
+laid-4 c = laid_makes _ (laid-3 c.before.before.before.before) c.suffer.ensures
 
 laid-5 : (c : tie.After-suffer2) → Laid c.suffer2.new.0 c.before.before.before.before.before.before.before.before.before.before.before.before.before.before.before.before.before.before.before.before.before.before.args.v
-laid-5 c = laid-makes _ (laid-4 c.before.before.before.before.before) c.suffer2.ensures
+laid-5 c = laid_makes _ (laid-4 c.before.before.before.before.before) c.suffer2.ensures
 
 turn-all-requires : tie.Need-turn-all-requires
 turn-all-requires c κs = c.before.before.before.before.requires.0
@@ -45,10 +45,10 @@ mul-suffer : tie.Need-overflow-mul-suffer
 mul-suffer c = search rules
 
 sub-suffer : tie.Need-overflow-sub-suffer
-sub-suffer c = omega (arith, all-long _ _ _ _ c.before.before.before.before.before.before.before.before.before.before.before.before.before.before.before.before.before.before.before.before.requires.3)
+sub-suffer c = omega (arith, all_long _ _ _ _ c.before.before.before.before.before.before.before.before.before.before.before.before.before.before.before.before.before.before.before.before.requires.3)
 
 part-suffer-start : tie.Need-slice-bounds-suffer-start
-part-suffer-start c = all-long _ _ _ _ c.before.before.before.before.before.before.before.before.before.before.before.before.before.before.before.before.before.before.before.before.requires.3
+part-suffer-start c = all_long _ _ _ _ c.before.before.before.before.before.before.before.before.before.before.before.before.before.before.before.before.before.before.before.before.requires.3
 
 part-suffer-end : tie.Need-slice-bounds-suffer-end
 part-suffer-end c = search rules
@@ -71,7 +71,7 @@ returns c =
       marking = c.before.before.before.before.before.before.before.before.before.before.before.before.before.before.before.before.before.before.before.mark-all.ensures;
       routing = c.before.before.before.before.before.before.before.before.before.before.before.before.before.before.before.write-routes.ensures;
       striking = c.before.before.before.before.before.before.before.before.before.before.before.suffer.ensures;
-      standing = c.before.before.before.before.before.before.suffer2.ensures ∙ ap (λ (x : List ℕ). makes c.before.before.before.before.before.before.before.before.before.before.before.suffer.new.0 (map (suffers a.o.defenders) x)) (all-behind a.units.now a.all.now);
+      standing = c.before.before.before.before.before.before.suffer2.ensures ∙ ap (λ (x : List ℕ). makes c.before.before.before.before.before.before.before.before.before.before.before.suffer.new.0 (map (suffers a.o.defenders) x)) (all_behind a.units.now a.all.now);
       staging = c.before.before.set-stage.ensures;
     })
 

@@ -5,7 +5,7 @@ use mathlib.Core.Path.{◌∙◌, sym}
 use native.Mathlib.Omega.{arith}
 use borrow.Author.Rules.{rules}
 use Rattle.position.specs.Layout.{hex}
-use Rattle.field.proofs.Lists.{Unnamed, unnamed-all, unnamed-hit, unnamed-more, unnamed-none}
+use Rattle.field.proofs.Lists.{Unnamed, unnamed_all, unnamed-hit, unnamed_more, unnamed_none}
 use Rattle.results.proofs.settling.stood_before.Statement.{statement}
 use Rattle.results.proofs.settling.stood_before.Tie as tie
 
@@ -16,7 +16,7 @@ abbrev decreases-loop : tie.decreases-loop
 decreases-loop p v units n h j₀ j = n - j
 
 loop-holds : tie.Need-loop-init invariant-loop decreases-loop
-loop-holds c = unnamed-none
+loop-holds c = unnamed_none
 
 mul-hex : tie.Need-overflow-mul-hex invariant-loop decreases-loop
 mul-hex c = omega (arith, c.before.before.before.before.requires.1, c.before.before.shared-slice-known2.given 0)
@@ -40,10 +40,10 @@ loop-less : tie.Need-loop-smaller invariant-loop decreases-loop
 loop-less c = search rules
 
 loop-again : tie.Need-loop-preserved invariant-loop decreases-loop
-loop-again c = unnamed-more c.before.before.before.before.before.before.before.requires.1 c.before.before.before.before.loop.invariant (omega arith) (λ e. c.if1.false (c.before.hex.ensures.is ∙ e))
+loop-again c = unnamed_more c.before.before.before.before.before.before.before.requires.1 c.before.before.before.before.loop.invariant (omega arith) (λ e. c.if1.false (c.before.hex.ensures.is ∙ e))
 
 returns-2 : tie.Need-returns-2 invariant-loop decreases-loop
-returns-2 c = sym (unnamed-all c.before.loop.invariant (omega arith))
+returns-2 c = sym (unnamed_all c.before.loop.invariant (omega arith))
 
 pub stood-before-spec : {M : Type 1} → statement M
 stood-before-spec =

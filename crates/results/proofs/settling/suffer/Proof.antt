@@ -4,7 +4,7 @@ use Prim.Native.Nat.{◌-◌}
 use mathlib.Core.Path.{refl}
 use native.Mathlib.Omega.{arith}
 use borrow.Author.Rules.{rules}
-use Rattle.field.proofs.Making.{Making, making-all, making-more, making-none}
+use Rattle.field.proofs.Making.{Making, making_all, making_more, making_none}
 use Rattle.results.specs.Results.{suffers}
 use Rattle.results.proofs.settling.suffer.Statement.{statement}
 use Rattle.results.proofs.settling.suffer.Tie as tie
@@ -16,7 +16,7 @@ abbrev decreases-loop : tie.decreases-loop
 decreases-loop p₀ v us fate i₀ i-end p i = i-end - i
 
 loop-holds : tie.Need-loop-init invariant-loop decreases-loop
-loop-holds c = making-none c.before.before.requires.0
+loop-holds c = making_none c.before.before.requires.0
 
 mul-suffer-one : tie.Need-overflow-mul-suffer-one invariant-loop decreases-loop
 mul-suffer-one c = search rules
@@ -37,13 +37,13 @@ loop-less : tie.Need-loop-smaller invariant-loop decreases-loop
 loop-less c = search rules
 
 loop-again : tie.Need-loop-preserved invariant-loop decreases-loop
-loop-again c = making-more c.before.before.before.before.before.before.loop.invariant (omega arith) refl c.before.before.suffer-one.ensures
+loop-again c = making_more c.before.before.before.before.before.before.loop.invariant (omega arith) refl c.before.before.suffer-one.ensures
 
 same_length : tie.Need-same-length invariant-loop decreases-loop
 same_length c = omega (arith, c.before.loop.invariant.laid.fits.whole, c.before.before.before.before.requires.0.fits.whole)
 
 returns : tie.Need-returns invariant-loop decreases-loop
-returns c = making-all c.before.loop.invariant (omega arith)
+returns c = making_all c.before.loop.invariant (omega arith)
 
 pub suffer-spec : {M : Type 1} → statement M
 suffer-spec =

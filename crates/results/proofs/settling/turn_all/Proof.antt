@@ -4,7 +4,7 @@ use Prim.Native.Nat.{◌-◌}
 use mathlib.Core.Path.{refl}
 use native.Mathlib.Omega.{arith}
 use borrow.Author.Rules.{rules}
-use Rattle.results.proofs.Settles.{Turning, turning-all, turning-more, turning-none}
+use Rattle.results.proofs.Settles.{Turning, turning_all, turning-more, turning_none}
 use Rattle.results.proofs.settling.turn_all.Statement.{statement}
 use Rattle.results.proofs.settling.turn_all.Tie as tie
 
@@ -15,7 +15,7 @@ abbrev decreases-loop : tie.decreases-loop
 decreases-loop p₀ v us i₀ i-end p i = i-end - i
 
 loop-holds : tie.Need-loop-init invariant-loop decreases-loop
-loop-holds c = turning-none c.before.before.requires
+loop-holds c = turning_none c.before.before.requires
 
 mul-turn-over : tie.Need-overflow-mul-turn-over invariant-loop decreases-loop
 mul-turn-over c = search rules
@@ -42,7 +42,7 @@ same_length : tie.Need-same-length invariant-loop decreases-loop
 same_length c = omega (arith, c.before.loop.invariant.laid.fits.whole, c.before.before.before.before.requires.fits.whole)
 
 returns : tie.Need-returns invariant-loop decreases-loop
-returns c = turning-all c.before.loop.invariant (omega arith)
+returns c = turning_all c.before.loop.invariant (omega arith)
 
 pub turn-all-spec : {M : Type 1} → statement M
 turn-all-spec =

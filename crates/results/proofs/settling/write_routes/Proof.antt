@@ -7,8 +7,8 @@ use native.Mathlib.Omega.{arith}
 use borrow.Author.Rules.{rules}
 use Rattle.position.specs.Board.{board}
 use Rattle.position.specs.Change.{makes}
-use Rattle.results.proofs.Settles.{routes-attackers, routes-none, routes-target}
-use Rattle.results.specs.Results.{routedFrom}
+use Rattle.results.proofs.Settles.{routes_attackers, routes_none, routes_target}
+use Rattle.results.specs.Results.{routed_from}
 use Rattle.results.proofs.settling.write_routes.Statement.{statement}
 use Rattle.results.proofs.settling.write_routes.Tie as tie
 
@@ -22,7 +22,7 @@ returns : tie.Need-returns
 returns c =
     let a = c.before.before.before.before.before.before.before.args in
     c.before.before.route-hexes.ensures
-    ∙ ap (λ (x : List ℕ). makes a.p.now (routedFrom 0 x)) (sym (routes-attackers (board a.p.now) a.target a.units.now a.o c.before.before.before.before.if1.true))
+    ∙ ap (λ (x : List ℕ). makes a.p.now (routed_from 0 x)) (sym (routes_attackers (board a.p.now) a.target a.units.now a.o c.before.before.before.before.if1.true))
 
 set-route-requires : tie.Need-set-route-requires
 set-route-requires c κs = (c.before.before.before.before.before.requires.0, c.before.before.before.before.before.requires.2, omega arith, omega arith, omega arith)
@@ -31,17 +31,17 @@ same-length-2 : tie.Need-same-length-2
 same-length-2 c = search rules
 
 returns-2 : tie.Need-returns-2
-unfolding makes routedFrom
+unfolding makes routed_from
 returns-2 c =
     let a = c.before.before.before.before.before.before.before.before.args in
     c.before.before.set-route.ensures
-    ∙ ap (λ (x : List ℕ). makes a.p.now (routedFrom 0 x)) (sym (routes-target (board a.p.now) a.target a.units.now a.o c.before.before.before.before.before.if1.false c.before.before.before.before.if2.true))
+    ∙ ap (λ (x : List ℕ). makes a.p.now (routed_from 0 x)) (sym (routes_target (board a.p.now) a.target a.units.now a.o c.before.before.before.before.before.if1.false c.before.before.before.before.if2.true))
 
 returns-3 : tie.Need-returns-3
-unfolding makes routedFrom
+unfolding makes routed_from
 returns-3 c =
     let a = c.before.before.before.before.args in
-    ap (λ (x : List ℕ). makes a.p.now (routedFrom 0 x)) (sym (routes-none (board a.p.now) a.target a.units.now a.o c.before.if1.false c.if2.false))
+    ap (λ (x : List ℕ). makes a.p.now (routed_from 0 x)) (sym (routes_none (board a.p.now) a.target a.units.now a.o c.before.if1.false c.if2.false))
 
 pub write-routes-spec : {M : Type 1} → statement M
 write-routes-spec =

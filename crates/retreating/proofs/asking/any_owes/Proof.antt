@@ -4,16 +4,16 @@ use Prim.Native.Nat.{◌-◌}
 use mathlib.Core.Path.{◌∙◌, ap, sym}
 use native.Mathlib.Omega.{arith}
 use borrow.Author.Rules.{rules}
-use Rattle.position.proofs.Tallies.{any-true}
+use Rattle.position.proofs.Tallies.{any_true}
 use Rattle.position.specs.Board.{board}
 use Rattle.position.specs.Tally.{any}
-use Rattle.position.specs.Crowd.{owesAt}
+use Rattle.position.specs.Crowd.{owes_at}
 use Rattle.field.proofs.Zones.{None, none_at_all, none_yet, one_more}
 use Rattle.retreating.proofs.asking.any_owes.Statement.{statement}
 use Rattle.retreating.proofs.asking.any_owes.Tie as tie
 
 abbrev invariant-loop : tie.invariant-loop
-invariant-loop p v h count u₀ u = None (owesAt (board p) h) u count
+invariant-loop p v h count u₀ u = None (owes_at (board p) h) u count
 
 abbrev decreases-loop : tie.decreases-loop
 decreases-loop p v h count u₀ u = count - u
@@ -25,7 +25,7 @@ owes-at-requires : tie.Need-owes-at-requires invariant-loop decreases-loop
 owes-at-requires c κs = search rules
 
 returns : tie.Need-returns invariant-loop decreases-loop
-returns c = sym (any-true _ _ c.before.before.before.loop.u (omega arith) (sym c.before.owes_at.ensures ∙ c.if1.true))
+returns c = sym (any_true _ _ c.before.before.before.loop.u (omega arith) (sym c.before.owes_at.ensures ∙ c.if1.true))
 
 add-u : tie.Need-overflow-add-u invariant-loop decreases-loop
 add-u c = search rules
@@ -40,7 +40,7 @@ returns-2 : tie.Need-returns-2 invariant-loop decreases-loop
 returns-2 c =
     let s = c.before.before.before in
     sym
-    (ap (any (owesAt (board s.args.p.now) s.args.h)) (sym s.requires.view.count)
+    (ap (any (owes_at (board s.args.p.now) s.args.h)) (sym s.requires.view.count)
     ∙ none_at_all c.before.loop.invariant (omega arith))
 
 pub any-owes-spec : {M : Type 1} → statement M

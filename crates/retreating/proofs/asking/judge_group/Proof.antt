@@ -8,13 +8,13 @@ use Rattle.position.specs.Board.{board}
 use Rattle.ruling.specs.Judged.{TestedOf}
 use Rattle.retreat.proofs.Groups.{
   passes-group,
-  stops-hex,
-  stops-long,
-  stops-many,
+  stops_hex,
+  stops_long,
+  stops_many,
   stops-pushes,
-  stops-role,
-  stops-route,
-  stops-stage,
+  stops_role,
+  stops_route,
+  stops_stage,
 }
 use Rattle.retreating.proofs.asking.judge_group.Statement.{statement}
 use Rattle.retreating.proofs.asking.judge_group.Tie as tie
@@ -22,18 +22,18 @@ use Rattle.retreating.proofs.asking.judge_group.Tie as tie
 returns : tie.Need-returns
 returns c =
     let s = c.before.before.before.before.args in
-    stops-long s.p.now (board s.p.now) s.h s.route.now s.pushes.now (omega (arith, c.if1.true))
+    stops_long s.p.now (board s.p.now) s.h s.route.now s.pushes.now (omega (arith, c.if1.true))
 
 returns-2 : tie.Need-returns-2
 returns-2 c =
     let s = c.before.before.before.before.before.args in
-    stops-many s.p.now (board s.p.now) s.h s.route.now s.pushes.now
+    stops_many s.p.now (board s.p.now) s.h s.route.now s.pushes.now
     (omega (arith, c.before.if1.false)) (omega (arith, c.if2.true))
 
 returns-3 : tie.Need-returns-3
 returns-3 c =
     let s = c.before.before.before.before.before.before.args in
-    stops-hex s.p.now (board s.p.now) s.h s.route.now s.pushes.now
+    stops_hex s.p.now (board s.p.now) s.h s.route.now s.pushes.now
     (omega (arith, c.before.before.if1.false)) (omega (arith, c.before.if2.false)) (omega (arith, c.if3.true))
 
 on-map-all-requires : tie.Need-on-map-all-requires
@@ -46,7 +46,7 @@ returns-4 : tie.Need-returns-4
 returns-4 c =
     let e = c.before.before.before.before in
     let s = e.before.before.before.before.before.before.args in
-    stops-route s.p.now (board s.p.now) s.h s.route.now s.pushes.now
+    stops_route s.p.now (board s.p.now) s.h s.route.now s.pushes.now
     (omega (arith, e.before.before.if1.false)) (omega (arith, e.before.if2.false))
     (omega (arith, e.if3.false, e.before.before.before.before.before.before.requires.view.hexes))
     (subst (TestedOf _ _ _) c.before.n.given.1 c.before.before.before.on-map-all.ensures)
@@ -86,7 +86,7 @@ returns-6 c =
     let s = e.before.before.before.before.before.before.args in
     let t = c.before.before.before.before.before in
     let u = c.before.before in
-    stops-stage s.p.now (board s.p.now) s.h s.route.now s.pushes.now
+    stops_stage s.p.now (board s.p.now) s.h s.route.now s.pushes.now
     (omega (arith, e.before.before.if1.false)) (omega (arith, e.before.if2.false))
     (omega (arith, e.if3.false, e.before.before.before.before.before.before.requires.view.hexes))
     (subst (TestedOf _ _ _) t.enum_told.given.1 t.before.before.on-map-all.ensures).0
@@ -102,7 +102,7 @@ returns-7 c =
     let s = e.before.before.before.before.before.before.args in
     let t = c.before.before.before.before.before.before.before in
     let u = c.before.before.before.before in
-    stops-role s.p.now (board s.p.now) s.h s.route.now s.pushes.now
+    stops_role s.p.now (board s.p.now) s.h s.route.now s.pushes.now
     (omega (arith, e.before.before.if1.false)) (omega (arith, e.before.if2.false))
     (omega (arith, e.if3.false, e.before.before.before.before.before.before.requires.view.hexes))
     (subst (TestedOf _ _ _) t.enum_told.given.1 t.before.before.on-map-all.ensures).0

@@ -1,7 +1,7 @@
 -- `chart_ok::chart_fits` meets its contract. The loop's invariant: `fit` says whether every row before this one is as it should be.
 -- Assumes nothing.
 use Prim.Native.Nat.{ℕ, ◌-◌, ◌≤◌, ◌<◌}
-use Rattle.position.specs.Layout.{chartRows}
+use Rattle.position.specs.Layout.{chart_rows}
 use Rattle.position.specs.Board.{chart}
 use Rattle.position.specs.Laid.{Says}
 use Rattle.position.proofs.Answers.{said_more, told}
@@ -12,10 +12,10 @@ use Rattle.setting.proofs.chart_ok.chart_fits.Statement.{statement}
 use Rattle.setting.proofs.chart_ok.chart_fits.Tie as tie
 
 abbrev invariant-loop : tie.invariant-loop
-invariant-loop p v fit₀ t₀ fit t = (t ≤ chartRows) × Says fit ((j : ℕ) → j < t → TerrainOk (chart p) j)
+invariant-loop p v fit₀ t₀ fit t = (t ≤ chart_rows) × Says fit ((j : ℕ) → j < t → TerrainOk (chart p) j)
 
 abbrev decreases-loop : tie.decreases-loop
-decreases-loop p v fit₀ t₀ fit t = chartRows - t
+decreases-loop p v fit₀ t₀ fit t = chart_rows - t
 
 loop-holds : tie.Need-loop-init invariant-loop decreases-loop
 loop-holds c = (omega arith, λ j l. absurd (omega arith))

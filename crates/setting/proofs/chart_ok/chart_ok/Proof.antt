@@ -3,21 +3,21 @@
 use Prim.Native.Nat.{◌-◌}
 use mathlib.Core.Path.{ap}
 use mathlib.Core.Bool.{not}
-use Rattle.position.specs.Layout.{chartRows}
+use Rattle.position.specs.Layout.{chart_rows}
 use Rattle.position.specs.Board.{chart}
 use Rattle.position.proofs.Answers.{said, Passed, none_yet, one_more, all}
 use Rattle.setting.specs.Setting.{TerrainOk}
-use Rattle.flaw.proofs.Tellings.{fine, line_small, broken-there}
+use Rattle.flaw.proofs.Tellings.{fine, line_small, broken_there}
 use borrow.Author.Rules.{rules}
 use native.Mathlib.Omega.{arith}
 use Rattle.setting.proofs.chart_ok.chart_ok.Statement.{statement}
 use Rattle.setting.proofs.chart_ok.chart_ok.Tie as tie
 
 abbrev invariant-loop : tie.invariant-loop
-invariant-loop p v t₀ t = Passed (TerrainOk (chart p)) t chartRows
+invariant-loop p v t₀ t = Passed (TerrainOk (chart p)) t chart_rows
 
 abbrev decreases-loop : tie.decreases-loop
-decreases-loop p v t₀ t = chartRows - t
+decreases-loop p v t₀ t = chart_rows - t
 
 chart-fits-requires : tie.Need-chart-fits-requires invariant-loop decreases-loop
 chart-fits-requires c κs = c.before.requires
@@ -38,7 +38,7 @@ add-result : tie.Need-overflow-add-result invariant-loop decreases-loop
 add-result c = omega (arith, line_small (c.before.terrain-ok.ensures.named c.if2.true))
 
 returns-2 : tie.Need-returns-2 invariant-loop decreases-loop
-returns-2 c = broken-there (c.before.terrain-ok.ensures.named c.if2.true)
+returns-2 c = broken_there (c.before.terrain-ok.ensures.named c.if2.true)
 
 add-t : tie.Need-overflow-add-t invariant-loop decreases-loop
 add-t c = search rules

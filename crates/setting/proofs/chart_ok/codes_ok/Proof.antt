@@ -6,10 +6,10 @@ use mathlib.Core.List.{List}
 use native.Mathlib.Omega.{arith}
 use borrow.Author.Rules.{rules}
 use Rattle.position.specs.Shape.{In}
-use Rattle.position.specs.Layout.{code, dieFaces}
+use Rattle.position.specs.Layout.{code, die_faces}
 use Rattle.position.proofs.Answers.{said, unsaid, carry, Passed, none_yet, one_more, all}
 use Rattle.flaw.specs.Flaw as Flaw
-use Rattle.flaw.proofs.Tellings.{fine, broken-there}
+use Rattle.flaw.proofs.Tellings.{fine, broken_there}
 use Rattle.setting.proofs.chart_ok.codes_ok.Statement.{statement}
 use Rattle.setting.proofs.chart_ok.codes_ok.Tie as tie
 
@@ -17,10 +17,10 @@ abbrev Coded : List ℕ → ℕ → ℕ → Type 0
 Coded p c die = In 1 (code p c (die + 1)) 10
 
 abbrev invariant-loop : tie.invariant-loop
-invariant-loop p v c die₀ die = Passed (Coded p c) die dieFaces
+invariant-loop p v c die₀ die = Passed (Coded p c) die die_faces
 
 abbrev decreases-loop : tie.decreases-loop
-decreases-loop p v c die₀ die = dieFaces - die
+decreases-loop p v c die₀ die = die_faces - die
 
 loop-holds : tie.Need-loop-init invariant-loop decreases-loop
 loop-holds c = none_yet
@@ -48,7 +48,7 @@ add-result-2 c = omega (arith, c.before.before.before.before.before.before.requi
 
 returns : tie.Need-returns invariant-loop decreases-loop
 returns c =
-    broken-there
+    broken_there
     (Flaw.code c.before.before.before.before.before.before.args.c c.before.before.before.before.loop.die refl refl c.before.before.before.before.before.before.requires.1 (omega arith)
     (λ i. unsaid c.before.within.result c.if1.true c.before.within.ensures (carry (sym c.before.before.code.ensures.is) i)))
 

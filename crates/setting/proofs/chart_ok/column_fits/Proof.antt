@@ -5,9 +5,9 @@ use mathlib.Core.Path.{sym}
 use mathlib.Core.Bool.{Bool, true, false, ◌&&◌}
 use mathlib.Core.List.{List}
 use Rattle.position.specs.Shape.{In}
-use Rattle.position.specs.Layout.{attackOdds, defenceOdds, code, dieFaces}
+use Rattle.position.specs.Layout.{attack_odds, defence_odds, code, die_faces}
 use Rattle.position.specs.Laid.{Says}
-use Rattle.position.proofs.Answers.{told, carry, both-said}
+use Rattle.position.proofs.Answers.{told, carry, both_said}
 use borrow.Author.Rules.{rules}
 use borrow.Author.Count.{below_more}
 use native.Mathlib.Omega.{arith}
@@ -18,7 +18,7 @@ abbrev Coded : List ℕ → ℕ → ℕ → Type 0
 Coded p c die = In 1 (code p c (die + 1)) 10
 
 abbrev Odds : List ℕ → ℕ → Type 0
-Odds p c = In 1 (attackOdds p c) 20 × In 1 (defenceOdds p c) 20
+Odds p c = In 1 (attack_odds p c) 20 × In 1 (defence_odds p c) 20
 
 -- both odds, and the codes before this one
 abbrev So : List ℕ → ℕ → ℕ → Type 0
@@ -30,10 +30,10 @@ more p c n true b s x = told b (λ y. (s.0, below_more (Coded p c) n s.1 y)) (λ
 more p c n false b s x = λ t. s (t.0, λ die l. t.1 die (omega arith))
 
 abbrev invariant-loop : tie.invariant-loop
-invariant-loop p v c attack fit₀ die₀ fit die = (die ≤ dieFaces) × Says fit (So p c die)
+invariant-loop p v c attack fit₀ die₀ fit die = (die ≤ die_faces) × Says fit (So p c die)
 
 abbrev decreases-loop : tie.decreases-loop
-decreases-loop p v c attack fit₀ die₀ fit die = dieFaces - die
+decreases-loop p v c attack fit₀ die₀ fit die = die_faces - die
 
 attack-odds-requires : tie.Need-attack-odds-requires invariant-loop decreases-loop
 attack-odds-requires c κs = c.before.requires.0
@@ -53,7 +53,7 @@ loop-holds c =
     let d = c.before.defence-odds.ensures.is in (
       omega arith,
       told (c.before.before.within.result && c.within2.result) (λ o. ((carry a o.0, carry d o.1), λ die l. absurd (omega arith))) (λ s. (carry (sym a) s.0.0, carry (sym d) s.0.1))
-          (both-said (In 1 c.before.before.before.attack-odds.result 20) (In 1 c.before.defence-odds.result 20) c.before.before.within.result c.within2.result c.before.before.within.ensures c.within2.ensures),
+          (both_said (In 1 c.before.before.before.attack-odds.result 20) (In 1 c.before.defence-odds.result 20) c.before.before.within.result c.within2.result c.before.before.within.ensures c.within2.ensures),
     )
 
 add-code : tie.Need-overflow-add-code invariant-loop decreases-loop

@@ -5,7 +5,7 @@ use native.Mathlib.Omega.{arith}
 use borrow.Author.Rules.{rules}
 use Rattle.position.proofs.Answers.{said, unsaid, carry}
 use Rattle.flaw.specs.Flaw as Flaw
-use Rattle.flaw.proofs.Tellings.{handed, broken-there}
+use Rattle.flaw.proofs.Tellings.{handed, broken_there}
 use Rattle.setting.proofs.chart_ok.column_ok.Statement.{statement}
 use Rattle.setting.proofs.chart_ok.column_ok.Tie as tie
 
@@ -23,8 +23,8 @@ add-result c = omega (arith, c.before.before.before.before.requires.1, c.before.
 
 returns : tie.Need-returns
 returns c =
-    broken-there
-    (Flaw.attackOdds refl c.before.before.before.before.requires.1
+    broken_there
+    (Flaw.attack_odds refl c.before.before.before.before.requires.1
     (λ i. unsaid c.before.within.result c.if1.true c.before.within.ensures (carry (sym c.before.before.attack-odds.ensures.is) i)))
 
 defence-odds-requires : tie.Need-defence-odds-requires
@@ -41,8 +41,8 @@ add-result-2 c = omega (arith, c.before.before.before.before.before.before.befor
 
 returns-2 : tie.Need-returns-2
 returns-2 c =
-    broken-there
-    (Flaw.defenceOdds refl c.before.before.before.before.before.before.before.requires.1
+    broken_there
+    (Flaw.defence_odds refl c.before.before.before.before.before.before.before.requires.1
     (λ i. unsaid c.before.within2.result c.if2.true c.before.within2.ensures (carry (sym c.before.before.defence-odds.ensures.is) i)))
 
 codes-ok-requires : tie.Need-codes-ok-requires

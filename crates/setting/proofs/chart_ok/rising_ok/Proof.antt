@@ -4,19 +4,19 @@ use Prim.Native.Nat.{◌+◌, ◌*◌}
 use mathlib.Core.Path.{◌≡◌, ap₂}
 use native.Mathlib.Omega.{arith}
 use borrow.Author.Rules.{rules}
-use Rattle.position.specs.Layout.{attackOdds, defenceOdds}
+use Rattle.position.specs.Layout.{attack_odds, defence_odds}
 use Rattle.position.proofs.Shapes.{bytes_product}
 use Rattle.setting.proofs.chart_ok.rising_ok.Statement.{statement}
 use Rattle.setting.proofs.chart_ok.rising_ok.Tie as tie
 
 here : (c : tie.After-defence-odds2) →
     let a = c.before.before.before.before.before.args in
-    c.before.before.before.attack-odds.result * c.before.before.defence-odds.result ≡ attackOdds a.p.now a.c * defenceOdds a.p.now (a.c + 1)
+    c.before.before.before.attack-odds.result * c.before.before.defence-odds.result ≡ attack_odds a.p.now a.c * defence_odds a.p.now (a.c + 1)
 here c = ap₂ ◌*◌ c.before.before.before.attack-odds.ensures.is c.before.before.defence-odds.ensures.is
 
 there : (c : tie.After-defence-odds2) →
     let a = c.before.before.before.before.before.args in
-    c.before.attack-odds2.result * c.defence-odds2.result ≡ attackOdds a.p.now (a.c + 1) * defenceOdds a.p.now a.c
+    c.before.attack-odds2.result * c.defence-odds2.result ≡ attack_odds a.p.now (a.c + 1) * defence_odds a.p.now a.c
 there c = ap₂ ◌*◌ c.before.attack-odds2.ensures.is c.defence-odds2.ensures.is
 
 attack-odds-requires : tie.Need-attack-odds-requires

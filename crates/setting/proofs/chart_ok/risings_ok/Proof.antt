@@ -8,7 +8,7 @@ use Rattle.position.specs.Board.{results}
 use Rattle.position.proofs.Answers.{said, unsaid, Passed, none_yet, one_more}
 use Rattle.setting.specs.Setting.{RisingOk}
 use Rattle.flaw.specs.Flaw as Flaw
-use Rattle.flaw.proofs.Tellings.{fine, broken-there}
+use Rattle.flaw.proofs.Tellings.{fine, broken_there}
 use Rattle.setting.proofs.chart_ok.risings_ok.Statement.{statement}
 use Rattle.setting.proofs.chart_ok.risings_ok.Tie as tie
 
@@ -35,7 +35,7 @@ add-result c = search rules
 
 returns : tie.Need-returns invariant-loop decreases-loop
 returns c =
-    broken-there
+    broken_there
     (Flaw.rising refl (omega arith) (λ l. unsaid c.before.rising-ok.result c.if1.true c.before.rising-ok.ensures (record { rising = l })))
 
 add-c : tie.Need-overflow-add-c invariant-loop decreases-loop

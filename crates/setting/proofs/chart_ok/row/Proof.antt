@@ -1,7 +1,7 @@
 -- `chart_ok::row` meets its contract: the row's two bytes are its two numbers.
 -- Assumes nothing.
 use mathlib.Core.Path.{◌≡◌, ap, sym, ◌∙◌}
-use Rattle.position.specs.Layout.{chartAt, terrainSize, chartRows, costField, multipleField, byte, cost, multiple}
+use Rattle.position.specs.Layout.{chart_at, terrain_size, chart_rows, cost_field, multiple_field, byte, cost, multiple}
 use Rattle.position.proofs.Cells.{cell_in}
 use borrow.Author.Rules.{rules}
 use native.Mathlib.Omega.{arith}
@@ -39,8 +39,8 @@ returns : tie.Need-returns
 returns c =
     let p = c.before.before.before.before.before.args.p.now in
     let t = c.before.before.before.before.before.args.t in
-    let low : c.before.before.wide.result ≡ cost p t = c.before.before.wide.ensures.is ∙ ap (byte p) (omega arith) ∙ sym (cell_in p chartAt terrainSize chartRows t costField c.before.before.before.before.before.requires.1) in
-    let high : c.wide2.result ≡ multiple p t = c.wide2.ensures.is ∙ ap (byte p) (omega arith) ∙ sym (cell_in p chartAt terrainSize chartRows t multipleField c.before.before.before.before.before.requires.1) in
+    let low : c.before.before.wide.result ≡ cost p t = c.before.before.wide.ensures.is ∙ ap (byte p) (omega arith) ∙ sym (cell_in p chart_at terrain_size chart_rows t cost_field c.before.before.before.before.before.requires.1) in
+    let high : c.wide2.result ≡ multiple p t = c.wide2.ensures.is ∙ ap (byte p) (omega arith) ∙ sym (cell_in p chart_at terrain_size chart_rows t multiple_field c.before.before.before.before.before.requires.1) in
     (omega (arith, low, c.before.before.wide.ensures.small), omega (arith, high, c.before.before.wide.ensures.small))
 
 pub row-spec : {M : Type 1} → statement M

@@ -6,7 +6,7 @@ use native.Mathlib.Omega.{arith}
 use borrow.Author.Rules.{rules}
 use Rattle.position.specs.Board.{ground}
 use Rattle.position.specs.Ground.{beside}
-use Rattle.position.proofs.Sides.{beside-view}
+use Rattle.position.proofs.Sides.{beside_view}
 use Rattle.setting.proofs.map_ok.edge_ok.Statement.{statement}
 use Rattle.setting.proofs.map_ok.edge_ok.Tie as tie
 
@@ -15,7 +15,7 @@ is-beside : (c : tie.After-neighbour) →
     c.neighbour.result ≡ beside (ground a.p.now) a.h a.d
 is-beside c =
     let s = c.before.before in
-    let s = s in c.neighbour.ensures ∙ beside-view s.requires.0.view s.args.h s.args.d
+    let s = s in c.neighbour.ensures ∙ beside_view s.requires.0.view s.args.h s.args.d
 
 neighbour-requires : tie.Need-neighbour-requires
 neighbour-requires c κs = search rules

@@ -9,7 +9,7 @@ use Rattle.position.proofs.Answers.{said, unsaid, Passed, none_yet, one_more, al
 use Rattle.setting.specs.Setting.{EdgeOk}
 use Rattle.setting.proofs.Rims.{all_plain}
 use Rattle.flaw.specs.Flaw as Flaw
-use Rattle.flaw.proofs.Tellings.{fine, broken-there}
+use Rattle.flaw.proofs.Tellings.{fine, broken_there}
 use Rattle.setting.proofs.map_ok.edges_ok.Statement.{statement}
 use Rattle.setting.proofs.map_ok.edges_ok.Tie as tie
 
@@ -45,8 +45,8 @@ add-result-2 c = omega (arith, c.before.before.before.before.before.before.befor
 
 returns-2 : tie.Need-returns-2 invariant-loop decreases-loop
 returns-2 c =
-    broken-there
-    (Flaw.offMap c.before.before.before.before.before.before.before.args.h c.before.before.before.loop.d refl refl (omega (arith, c.before.before.before.before.before.before.before.requires.1, c.before.before.before.before.before.before.before.requires.0.view.hexes)) (omega arith)
+    broken_there
+    (Flaw.off_map c.before.before.before.before.before.before.before.args.h c.before.before.before.loop.d refl refl (omega (arith, c.before.before.before.before.before.before.before.requires.1, c.before.before.before.before.before.before.before.requires.0.view.hexes)) (omega arith)
     (λ t. unsaid c.before.edge-ok.result c.if2.true c.before.edge-ok.ensures (record { plain = t })))
 
 add-d : tie.Need-overflow-add-d invariant-loop decreases-loop

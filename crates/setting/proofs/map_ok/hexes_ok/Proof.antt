@@ -4,7 +4,7 @@ use Prim.Native.Nat.{◌-◌}
 use native.Mathlib.Omega.{arith}
 use borrow.Author.Rules.{rules}
 use Rattle.position.specs.Board.{ground}
-use Rattle.position.proofs.Answers.{said, Passed, none_yet, several-more}
+use Rattle.position.proofs.Answers.{said, Passed, none_yet, several_more}
 use Rattle.position.proofs.Shapes.{sizes}
 use Rattle.setting.specs.Setting.{HexOk}
 use Rattle.setting.proofs.map_ok.hexes_ok.Statement.{statement}
@@ -38,7 +38,7 @@ loop-less : tie.Need-loop-smaller invariant-loop decreases-loop
 loop-less c = search rules
 
 loop-again : tie.Need-loop-preserved invariant-loop decreases-loop
-loop-again c = several-more c.before.before.before.loop.invariant (omega arith) (said c.before.sixteen-ok.result c.if1.false c.before.sixteen-ok.ensures)
+loop-again c = several_more c.before.before.before.loop.invariant (omega arith) (said c.before.sixteen-ok.result c.if1.false c.before.sixteen-ok.ensures)
 
 rest-ok-requires-2 : tie.Need-rest-ok-requires-2 invariant-loop decreases-loop
 rest-ok-requires-2 c κs = (c.before.before.before.requires, c.before.loop.invariant.most, c.before.loop.invariant.held)

@@ -7,7 +7,7 @@ use borrow.Author.Rules.{rules}
 use Rattle.position.specs.Board.{ground}
 use Rattle.position.proofs.Answers.{said, unsaid, Passed, one_more, all}
 use Rattle.setting.specs.Setting.{HexOk}
-use Rattle.flaw.proofs.Tellings.{fine, line_small, broken-there}
+use Rattle.flaw.proofs.Tellings.{fine, line_small, broken_there}
 use Rattle.setting.proofs.map_ok.rest_ok.Statement.{statement}
 use Rattle.setting.proofs.map_ok.rest_ok.Tie as tie
 
@@ -37,7 +37,7 @@ add-result : tie.Need-overflow-add-result invariant-loop decreases-loop
 add-result c = omega (arith, c.before.before.before.before.before.before.requires.0.fits.hexes, line_small (c.hex-line.ensures.named (some c)))
 
 returns : tie.Need-returns invariant-loop decreases-loop
-returns c = broken-there (c.hex-line.ensures.named (some c))
+returns c = broken_there (c.hex-line.ensures.named (some c))
 
 add-h : tie.Need-overflow-add-h invariant-loop decreases-loop
 add-h c = search rules

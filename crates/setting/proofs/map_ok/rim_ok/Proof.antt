@@ -3,7 +3,7 @@
 use Prim.Native.Nat.{◌-◌}
 use native.Mathlib.Omega.{arith}
 use Rattle.position.proofs.Answers.{all}
-use Rattle.setting.proofs.Rims.{Round, round-begins, round-goes-on}
+use Rattle.setting.proofs.Rims.{Round, round_begins, round_goes_on}
 use Rattle.flaw.proofs.Tellings.{fine, passed_on}
 use Rattle.setting.proofs.map_ok.rim_ok.Statement.{statement}
 use Rattle.setting.proofs.map_ok.rim_ok.Tie as tie
@@ -15,7 +15,7 @@ abbrev decreases-loop : tie.decreases-loop
 decreases-loop p v hexes h₀ h = hexes - h
 
 loop-holds : tie.Need-loop-init invariant-loop decreases-loop
-loop-holds c = round-begins c.before.requires
+loop-holds c = round_begins c.before.requires
 
 edges-ok-requires : tie.Need-edges-ok-requires invariant-loop decreases-loop
 edges-ok-requires c κs = (c.before.before.before.requires, omega arith)
@@ -30,7 +30,7 @@ loop-less : tie.Need-loop-smaller invariant-loop decreases-loop
 loop-less c = omega (arith, c.after.ensures.later)
 
 loop-again : tie.Need-loop-preserved invariant-loop decreases-loop
-loop-again c = round-goes-on c.before.before.before.before.before.before.requires c.before.before.before.before.loop.invariant (c.before.before.edges-ok.ensures.kept c.before.if1.false) c.after.ensures
+loop-again c = round_goes_on c.before.before.before.before.before.before.requires c.before.before.before.before.loop.invariant (c.before.before.edges-ok.ensures.kept c.before.if1.false) c.after.ensures
 
 returns-2 : tie.Need-returns-2 invariant-loop decreases-loop
 returns-2 c = fine (all c.before.loop.invariant.passed (omega arith))

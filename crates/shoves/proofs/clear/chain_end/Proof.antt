@@ -8,7 +8,7 @@ use lib.ListN.{length}
 use Rattle.position.specs.Board.{board}
 use Rattle.field.specs.Zone.{vacant}
 use Rattle.shoves.specs.Shoves.{Chained}
-use Rattle.shoves.proofs.Clearing.{chain_more, chain-none}
+use Rattle.shoves.proofs.Clearing.{chain_more, chain_none}
 use Rattle.shoves.proofs.clear.chain_end.Statement.{statement}
 use Rattle.shoves.proofs.clear.chain_end.Tie as tie
 
@@ -19,7 +19,7 @@ abbrev decreases-loop : tie.decreases-loop
 decreases-loop p v h pushes k e₀ e = length pushes - e
 
 loop-holds : tie.Need-loop-init invariant-loop decreases-loop
-loop-holds c = chain-none c.before.before.requires.1
+loop-holds c = chain_none c.before.before.requires.1
 
 out-of-requires : tie.Need-out-of-requires invariant-loop decreases-loop
 out-of-requires c κs = c.before.loop.invariant.few

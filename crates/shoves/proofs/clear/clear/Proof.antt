@@ -8,7 +8,7 @@ use borrow.Author.Rules.{rules}
 use lib.ListN.{get_or}
 use Rattle.position.specs.Board.{board}
 use Rattle.position.specs.Change.{makes}
-use Rattle.shoves.specs.Shoves.{stackTo}
+use Rattle.shoves.specs.Shoves.{stack_to}
 use Rattle.shoves.proofs.Clearing.{DoneFrom, done_all, done_more, done_none}
 use Rattle.shoves.proofs.clear.clear.Statement.{statement}
 use Rattle.shoves.proofs.clear.clear.Tie as tie
@@ -55,7 +55,7 @@ loop-again c =
     let o = c.before.before.before.before.before in
     let n = o.before.before in
     let s = n.before.before.before.before.before in
-    let e = ap (λ (x : ℕ). makes n.loop.p (stackTo (board n.loop.p) x (get_or s.args.pushes.now (n.loop.j - 1) 0))) o.out_of_lem.ensures in
+    let e = ap (λ (x : ℕ). makes n.loop.p (stack_to (board n.loop.p) x (get_or s.args.pushes.now (n.loop.j - 1) 0))) o.out_of_lem.ensures in
     done_more s.requires.0 n.before.chain-end.ensures n.loop.invariant (omega arith) (c.before.before.move-stack.ensures ∙ e)
 
 same_length : tie.Need-same-length invariant-loop decreases-loop

@@ -4,7 +4,7 @@ use Prim.Native.Nat.{◌-◌}
 use mathlib.Core.Path.{sym}
 use native.Mathlib.Omega.{arith}
 use borrow.Author.Rules.{rules}
-use Rattle.shoves.proofs.Clearing.{out_first, out-later}
+use Rattle.shoves.proofs.Clearing.{out_first, out_later}
 use Rattle.shoves.proofs.clear.out_of.Statement.{statement}
 use Rattle.shoves.proofs.clear.out_of.Tie as tie
 
@@ -24,7 +24,7 @@ cast-result : tie.Need-overflow-cast-result
 cast-result c = omega (arith, c.shared-slice-known.given (c.before.before.args.j - 1))
 
 returns-2 : tie.Need-returns-2
-returns-2 c = sym (out-later _ _ _ _ (omega arith))
+returns-2 c = sym (out_later _ _ _ _ (omega arith))
 
 pub out-of-spec : {M : Type 1} → statement M
 out-of-spec = tie.close (tie.spec returns sub-result mul-result shared-slice-read-result cast-result returns-2)

@@ -7,7 +7,7 @@ use borrow.Author.Rules.{rules}
 use mathlib.Core.Path.{refl}
 use Rattle.shoves.specs.Group.{group}
 use Rattle.shoves.specs.Shoves.{frees}
-use Rattle.shoves.proofs.Sweeps.{Sweep, alike-owing, own-frees, owing, sweep-all, sweep-more, sweep-none}
+use Rattle.shoves.proofs.Sweeps.{Sweep, alike_owing, own_frees, owing, sweep-all, sweep_more, sweep_none}
 use Rattle.shoves.proofs.group.free_all.Statement.{statement}
 use Rattle.shoves.proofs.group.free_all.Tie as tie
 
@@ -18,7 +18,7 @@ abbrev decreases-loop : tie.decreases-loop
 decreases-loop p₀ v a count u₀ p u = count - u
 
 loop-holds : tie.Need-loop-init invariant-loop decreases-loop
-loop-holds c = sweep-none c.before.requires
+loop-holds c = sweep_none c.before.requires
 
 free-one-requires : tie.Need-free-one-requires invariant-loop decreases-loop
 free-one-requires c κs = c.before.before.loop.invariant.laid
@@ -32,7 +32,7 @@ loop-less c = search rules
 loop-again : tie.Need-loop-preserved invariant-loop decreases-loop
 loop-again c =
     let s = c.before.before.before.before.before in
-    sweep-more (alike-owing _) own-frees s.loop.invariant (omega arith) _ refl c.before.before.free_one.ensures
+    sweep_more (alike_owing _) own_frees s.loop.invariant (omega arith) _ refl c.before.before.free_one.ensures
 
 same_length : tie.Need-same-length invariant-loop decreases-loop
 same_length c = omega (arith, c.before.loop.invariant.laid.fits.whole, c.before.before.before.requires.fits.whole)

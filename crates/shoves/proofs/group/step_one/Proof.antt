@@ -3,7 +3,7 @@
 use mathlib.Core.Path.{sym, ◌∙◌}
 use borrow.Author.Rules.{rules}
 use borrow.Author.Tests.{not-false, not-true}
-use Rattle.shoves.proofs.Turns.{dealt-with, left_alone}
+use Rattle.shoves.proofs.Turns.{dealt_with, left_alone}
 use Rattle.shoves.proofs.group.step_one.Statement.{statement}
 use Rattle.shoves.proofs.group.step_one.Tie as tie
 
@@ -25,7 +25,7 @@ same-length-2 c = search rules
 returns-2 : tie.Need-returns-2
 returns-2 c =
     let n = c.before.before.before.before in
-    dealt-with _ _ _ (sym n.before.owes_at.ensures ∙ not-false _ n.if1.false) c.before.before.go.ensures
+    dealt_with _ _ _ (sym n.before.owes_at.ensures ∙ not-false _ n.if1.false) c.before.before.go.ensures
 
 pub step-one-spec : {M : Type 1} → statement M
 step-one-spec = tie.close (tie.spec owes-at-requires same_length returns go-requires same-length-2 returns-2)

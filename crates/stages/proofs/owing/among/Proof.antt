@@ -6,7 +6,7 @@ use mathlib.Core.Bool.{false}
 use native.Mathlib.Omega.{arith}
 use borrow.Author.Rules.{rules}
 use Rattle.acceptance.specs.Noted.{among}
-use Rattle.acceptance.proofs.Notes.{among_none, among-found, among-past}
+use Rattle.acceptance.proofs.Notes.{among_none, among_found, among_past}
 use Rattle.stages.proofs.owing.among.Statement.{statement}
 use Rattle.stages.proofs.owing.among.Tie as tie
 
@@ -26,7 +26,7 @@ element-copy-out-if1 : tie.Need-element-copy-out-if1 invariant-loop decreases-lo
 element-copy-out-if1 c = omega arith
 
 returns : tie.Need-returns invariant-loop decreases-loop
-returns c = sym (among-found _ _ c.before.before.before.loop.j _ (omega arith) c.if1.true)
+returns c = sym (among_found _ _ c.before.before.before.loop.j _ (omega arith) c.if1.true)
 
 add-j : tie.Need-overflow-add-j invariant-loop decreases-loop
 add-j c = search rules
@@ -35,7 +35,7 @@ loop-less : tie.Need-loop-smaller invariant-loop decreases-loop
 loop-less c = search rules
 
 loop-again : tie.Need-loop-preserved invariant-loop decreases-loop
-loop-again c = (omega arith, among-past _ _ _ c.if1.false c.before.before.before.loop.invariant.1)
+loop-again c = (omega arith, among_past _ _ _ c.if1.false c.before.before.before.loop.invariant.1)
 
 returns-2 : tie.Need-returns-2 invariant-loop decreases-loop
 returns-2 c =

@@ -5,21 +5,21 @@ use Prim.Native.Nat.{◌-◌, ◌≤◌}
 use mathlib.Core.Path.{refl, sym}
 use native.Mathlib.Omega.{arith}
 use borrow.Author.Rules.{rules}
-use Rattle.position.specs.Layout.{routeCount}
+use Rattle.position.specs.Layout.{route_count}
 use Rattle.position.specs.Board.{board}
 use Rattle.acceptance.specs.Noted.{Noted}
-use Rattle.acceptance.proofs.Notes.{noted-none, noted-past, noted_more, noted-over, noted-all}
+use Rattle.acceptance.proofs.Notes.{noted_none, noted_past, noted_more, noted_over, noted_all}
 use Rattle.stages.proofs.owing.owing_hexes.Statement.{statement}
 use Rattle.stages.proofs.owing.owing_hexes.Tie as tie
 
 abbrev invariant-loop : tie.invariant-loop
-invariant-loop p v count seen₀ k₀ u₀ seen k u = (u ≤ count) × (k ≤ routeCount) × Noted (board p) u k seen
+invariant-loop p v count seen₀ k₀ u₀ seen k u = (u ≤ count) × (k ≤ route_count) × Noted (board p) u k seen
 
 abbrev decreases-loop : tie.decreases-loop
 decreases-loop p v count seen₀ k₀ u₀ seen k u = count - u
 
 loop-holds : tie.Need-loop-init invariant-loop decreases-loop
-loop-holds c = (omega arith, omega arith, noted-none _ refl)
+loop-holds c = (omega arith, omega arith, noted_none _ refl)
 
 role-requires : tie.Need-role-requires invariant-loop decreases-loop
 role-requires c κs = search rules
@@ -31,7 +31,7 @@ loop-less : tie.Need-loop-smaller invariant-loop decreases-loop
 loop-less c = search rules
 
 loop-again : tie.Need-loop-preserved invariant-loop decreases-loop
-loop-again c = (omega arith, omega arith, noted-past c.before.before.before.loop.invariant.2 (λ e. c.if1.true (omega arith)))
+loop-again c = (omega arith, omega arith, noted_past c.before.before.before.loop.invariant.2 (λ e. c.if1.true (omega arith)))
 
 hex-requires : tie.Need-hex-requires invariant-loop decreases-loop
 hex-requires c κs = search rules
@@ -42,7 +42,7 @@ note-requires c κs = (omega arith, c.before.before.before.before.before.loop.in
 returns : tie.Need-returns invariant-loop decreases-loop
 returns c =
     let l = c.before.before.before.before.before.before.before in
-    noted-over l.loop.invariant.2 (omega arith) (sym c.before.before.hex.ensures.is) c.before.note.ensures (omega arith) (omega arith)
+    noted_over l.loop.invariant.2 (omega arith) (sym c.before.before.hex.ensures.is) c.before.note.ensures (omega arith) (omega arith)
 
 add-u-2 : tie.Need-overflow-add-u-2 invariant-loop decreases-loop
 add-u-2 c = search rules
@@ -59,7 +59,7 @@ loop-again-2 c =
     )
 
 returns-2 : tie.Need-returns-2 invariant-loop decreases-loop
-returns-2 c = noted-all c.before.loop.invariant.2 (omega arith) (omega arith)
+returns-2 c = noted_all c.before.loop.invariant.2 (omega arith) (omega arith)
 
 pub owing-hexes-spec : {M : Type 1} → statement M
 owing-hexes-spec =

@@ -2,7 +2,7 @@
 -- Assumes nothing.
 use Prim.Native.Nat.{◌-◌, ◌≤◌}
 use native.Mathlib.Omega.{arith}
-use Rattle.story.proofs.Widths.{at-most-64}
+use Rattle.story.proofs.Widths.{at_most_64}
 use borrow.Author.Rules.{rules}
 use Rattle.story.proofs.rows.line.Statement.{statement}
 use Rattle.story.proofs.rows.line.Tie as tie
@@ -17,7 +17,7 @@ loop-holds : tie.Need-loop-init invariant-loop decreases-loop
 loop-holds c = search rules
 
 add-cell : tie.Need-overflow-add-cell invariant-loop decreases-loop
-add-cell c = omega (arith, at-most-64 c.before.before.before.before.before.requires.0)
+add-cell c = omega (arith, at_most_64 c.before.before.before.before.before.requires.0)
 
 cell-requires : tie.Need-cell-requires invariant-loop decreases-loop
 cell-requires c κs = search rules

@@ -2,7 +2,7 @@
 -- Assumes nothing.
 use Prim.Native.Nat.{◌-◌}
 use native.Mathlib.Omega.{arith}
-use Rattle.story.proofs.Widths.{at-least-1, at-most-64}
+use Rattle.story.proofs.Widths.{at_least_1, at_most_64}
 use borrow.Author.Rules.{rules}
 use Rattle.story.proofs.rows.rows.Statement.{statement}
 use Rattle.story.proofs.rows.rows.Tie as tie
@@ -20,10 +20,10 @@ row-requires : tie.Need-row-requires invariant-loop decreases-loop
 row-requires c κs = (c.before.before.before.before.before.requires, omega arith)
 
 add_start : tie.Need-overflow-add-start invariant-loop decreases-loop
-add_start c = omega (arith, at-most-64 c.before.before.before.before.before.before.requires)
+add_start c = omega (arith, at_most_64 c.before.before.before.before.before.before.requires)
 
 loop-less : tie.Need-loop-smaller invariant-loop decreases-loop
-loop-less c = omega (arith, at-least-1 c.before.before.before.before.before.before.requires)
+loop-less c = omega (arith, at_least_1 c.before.before.before.before.before.before.requires)
 
 loop-again : tie.Need-loop-preserved invariant-loop decreases-loop
 loop-again c = tt

@@ -5,7 +5,7 @@ use mathlib.Core.Path.{sym, ap, ◌∙◌}
 use lib.Dec.{eqb}
 use Rattle.position.specs.Board.{board}
 use Rattle.field.specs.Scene.{scene}
-use Rattle.supply.proofs.Grading.{coastal-is}
+use Rattle.supply.proofs.Grading.{coastal_is}
 use borrow.Author.Rules.{rules}
 use Rattle.supply.proofs.grade.coastal.Statement.{statement}
 use Rattle.supply.proofs.grade.coastal.Tie as tie
@@ -17,7 +17,7 @@ returns : tie.Need-returns
 returns c =
     let a = c.before.before.args in
     let s = scene (board a.p.now) in
-    ap (λ (n : ℕ). eqb n 1) c.surface.ensures.is ∙ sym (coastal-is s a.h)
+    ap (λ (n : ℕ). eqb n 1) c.surface.ensures.is ∙ sym (coastal_is s a.h)
 
 pub coastal-spec : {M : Type 1} → statement M
 coastal-spec = tie.close (tie.spec surface-requires returns)

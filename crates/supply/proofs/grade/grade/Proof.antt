@@ -5,21 +5,21 @@ use mathlib.Core.Path.{ap, ◌∙◌}
 use native.Mathlib.Omega.{arith}
 use Rattle.position.specs.Board.{board}
 use Rattle.field.specs.Scene.{scene}
-use Rattle.paint.proofs.Bytes.{Pass, pass-none, pass-set}
-use Rattle.supply.specs.Graded.{gradeBy}
-use Rattle.supply.proofs.Grading.{all-graded}
+use Rattle.paint.proofs.Bytes.{Pass, pass_none, pass_set}
+use Rattle.supply.specs.Graded.{grade_by}
+use Rattle.supply.proofs.Grading.{all_graded}
 use borrow.Author.Rules.{rules}
 use Rattle.supply.proofs.grade.grade.Statement.{statement}
 use Rattle.supply.proofs.grade.grade.Tie as tie
 
 abbrev invariant-loop : tie.invariant-loop
-invariant-loop p v buf₀ n hexes h₀ buf h = (h ≤ hexes) × Pass (gradeBy (scene (board p)) n) h buf₀ buf
+invariant-loop p v buf₀ n hexes h₀ buf h = (h ≤ hexes) × Pass (grade_by (scene (board p)) n) h buf₀ buf
 
 abbrev decreases-loop : tie.decreases-loop
 decreases-loop p v buf₀ n hexes h₀ buf h = hexes - h
 
 loop-holds : tie.Need-loop-init invariant-loop decreases-loop
-loop-holds c = (omega arith, pass-none)
+loop-holds c = (omega arith, pass_none)
 
 slice-read-wide : tie.Need-slice-read-wide invariant-loop decreases-loop
 slice-read-wide c =
@@ -52,7 +52,7 @@ loop-again c =
     let s = c.before.before.before.before.loop.invariant.1 in
     let r = c.grade-by in
     let a = outset.args in
-    (omega arith, pass-set s (omega (arith, s.long, outset.requires.1.long, outset.requires.0.view.hexes)) r.result (r.ensures.is ∙ ap (gradeBy (scene (board a.p.now)) a.n c.before.before.before.before.loop.h) c.before.wide.ensures.is))
+    (omega arith, pass_set s (omega (arith, s.long, outset.requires.1.long, outset.requires.0.view.hexes)) r.result (r.ensures.is ∙ ap (grade_by (scene (board a.p.now)) a.n c.before.before.before.before.loop.h) c.before.wide.ensures.is))
 
 same_length : tie.Need-same-length invariant-loop decreases-loop
 same_length c = c.before.loop.invariant.1.long
@@ -60,7 +60,7 @@ same_length c = c.before.loop.invariant.1.long
 returns : tie.Need-returns invariant-loop decreases-loop
 returns c =
     let outset = c.before.before.before.before in
-    all-graded outset.requires.1 c.before.loop.invariant.1 (omega (arith, outset.requires.0.view.hexes))
+    all_graded outset.requires.1 c.before.loop.invariant.1 (omega (arith, outset.requires.0.view.hexes))
 
 pub grade-spec : {M : Type 1} → statement M
 grade-spec =

@@ -6,7 +6,7 @@ use lib.Dec.{eqb}
 use Rattle.position.specs.Board.{board}
 use Rattle.position.specs.Bits.{has}
 use Rattle.field.specs.Scene.{scene}
-use Rattle.supply.proofs.Grading.{home-yes, home-no}
+use Rattle.supply.proofs.Grading.{home_yes, home_no}
 use borrow.Author.Rules.{rules}
 use Rattle.supply.proofs.grade.home_source.Statement.{statement}
 use Rattle.supply.proofs.grade.home_source.Tie as tie
@@ -25,14 +25,14 @@ returns c =
     let a = c.before.before.before.before.before.args in
     let s = scene (board a.p.now) in
     let supply = ap (has 4) (sym c.before.before.before.flags.ensures.is) ∙ sym c.before.before.has.ensures in
-    ap (λ (n : ℕ). eqb n a.c) c.country.ensures.is ∙ sym (home-yes s a.h a.c (supply ∙ c.before.if1.true))
+    ap (λ (n : ℕ). eqb n a.c) c.country.ensures.is ∙ sym (home_yes s a.h a.c (supply ∙ c.before.if1.true))
 
 returns-2 : tie.Need-returns-2
 returns-2 c =
     let a = c.before.before.before.before.args in
     let s = scene (board a.p.now) in
     let supply = ap (has 4) (sym c.before.before.flags.ensures.is) ∙ sym c.before.has.ensures in
-    sym (home-no s a.h a.c (supply ∙ c.if1.false))
+    sym (home_no s a.h a.c (supply ∙ c.if1.false))
 
 pub home-source-spec : {M : Type 1} → statement M
 home-source-spec =

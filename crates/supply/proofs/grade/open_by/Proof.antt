@@ -4,7 +4,7 @@ use mathlib.Core.Path.{sym, ◌∙◌}
 use native.Mathlib.Omega.{arith}
 use Rattle.position.specs.Board.{board}
 use Rattle.field.specs.Scene.{scene}
-use Rattle.supply.proofs.Grading.{open-water, open-enemy, open-zone, open_free}
+use Rattle.supply.proofs.Grading.{open_water, open_enemy, open_zone, open_free}
 use borrow.Author.Rules.{rules}
 use Rattle.supply.proofs.grade.open_by.Statement.{statement}
 use Rattle.supply.proofs.grade.open_by.Tie as tie
@@ -16,7 +16,7 @@ returns : tie.Need-returns
 returns c =
     let a = c.before.before.before.args in
     let s = scene (board a.p.now) in
-    sym (open-water s a.h a.m (omega arith))
+    sym (open_water s a.h a.m (omega arith))
 
 has-requires : tie.Need-has-requires
 has-requires c κs = search rules
@@ -25,7 +25,7 @@ returns-2 : tie.Need-returns-2
 returns-2 c =
     let a = c.before.before.before.before.before.args in
     let s = scene (board a.p.now) in
-    sym (open-enemy s a.h a.m (sym c.before.has.ensures ∙ c.if2.true))
+    sym (open_enemy s a.h a.m (sym c.before.has.ensures ∙ c.if2.true))
 
 has-requires-2 : tie.Need-has-requires-2
 has-requires-2 c κs = search rules
@@ -38,7 +38,7 @@ returns-3 c =
     let a = c.before.before.before.before.before.before.before.before.args in
     let s = scene (board a.p.now) in
     let free = sym c.before.before.before.before.has.ensures ∙ c.before.before.before.if2.false in
-    c.has3.ensures ∙ sym (open-zone s a.h a.m (omega arith) free (sym c.before.before.has2.ensures ∙ c.before.if3.true))
+    c.has3.ensures ∙ sym (open_zone s a.h a.m (omega arith) free (sym c.before.before.has2.ensures ∙ c.before.if3.true))
 
 returns-4 : tie.Need-returns-4
 returns-4 c =

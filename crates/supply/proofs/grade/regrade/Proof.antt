@@ -6,20 +6,20 @@ use native.Mathlib.Omega.{arith}
 use borrow.Author.Rules.{rules}
 use Rattle.position.specs.Board.{board}
 use Rattle.field.specs.Scene.{scene}
-use Rattle.paint.proofs.Bytes.{Pass, pass-none, pass-set}
-use Rattle.supply.specs.Traced.{regradeBy}
-use Rattle.supply.proofs.Grading.{all-regraded}
+use Rattle.paint.proofs.Bytes.{Pass, pass_none, pass_set}
+use Rattle.supply.specs.Traced.{regrade_by}
+use Rattle.supply.proofs.Grading.{all_regraded}
 use Rattle.supply.proofs.grade.regrade.Statement.{statement}
 use Rattle.supply.proofs.grade.regrade.Tie as tie
 
 abbrev invariant-loop : tie.invariant-loop
-invariant-loop p v buf₀ hexes h₀ buf h = (h ≤ hexes) × Pass (regradeBy (scene (board p))) h buf₀ buf
+invariant-loop p v buf₀ hexes h₀ buf h = (h ≤ hexes) × Pass (regrade_by (scene (board p))) h buf₀ buf
 
 abbrev decreases-loop : tie.decreases-loop
 decreases-loop p v buf₀ hexes h₀ buf h = hexes - h
 
 loop-holds : tie.Need-loop-init invariant-loop decreases-loop
-loop-holds c = (omega arith, pass-none)
+loop-holds c = (omega arith, pass_none)
 
 slice-read-wide : tie.Need-slice-read-wide invariant-loop decreases-loop
 slice-read-wide c = let s = c.before.before.before.before.before.requires in omega (arith, c.before.before.loop.invariant.1.long, s.1.long, s.0.view.hexes)
@@ -48,15 +48,15 @@ loop-again c =
     let t = c.before.before.before.before.loop.invariant.1 in
     let r = c.regrade-by in (
       omega arith,
-      pass-set t (omega (arith, t.long, s.requires.1.long, s.requires.0.view.hexes)) r.result
-          (r.ensures.is ∙ ap (regradeBy (scene (board s.args.p.now)) c.before.before.before.before.loop.h) c.before.wide.ensures.is),
+      pass_set t (omega (arith, t.long, s.requires.1.long, s.requires.0.view.hexes)) r.result
+          (r.ensures.is ∙ ap (regrade_by (scene (board s.args.p.now)) c.before.before.before.before.loop.h) c.before.wide.ensures.is),
     )
 
 same_length : tie.Need-same-length invariant-loop decreases-loop
 same_length c = c.before.loop.invariant.1.long
 
 returns : tie.Need-returns invariant-loop decreases-loop
-returns c = let s = c.before.before.before.before.requires in all-regraded s.1 c.before.loop.invariant.1 (omega (arith, s.0.view.hexes))
+returns c = let s = c.before.before.before.before.requires in all_regraded s.1 c.before.loop.invariant.1 (omega (arith, s.0.view.hexes))
 
 pub regrade-spec : {M : Type 1} → statement M
 regrade-spec =

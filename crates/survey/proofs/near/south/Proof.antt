@@ -2,7 +2,7 @@
 -- Assumes nothing.
 use Prim.Native.Nat.{◌+◌}
 use native.Mathlib.Omega.{arith}
-use Rattle.survey.proofs.Spots.{spot-column, spot-row, spot-number, spot-small, row_below, near-at, near-off}
+use Rattle.survey.proofs.Spots.{spot_column, spot_row, spot_number, spot_small, row_below, near_at, near_off}
 use Rattle.grid.proofs.Step.{aside, down}
 use Rattle.survey.proofs.near.south.Statement.{statement}
 use Rattle.survey.proofs.near.south.Tie as tie
@@ -10,21 +10,21 @@ use Rattle.survey.proofs.near.south.Tie as tie
 add-if1 : tie.Need-overflow-add-if1
 add-if1 c =
     let o = c.before.requires in
-    omega (arith, spot-small o, spot-column o, spot-row o, o.on.wide64, o.on.high64)
+    omega (arith, spot_small o, spot_column o, spot_row o, o.on.wide64, o.on.high64)
 
 returns : tie.Need-returns
 unfolding aside down
-returns c = let o = c.before.before.requires in near-off o 3 (λ x y p q g. omega (arith, spot-column o, spot-row o))
+returns c = let o = c.before.before.requires in near_off o 3 (λ x y p q g. omega (arith, spot_column o, spot_row o))
 
 add-t4 : tie.Need-overflow-add-t4
 add-t4 c =
     let o = c.before.before.before.requires in
-    omega (arith, spot-small o, spot-column o, spot-row o, o.on.wide64, o.on.high64)
+    omega (arith, spot_small o, spot_column o, spot_row o, o.on.wide64, o.on.high64)
 
 add-t6 : tie.Need-overflow-add-t6
 add-t6 c =
     let o = c.before.before.before.before.requires in
-    omega (arith, spot-small o, spot-column o, spot-row o, o.on.wide64, o.on.high64)
+    omega (arith, spot_small o, spot_column o, spot_row o, o.on.wide64, o.on.high64)
 
 returns-2 : tie.Need-returns-2
 unfolding aside down
@@ -33,8 +33,8 @@ returns-2 c =
     let o = z.requires in
     let s = z.args.s in
     let w = z.args.w in
-    near-at o 3 (s.hex + w) s.column (s.row + 1)
-    (omega (arith, spot-column o)) (omega (arith, spot-row o)) (omega arith) (omega (arith, spot-number o, row_below o))
+    near_at o 3 (s.hex + w) s.column (s.row + 1)
+    (omega (arith, spot_column o)) (omega (arith, spot_row o)) (omega arith) (omega (arith, spot_number o, row_below o))
 
 pub south-spec : {M : Type 1} → statement M
 south-spec = tie.close (tie.spec add-if1 returns add-t4 add-t6 returns-2)

@@ -2,17 +2,17 @@
 -- Assumes nothing.
 use Prim.Native.Nat.{◌+◌, ◌-◌}
 use native.Mathlib.Omega.{arith}
-use Rattle.survey.proofs.Spots.{spot-column, spot-row, spot-number, spot-small, row_below, near-at, near-off}
+use Rattle.survey.proofs.Spots.{spot_column, spot_row, spot_number, spot_small, row_below, near_at, near_off}
 use Rattle.grid.proofs.Step.{aside, down}
 use Rattle.survey.proofs.near.south_west.Statement.{statement}
 use Rattle.survey.proofs.near.south_west.Tie as tie
 
 returns : tie.Need-returns
 unfolding aside down
-returns c = let o = c.before.before.requires in near-off o 4 (λ x y p q g. omega (arith, spot-column o, spot-row o))
+returns c = let o = c.before.before.requires in near_off o 4 (λ x y p q g. omega (arith, spot_column o, spot_row o))
 
 sub-t6 : tie.Need-overflow-sub-t6
-sub-t6 c = let o = c.before.before.before.before.before.requires in omega (arith, spot-number o)
+sub-t6 c = let o = c.before.before.before.before.before.requires in omega (arith, spot_number o)
 
 returns-2 : tie.Need-returns-2
 unfolding aside down
@@ -20,30 +20,30 @@ returns-2 c =
     let z = c.before.before.before.before.before.before in
     let o = z.requires in
     let s = z.args.s in
-    near-at o 4 (s.hex - 1) (s.column - 1) s.row
-    (omega (arith, spot-column o)) (omega (arith, spot-row o)) (omega arith) (omega (arith, spot-number o))
+    near_at o 4 (s.hex - 1) (s.column - 1) s.row
+    (omega (arith, spot_column o)) (omega (arith, spot_row o)) (omega arith) (omega (arith, spot_number o))
 
 add-if3 : tie.Need-overflow-add-if3
 add-if3 c =
     let o = c.before.before.before.before.before.requires in
-    omega (arith, spot-small o, spot-column o, spot-row o, o.on.wide64, o.on.high64)
+    omega (arith, spot_small o, spot_column o, spot_row o, o.on.wide64, o.on.high64)
 
 returns-3 : tie.Need-returns-3
 unfolding aside down
-returns-3 c = let o = c.before.before.before.before.before.before.requires in near-off o 4 (λ x y p q g. omega (arith, spot-column o, spot-row o))
+returns-3 c = let o = c.before.before.before.before.before.before.requires in near_off o 4 (λ x y p q g. omega (arith, spot_column o, spot_row o))
 
 add-t5 : tie.Need-overflow-add-t5
 add-t5 c =
     let o = c.before.before.before.before.before.before.before.requires in
-    omega (arith, spot-small o, spot-column o, spot-row o, o.on.wide64, o.on.high64)
+    omega (arith, spot_small o, spot_column o, spot_row o, o.on.wide64, o.on.high64)
 
 sub-t9 : tie.Need-overflow-sub-t9
-sub-t9 c = let o = c.before.before.before.before.before.before.before.requires in omega (arith, spot-number o)
+sub-t9 c = let o = c.before.before.before.before.before.before.before.requires in omega (arith, spot_number o)
 
 add-t11 : tie.Need-overflow-add-t11
 add-t11 c =
     let o = c.before.before.before.before.before.before.before.before.before.requires in
-    omega (arith, spot-small o, spot-column o, spot-row o, o.on.wide64, o.on.high64)
+    omega (arith, spot_small o, spot_column o, spot_row o, o.on.wide64, o.on.high64)
 
 returns-4 : tie.Need-returns-4
 unfolding aside down
@@ -52,8 +52,8 @@ returns-4 c =
     let o = z.requires in
     let s = z.args.s in
     let w = z.args.w in
-    near-at o 4 (s.hex + w - 1) (s.column - 1) (s.row + 1)
-    (omega (arith, spot-column o)) (omega (arith, spot-row o)) (omega arith) (omega (arith, spot-number o, row_below o))
+    near_at o 4 (s.hex + w - 1) (s.column - 1) (s.row + 1)
+    (omega (arith, spot_column o)) (omega (arith, spot_row o)) (omega arith) (omega (arith, spot_number o, row_below o))
 
 pub south-west-spec : {M : Type 1} → statement M
 south-west-spec =

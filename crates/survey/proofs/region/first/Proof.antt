@@ -4,7 +4,7 @@ use native.Mathlib.Omega.{arith}
 use Prim.Native.Nat.{◌-◌}
 use borrow.Author.Rules.{rules}
 use Rattle.grid.proofs.Arith.{small}
-use Rattle.survey.proofs.Regions.{before-top}
+use Rattle.survey.proofs.Regions.{before_top}
 use Rattle.survey.proofs.region.first.Statement.{statement}
 use Rattle.survey.proofs.region.first.Tie as tie
 
@@ -24,7 +24,7 @@ mul-result c =
     omega (arith, small {a = a.at.top - 8 - 1} {b = a.w} (omega (arith, outset.requires.1.top)) outset.requires.0.wide64)
 
 returns-2 : tie.Need-returns-2
-returns-2 c = before-top c.before.before.before.requires.0.wide (omega arith)
+returns-2 c = before_top c.before.before.before.requires.0.wide (omega arith)
 
 pub first_spec : {M : Type 1} → statement M
 first_spec = tie.close (tie.spec returns sub-result sub-result-2 mul-result returns-2)

@@ -1,15 +1,15 @@
 -- `region::one` meets its contract: its one column and row are those of the spot.
 -- Assumes nothing.
 use native.Mathlib.Omega.{arith}
-use Rattle.survey.proofs.Spots.{spot-column, spot-row}
+use Rattle.survey.proofs.Spots.{spot_column, spot_row}
 use Rattle.survey.proofs.region.one.Statement.{statement}
 use Rattle.survey.proofs.region.one.Tie as tie
 
 add-t4 : tie.Need-overflow-add-t4
-add-t4 c = omega (arith, spot-column c.before.requires, c.before.requires.on.wide64)
+add-t4 c = omega (arith, spot_column c.before.requires, c.before.requires.on.wide64)
 
 add-t5 : tie.Need-overflow-add-t5
-add-t5 c = omega (arith, spot-row c.before.before.requires, c.before.before.requires.on.high64)
+add-t5 c = omega (arith, spot_row c.before.before.requires, c.before.before.requires.on.high64)
 
 returns : tie.Need-returns
 returns c =
@@ -17,8 +17,8 @@ returns c =
     record {
       ok =
           record {
-            left = omega (arith, spot-column o, o.on.wide64);
-            top = omega (arith, spot-row o, o.on.high64);
+            left = omega (arith, spot_column o, o.on.wide64);
+            top = omega (arith, spot_row o, o.on.high64);
             wide = omega arith;
             high = omega arith;
             reaches = omega arith;

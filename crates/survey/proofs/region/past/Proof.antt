@@ -4,7 +4,7 @@ use native.Mathlib.Omega.{arith}
 use Prim.Native.Nat.{◌+◌, ◌-◌}
 use borrow.Author.Rules.{rules}
 use Rattle.grid.proofs.Arith.{small}
-use Rattle.survey.proofs.Regions.{past-map, past-bottom}
+use Rattle.survey.proofs.Regions.{past_map, past_bottom}
 use Rattle.survey.proofs.region.past.Statement.{statement}
 use Rattle.survey.proofs.region.past.Tie as tie
 
@@ -18,7 +18,7 @@ mul-result : tie.Need-overflow-mul-result
 mul-result c = let o = c.before.before.requires.0 in omega (arith, small o.wide64 o.high64)
 
 returns : tie.Need-returns
-returns c = past-map
+returns c = past_map
 
 add-result : tie.Need-overflow-add-result
 add-result c = search rules
@@ -33,7 +33,7 @@ mul-result-2 c =
     )
 
 returns-2 : tie.Need-returns-2
-returns-2 c = past-bottom c.before.before.requires.0.wide c.before.before.requires.1 (omega arith)
+returns-2 c = past_bottom c.before.before.requires.0.wide c.before.before.requires.1 (omega arith)
 
 pub past-spec : {M : Type 1} → statement M
 past-spec =

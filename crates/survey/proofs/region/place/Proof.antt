@@ -4,13 +4,13 @@ use native.Mathlib.Omega.{arith}
 use Prim.Native.Nat.{◌+◌, ◌-◌}
 use borrow.Author.Rules.{rules}
 use Rattle.grid.proofs.Arith.{small}
-use Rattle.survey.proofs.Spots.{spot-column, spot-row}
-use Rattle.survey.proofs.Regions.{place-in, spot-place}
+use Rattle.survey.proofs.Spots.{spot_column, spot_row}
+use Rattle.survey.proofs.Regions.{place-in, spot_place}
 use Rattle.survey.proofs.region.place.Statement.{statement}
 use Rattle.survey.proofs.region.place.Tie as tie
 
 add-result : tie.Need-overflow-add-result
-add-result c = omega (arith, spot-row c.before.requires.0, c.before.requires.0.on.high64)
+add-result c = omega (arith, spot_row c.before.requires.0, c.before.requires.0.on.high64)
 
 sub-result : tie.Need-overflow-sub-result
 sub-result c = search rules
@@ -25,7 +25,7 @@ mul-result c =
     omega (arith, small {a = a.s.row + 8 - a.at.top} {b = a.at.wide} (omega (arith, o.row, i.bottom, k.high)) k.wide)
 
 add-result-2 : tie.Need-overflow-add-result-2
-add-result-2 c = omega (arith, spot-column c.before.before.before.before.requires.0, c.before.before.before.before.requires.0.on.wide64)
+add-result-2 c = omega (arith, spot_column c.before.before.before.before.requires.0, c.before.before.before.before.requires.0.on.wide64)
 
 sub-result-2 : tie.Need-overflow-sub-result-2
 sub-result-2 c = search rules
@@ -48,7 +48,7 @@ add-result-3 c =
 returns : tie.Need-returns
 returns c =
     let outset = c.before.before.before.before.before in
-    let e = spot-place outset.requires.0 outset.args.at in
+    let e = spot_place outset.requires.0 outset.args.at in
     (e, omega (arith, e, place-in outset.requires.2))
 
 pub place-spec : {M : Type 1} → statement M

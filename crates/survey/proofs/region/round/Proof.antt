@@ -3,13 +3,13 @@
 use native.Mathlib.Omega.{arith}
 use mathlib.Core.Path.{refl}
 use borrow.Author.Rules.{rules}
-use Rattle.survey.proofs.Spots.{spot-column, spot-row}
+use Rattle.survey.proofs.Spots.{spot_column, spot_row}
 use Rattle.survey.proofs.Regions.{round_is}
 use Rattle.survey.proofs.region.round.Statement.{statement}
 use Rattle.survey.proofs.region.round.Tie as tie
 
 add-west : tie.Need-overflow-add-west
-add-west c = omega (arith, spot-column c.before.requires.0, c.before.requires.0.on.wide64)
+add-west c = omega (arith, spot_column c.before.requires.0, c.before.requires.0.on.wide64)
 
 sub-west : tie.Need-overflow-sub-west
 sub-west c = search rules
@@ -18,7 +18,7 @@ sub-t7 : tie.Need-overflow-sub-t7
 sub-t7 c = search rules
 
 add-t8 : tie.Need-overflow-add-t8
-add-t8 c = omega (arith, spot-row c.before.before.requires.0, c.before.before.requires.0.on.high64)
+add-t8 c = omega (arith, spot_row c.before.before.requires.0, c.before.before.requires.0.on.high64)
 
 sub-t9 : tie.Need-overflow-sub-t9
 sub-t9 c = search rules

@@ -2,7 +2,7 @@
 -- Assumes nothing.
 use mathlib.Core.Path.{refl, sym}
 use native.Mathlib.Omega.{arith}
-use Rattle.grid.proofs.Arith.{column-of, row_of, inside}
+use Rattle.grid.proofs.Arith.{column_of_lem, row_of, inside}
 use Rattle.survey.proofs.Runs.{run_small}
 use Rattle.survey.proofs.run.spot.Statement.{statement}
 use Rattle.survey.proofs.run.spot.Tie as tie
@@ -18,7 +18,7 @@ returns c =
     let s = c.before.requires in (
       record {
         on = inside s.0.on s.1 s.0.row;
-        column = sym (column-of c.before.args.r.row s.1);
+        column = sym (column_of_lem c.before.args.r.row s.1);
         row = sym (row_of c.before.args.r.row s.1);
       },
       refl,

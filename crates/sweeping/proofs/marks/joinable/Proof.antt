@@ -2,7 +2,7 @@
 -- Assumes nothing.
 use native.Mathlib.Omega.{arith}
 use borrow.Author.Tests.{not-true}
-use Rattle.walk.proofs.Joins.{found-one, none-on, run-closed, run-apart}
+use Rattle.walk.proofs.Joins.{found_one, none_on, run_closed, run_apart}
 use Rattle.sweeping.proofs.marks.joinable.Statement.{statement}
 use Rattle.sweeping.proofs.marks.joinable.Tie as tie
 
@@ -18,7 +18,7 @@ some-requires c κs = omega (arith, c.before.before.before.requires.1, c.past.en
 returns : tie.Need-returns
 returns c =
     let a = c.before.before.before.before.before.args in
-    λ e. run-closed a.v.width a.v.height a.r
+    λ e. run_closed a.v.width a.v.height a.r
     (λ k p q. c.before.some.ensures (not-true _ c.if1.true) k (omega (arith, c.before.before.before.first.ensures)) (omega (arith, c.before.before.past.ensures.0)))
 
 near-from-requires : tie.Need-near-from-requires
@@ -28,13 +28,13 @@ some-requires-2 : tie.Need-some-requires-2
 some-requires-2 c κs = omega (arith, c.before.before.before.before.before.before.requires.1, c.before.before.before.before.first.ensures, c.before.before.before.past.ensures)
 
 returns-2 : tie.Need-returns-2
-returns-2 c = λ e. found-one e
+returns-2 c = λ e. found_one e
 
 some-requires-3 : tie.Need-some-requires-3
 some-requires-3 c κs = omega (arith, c.before.before.before.before.before.before.before.before.requires.1, c.before.before.before.before.before.past.ensures.1)
 
 returns-3 : tie.Need-returns-3
-returns-3 c = λ e. found-one e
+returns-3 c = λ e. found_one e
 
 near-to-requires : tie.Need-near-to-requires
 near-to-requires c κs = c.before.before.before.before.before.before.before.before.before.before.requires.0
@@ -45,8 +45,8 @@ some-requires-4 c κs = omega (arith, c.before.before.before.before.before.befor
 returns-4 : tie.Need-returns-4
 returns-4 c =
     let a = c.before.before.before.before.before.before.before.before.before.before.before.before.args in
-    λ e. run-apart a.v.width a.v.height a.r c.before.before.before.before.before.before.near-from.ensures c.before.near-to.ensures
-    (none-on (none-on (c.before.before.before.before.before.some2.ensures c.before.before.before.before.if2.false) (c.before.before.before.some3.ensures c.before.before.if3.false)) (c.some4.ensures e))
+    λ e. run_apart a.v.width a.v.height a.r c.before.before.before.before.before.before.near-from.ensures c.before.near-to.ensures
+    (none_on (none_on (c.before.before.before.before.before.some2.ensures c.before.before.before.before.if2.false) (c.before.before.before.some3.ensures c.before.before.if3.false)) (c.some4.ensures e))
 
 pub joinable-spec : {M : Type 1} → statement M
 joinable-spec =

@@ -8,7 +8,7 @@ use native.Mathlib.Omega.{arith}
 use borrow.Author.Rules.{rules}
 use Rattle.walk.specs.Chain.{mark}
 use Rattle.walk.specs.Swept.{None}
-use Rattle.walk.proofs.Joins.{none_more, found-one}
+use Rattle.walk.proofs.Joins.{none_more, found_one}
 use Rattle.sweeping.proofs.marks.some.Statement.{statement}
 use Rattle.sweeping.proofs.marks.some.Tie as tie
 
@@ -34,7 +34,7 @@ loop-again : tie.Need-loop-preserved invariant-loop decreases-loop
 unfolding mark
 loop-again c =
     ⊎_elim
-    (λ w e. found-one (sym w.1 ∙ e))
+    (λ w e. found_one (sym w.1 ∙ e))
     (λ w e. none_more _ _ (c.before.before.before.loop.invariant (sym w.1 ∙ e)) w.0.left)
     c.if1.branch
 

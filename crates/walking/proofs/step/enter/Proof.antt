@@ -4,7 +4,7 @@ use mathlib.Core.Path.{◌≡◌, refl}
 use native.Mathlib.Omega.{arith}
 use borrow.Author.Rules.{rules}
 use Rattle.grid.specs.declared.Beside.TheVariants.{At}
-use Rattle.grid.specs.Map.{neighbourOf}
+use Rattle.grid.specs.Map.{neighbour_of}
 use Rattle.survey.specs.Spot.{SpotOf}
 use Rattle.walking.proofs.step.enter.Statement.{statement}
 use Rattle.walking.proofs.step.enter.Tie as tie
@@ -36,7 +36,7 @@ cast-buf c = search rules
 slice-write-buf : tie.Need-slice-write-buf
 slice-write-buf c =
     let s = c.before.before.before.before.before in
-    let n : (neighbourOf _ _ _ _ ≡ At _) × SpotOf _ _ _ = rw c.before.t.given.1 at c.before.before.before.near.ensures in
+    let n : (neighbour_of _ _ _ _ ≡ At _) × SpotOf _ _ _ = rw c.before.t.given.1 at c.before.before.before.near.ensures in
     omega (arith, s.requires.1, n.1.on.below)
 
 same_length : tie.Need-same-length
@@ -44,7 +44,7 @@ same_length c = search rules
 
 returns-2 : tie.Need-returns-2
 returns-2 c =
-    let n : (neighbourOf _ _ _ _ ≡ At _) × SpotOf _ _ _ = rw c.before.t.given.1 at c.before.before.before.near.ensures in
+    let n : (neighbour_of _ _ _ _ ≡ At _) × SpotOf _ _ _ = rw c.before.t.given.1 at c.before.before.before.near.ensures in
     (n.0, n.1, refl, refl)
 
 pub enter_spec : {M : Type 1} → statement M

@@ -2,10 +2,10 @@
 -- Assumes nothing.
 use mathlib.Core.Path.{◌∙◌}
 use borrow.Author.Rules.{rules}
-use Rattle.position.proofs.Sides.{beside-view, area-view}
+use Rattle.position.proofs.Sides.{beside_view, area_view}
 use Rattle.position.specs.Board.{ground}
-use Rattle.walk.proofs.Steps.{two-way}
-use Rattle.walk.proofs.Goings.{steps-home, steps-in}
+use Rattle.walk.proofs.Steps.{two_way}
+use Rattle.walk.proofs.Goings.{steps-home, steps_in}
 use Rattle.walking.proofs.step.step.Statement.{statement}
 use Rattle.walking.proofs.step.step.Tie as tie
 
@@ -23,14 +23,14 @@ returns c =
     let s = c.before.before.before.before.before.before.before.before.before in
     let d = c.before.before.before.before.before.look-0 in
     let t = c.before.before.leave in
-    steps-home (two-way (ground s.args.p.now)) s.args.v.width s.args.v.height (beside-view s.requires.0.0.view)
+    steps-home (two_way (ground s.args.p.now)) s.args.v.width s.args.v.height (beside_view s.requires.0.0.view)
     s.args.buf.now s.args.s.hex s.args.from d.result d.ensures
     t.new.1.0 t.result c.before.before.before.before.if1.true t.ensures.0 t.ensures.1
 
 enter-requires : tie.Need-enter-requires
 enter-requires c κs =
     let s = c.before.before.before.before.before.before in
-    ((s.requires.0.1, c.before.if1.false), s.requires.1.0 ∙ area-view s.requires.0.0.view)
+    ((s.requires.0.1, c.before.if1.false), s.requires.1.0 ∙ area_view s.requires.0.0.view)
 
 same-length-2 : tie.Need-same-length-2
 same-length-2 c = search rules
@@ -40,7 +40,7 @@ returns-2 c =
     let s = c.before.before.before.before.before.before.before.before.before in
     let d = c.before.before.before.before.before.look-0 in
     let t = c.before.before.enter in
-    steps-in (two-way (ground s.args.p.now)) s.args.v.width s.args.v.height (beside-view s.requires.0.0.view)
+    steps_in (two_way (ground s.args.p.now)) s.args.v.width s.args.v.height (beside_view s.requires.0.0.view)
     s.args.buf.now s.args.s.hex s.args.from d.result d.ensures
     t.new.1.0 t.result c.before.before.before.before.if1.false t.ensures
 

@@ -8,7 +8,7 @@ use borrow.Author.Rules.{rules}
 use borrow.Author.Tests.{not-true, not-false}
 use Rattle.position.specs.Board.{board}
 use Rattle.routes.specs.Legal.{legal}
-use Rattle.routes.proofs.Legal.{wrong-length, right-length, Still, all-passed, stopped, passed}
+use Rattle.routes.proofs.Legal.{wrong_length, right_length, Still, all_passed, stopped, passed}
 use Rattle.window.proofs.sent.is_legal.Statement.{statement}
 use Rattle.window.proofs.sent.is_legal.Tie as tie
 
@@ -19,10 +19,10 @@ abbrev decreases-loop : tie.decreases-loop
 decreases-loop p v at painted f start n route a₀ i₀ a i = n - i
 
 returns : tie.Need-returns invariant-loop decreases-loop
-returns c = sym (wrong-length _ _ _ _ _ c.if1.true)
+returns c = sym (wrong_length _ _ _ _ _ c.if1.true)
 
 loop-holds : tie.Need-loop-init invariant-loop decreases-loop
-loop-holds c = (omega arith, record { is = right-length _ _ _ _ _ c.if1.false })
+loop-holds c = (omega arith, record { is = right_length _ _ _ _ _ c.if1.false })
 
 mul-x : tie.Need-overflow-mul-x invariant-loop decreases-loop
 mul-x c = search rules
@@ -53,7 +53,7 @@ loop-again c =
     (omega arith, passed s.loop.invariant.1 (omega arith) refl c.before.steps-to.ensures (not-false _ c.if2.false))
 
 returns-3 : tie.Need-returns-3 invariant-loop decreases-loop
-returns-3 c = sym (all-passed c.before.loop.invariant.1 (omega arith))
+returns-3 c = sym (all_passed c.before.loop.invariant.1 (omega arith))
 
 pub is-legal-spec : {M : Type 1} → statement M
 is-legal-spec =
