@@ -17,7 +17,7 @@ import sys
 LEMMAS = ("goes_on", "goes_to", "has_rest", "is_free", "map_at", "one_table", "rest_all", "run_along")
 FREE = ("goOn", "inSupply")
 CAMEL = re.compile(r"[a-z][a-z0-9]*(?:[A-Z][A-Za-z0-9]*)+'*$")
-DECLARED = re.compile(r"^(\s*)(?:(?:pub|abbrev|unfoldable|pattern|axiom)\s+)*([^\s:(){},;=]+(?:\s+[^\s:(){},;=]+)*)(?:\s*\{[^}]*\})?\s:\s")
+DECLARED = re.compile(r"^(\s*)(?:(?:pub|abbrev|unfoldable|pattern|axiom)\s+)*([^\s:(){},;=]+(?:\s+[^\s:(){},;=]+)*)(?:\s*\{[^}]*\})?\s:(?:\s|$)")
 TOKEN = re.compile(r"[^\s(){}\[\];,.:`\"]+")
 SPLIT = re.compile(r"([^\s(){}\[\];,.:`\"]+)")
 

@@ -30,17 +30,17 @@ pub record Fixed (b c : Board) : Type 0 where
 
 module _ (b : Board) where
   -- other units with these counters, and another desk with this last turn and these players
-  fixed-both :
+  fixed_both :
       (s : Units) (d : Desk) → s.count ≡ b.units.count → s.counter ≡ b.units.counter → d.last_turn ≡ b.desk.last_turn
       → d.player ≡ b.desk.player → Fixed b (with_desk (with_units b s) d)
-  fixed-both s d n k e g =
+  fixed_both s d n k e g =
       record { chart = refl; results = refl; map = refl; count = n; counter = k; last_turn = e; players = g }
 
   pub fixed_units : (s : Units) → s.count ≡ b.units.count → s.counter ≡ b.units.counter → Fixed b (with_units b s)
-  fixed_units s n k = fixed-both s b.desk n k refl refl
+  fixed_units s n k = fixed_both s b.desk n k refl refl
 
   pub fixed_desk : (d : Desk) → d.last_turn ≡ b.desk.last_turn → d.player ≡ b.desk.player → Fixed b (with_desk b d)
-  fixed_desk d e g = fixed-both b.units d refl refl e g
+  fixed_desk d e g = fixed_both b.units d refl refl e g
 
   fixed_cond : (t : Bool) {c : Board} → Fixed b c → Fixed b (cond t c b)
   fixed_cond true f = f
@@ -121,10 +121,10 @@ module _ {b c : Board} (f : Fixed b c) where
 
   -- one unit by itself
   module _ (w : ℕ) (role : c.units.state.role w ≡ b.units.state.role w) where
-    pub stand-by :
+    pub stand_by :
         c.units.state.hex w ≡ b.units.state.hex w → (b.units.state.hex w ≡ nowhere → c.units.state.marks w ≤ tried)
         → (crowd b (b.units.state.hex w) ≤ 3 → crowd c (b.units.state.hex w) ≤ 3) → StandOk b w → StandOk c w
-    stand-by e m r o =
+    stand_by e m r o =
         record {
           destroyed = rw e (λ n. record { role = role ∙ (o.destroyed n).role; marks = m n });
           mapped =
@@ -136,10 +136,10 @@ module _ {b c : Board} (f : Fixed b c) where
               };
         }
 
-    pub unit-by :
+    pub unit_by :
         c.units.state.marks w < marks_end → (has tried (b.units.state.marks w) ≡ true → has tried (c.units.state.marks w) ≡ true)
         → (c.units.state.hex w ≡ nowhere → b.units.state.hex w ≡ nowhere) → StandOk c w → UnitOk b w → UnitOk c w
-    unit-by m t n s o =
+    unit_by m t n s o =
         record {
           counter =
               record {
@@ -160,11 +160,11 @@ module _ {b c : Board} (f : Fixed b c) where
         }
 
   -- two units side by side
-  pub pair-by :
+  pub pair_by :
       (u w : ℕ) → c.units.state.role u ≡ b.units.state.role u → c.units.state.role w ≡ b.units.state.role w
       → ((force_of b u ≡ force_of b w → ⊥) → (c.units.state.hex u ≡ nowhere → ⊥) → c.units.state.hex w ≡ c.units.state.hex u → ⊥)
       → PairOk b u w → PairOk c u w
-  pair-by u w r s apart o =
+  pair_by u w r s apart o =
       record {
         two =
             λ n.

@@ -55,13 +55,13 @@ unfoldable hits : (ℕ → Bool) → (ℕ → ℕ) → ℕ → ℕ → Bool
 hits t g k u = t u && eqb (g u) k
 
 -- no more numbers pass than g has images below k, where it takes no two of them to one
-pub tally-injects :
+pub tally_injects :
     (g : ℕ → ℕ) (n k : ℕ) (t : ℕ → Bool) → ((u : ℕ) → u < n → t u ≡ true → g u < k)
     → ((u w : ℕ) → u < n → w < n → t u ≡ true → t w ≡ true → g u ≡ g w → u ≡ w) → tally t n ≤ k
 unfolding hits
-tally-injects g n zero t small one =
+tally_injects g n zero t small one =
     let e = tally_nought t n (λ u l. either (t u) (λ p. absurd (omega (arith, small u l p))) (λ p. p)) in omega arith
-tally-injects g n (suc k) t small one =
+tally_injects g n (suc k) t small one =
     either (any (hits t g k) n)
     (λ e.
     let s = any_some (hits t g k) n e in
@@ -70,7 +70,7 @@ tally-injects g n (suc k) t small one =
     let p = both_yes (t u) (eqb (g u) k) s.passes in
     let q = eqb-true (g u) k p.1 in
     let i =
-    tally-injects g n k (but t u)
+    tally_injects g n k (but t u)
     (λ w m r.
     let x = but_parts t u w r in
     let y = small w m x.0 in
@@ -81,7 +81,7 @@ tally-injects g n (suc k) t small one =
     omega (arith, tally_one_off t u n))
     (λ e.
     let i =
-    tally-injects g n k t
+    tally_injects g n k t
     (λ w m r.
     let y = small w m r in
     let z : g w ≡ k → ⊥ = λ d. not_both (hits t g k w) (simp (r, eq-eqb (g w) k d)) (any_false (hits t g k) n w e m) in
@@ -108,7 +108,7 @@ module _ (t : ℕ → Bool) (n : ℕ) (down : (i : ℕ) → i + 1 < n → t (i +
   pub front_passes : (i : ℕ) → i < n → i < tally t n → t i ≡ true
   front_passes i l m =
       either (t i) (λ e. e)
-      (λ e. absurd (omega (arith, tally-injects (λ u. u) n i t (λ u k p. below e u k p (dec_lt u i)) (λ u w _ _ _ _ q. q))))
+      (λ e. absurd (omega (arith, tally_injects (λ u. u) n i t (λ u k p. below e u k p (dec_lt u i)) (λ u w _ _ _ _ q. q))))
     where
       below : t i ≡ false → (u : ℕ) → u < n → t u ≡ true → Dec (u < i) → u < i
       below e u k p (yes h) = h

@@ -160,11 +160,11 @@ module _ {b c : Board} (f : Fixed b c) where
       }
 
   -- a unit that is tried and on the map bears a role, and any unit bears loss
-  pub alone-fated :
+  pub alone_fated :
       (r w : ℕ) → Fated b.units c.units r w → r ≤ 2
       → ((r ≡ 0 → ⊥) → has tried (b.units.state.marks w) ≡ true) → ((r ≡ 0 → ⊥) → b.units.state.hex w ≡ nowhere → ⊥)
       → AloneOk b w → AloneOk c w
-  alone-fated r w e l t m o =
+  alone_fated r w e l t m o =
       record {
         counter =
             record {
@@ -246,16 +246,16 @@ module _ {b c : Board} (f : Fixed b c) where
 
   -- who has a role had it before
   module _ (had : (w : ℕ) → w < b.units.count → (c.units.state.role w ≡ Role.none → ⊥) → c.units.state.role w ≡ b.units.state.role w) where
-    role-before :
+    role_before :
         (r w : ℕ) → w < c.units.count → (r ≡ 0 → ⊥) → c.units.state.role w ≡ r → (w < b.units.count) × (b.units.state.role w ≡ r)
-    role-before r w l n e =
+    role_before r w l n e =
         let m : w < b.units.count = omega (arith, f.count) in
         (m, sym (had w m (λ z. n (sym e ∙ z))) ∙ e)
 
     one_force_fewer : (r : ℕ) → (r ≡ 0 → ⊥) → OneForce b r → OneForce c r
     one_force_fewer r n o u l w m p q =
-        let x = role-before r u l n p in
-        let y = role-before r w m n q in
+        let x = role_before r u l n p in
+        let y = role_before r w m n q in
         force_by f w ∙ o u x.0 w y.0 x.1 y.1 ∙ sym (force_by f u)
 
     pub roles_fewer : RolesOk b → RolesOk c
@@ -265,16 +265,16 @@ module _ {b c : Board} (f : Fixed b c) where
           advancing = one_force_fewer 2 (λ e. omega arith) o.advancing;
           apart =
               λ u l w m p q e.
-              let x = role-before Role.owes u l (λ z. omega arith) p in
-              let y = role-before Role.advances w m (λ z. omega arith) q in
+              let x = role_before Role.owes u l (λ z. omega arith) p in
+              let y = role_before Role.advances w m (λ z. omega arith) q in
               o.apart u x.0 w y.0 x.1 y.1 (sym (force_by f w) ∙ e ∙ force_by f u);
         }
 
   -- who may advance owed before, and none owes now
-  pub roles-passed :
+  pub roles_passed :
       ((w : ℕ) → w < b.units.count → (c.units.state.role w ≡ Role.none → ⊥) → (c.units.state.role w ≡ Role.advances) × (b.units.state.role w ≡ Role.owes))
       → RolesOk b → RolesOk c
-  roles-passed had o =
+  roles_passed had o =
       let below : (w : ℕ) → w < c.units.count → w < b.units.count = λ w l. omega (arith, f.count) in
       let two : (w : ℕ) → w < c.units.count → c.units.state.role w ≡ Role.owes → ⊥ =
       λ w l p. omega (arith, (had w (below w l) (λ z. omega arith)).0)
@@ -309,13 +309,13 @@ lesser_role (gone e) n = absurd (n e.role)
 lesser_alone : {b c : Board} → Fixed b c → (w : ℕ) → Lesser b.units c.units w → AloneOk b w → AloneOk c w
 lesser_alone f w (same e) o = alone_same f w e o
 lesser_alone f w (freed e) o = alone_freed f w e o
-lesser_alone f w (gone e) o = alone-fated f 0 w e (omega arith) (λ n. absurd (n refl)) (λ n. absurd (n refl)) o
+lesser_alone f w (gone e) o = alone_fated f 0 w e (omega arith) (λ n. absurd (n refl)) (λ n. absurd (n refl)) o
 
 -- units that only lose keep the lines on units
-pub units-fewer :
+pub units_fewer :
     {b c : Board} → Fixed b c → b.map.hexes ≤ nowhere → ((w : ℕ) → w < b.units.count → Lesser b.units c.units w)
     → UnitsOk b → UnitsOk c
-units-fewer {b} {c} f most each o =
+units_fewer {b} {c} f most each o =
     units_asked
     (λ w l.
     let m : w < b.units.count = omega (arith, f.count) in

@@ -27,9 +27,9 @@ use Rattle.acceptance.proofs.Carries.{
   standable_by,
   crowd_by,
   routes_ok_by,
-  stand-by,
-  unit-by,
-  pair-by,
+  stand_by,
+  unit_by,
+  pair_by,
   stage_by,
   retreats_by,
   lawful_by,
@@ -47,10 +47,10 @@ suited_same l w h =
     record { marks = o.counter.marks; face = λ e. e; destroyed = λ e. (o.stand.destroyed e).marks }
 
 -- other marks and another clock: everything else is as it was
-pub lawful-still :
+pub lawful_still :
     {b c : Board} → Fixed b c → c.units.state.hex ≡ b.units.state.hex → c.units.state.role ≡ b.units.state.role
     → c.desk.battle ≡ b.desk.battle → c.desk.route ≡ b.desk.route → ((w : ℕ) → w < b.units.count → Suited b c w) → ClockOk c.desk → Lawful b → Lawful c
-lawful-still {b} {c} f hex role battle route s k l =
+lawful_still {b} {c} f hex role battle route s k l =
     let at : (w : ℕ) → c.units.state.hex w ≡ b.units.state.hex w = λ w i. hex i w in
     let duty : (w : ℕ) → c.units.state.role w ≡ b.units.state.role w = λ w i. role i w in
     lawful_by f
@@ -60,13 +60,13 @@ lawful-still {b} {c} f hex role battle route s k l =
           let n : w < b.units.count = omega (arith, f.count) in
           let o = l.units.each w n in
           let t = s w n in
-          unit-by f w (duty w) t.marks t.face (λ e. sym (at w) ∙ e)
-          (stand-by f w (duty w) (at w) t.destroyed (λ r. rw (crowd_by f hex (b.units.state.hex w)) r) o.stand)
+          unit_by f w (duty w) t.marks t.face (λ e. sym (at w) ∙ e)
+          (stand_by f w (duty w) (at w) t.destroyed (λ r. rw (crowd_by f hex (b.units.state.hex w)) r) o.stand)
           o;
       pairs =
           λ u h w g.
           let o = l.units.pairs u (omega (arith, f.count)) w (omega (arith, f.count)) in
-          pair-by f u w (duty u) (duty w)
+          pair_by f u w (duty u) (duty w)
           (λ d n e. (o.two d).apart (λ z. n (at u ∙ z)) (sym (at w) ∙ e ∙ at u))
           o;
     })
@@ -91,7 +91,7 @@ faced_bare old m l = omega arith
 pub lawful_marked : {b : Board} → Lawful b → (u m : ℕ) → Markable b u m → Lawful (change b (marked u m))
 unfolding change
 lawful_marked {b} l u m k =
-    lawful-still (fixed_change b (marked u m)) refl refl refl refl (λ w h. suited w (suited_same l w h)) l.clock l
+    lawful_still (fixed_change b (marked u m)) refl refl refl refl (λ w h. suited w (suited_same l w h)) l.clock l
   where
     after : (P : ℕ → Type 0) (w : ℕ) → (w ≡ u → P (faced (b.units.state.marks u) m)) → P (b.units.state.marks w) → P ((change b (marked u m)).units.state.marks w)
     after P w x y = upd_case P b.units.count b.units.state.marks u (faced (b.units.state.marks u) m) w (λ _ e. x e) y
@@ -109,13 +109,13 @@ lawful_marked {b} l u m k =
         }
 
 -- "turn 1..60, last turn 1..60 not below turn, force 0..3, phase"
-pub lawful-timed :
+pub lawful_timed :
     {b : Board} → Lawful b → b.desk.battle.stage ≡ Stage.quiet → (t f ph : ℕ) → In 1 t 60 → t ≤ b.desk.last_turn → f ≤ 3 → ph ≤ 2
     → Lawful (change b (timed t f ph))
 unfolding change
-lawful-timed {b} l z t f ph i n force phase =
+lawful_timed {b} l z t f ph i n force phase =
     let k = l.clock in
-    lawful-still (fixed_change b (timed t f ph)) refl refl refl refl
+    lawful_still (fixed_change b (timed t f ph)) refl refl refl refl
     (λ w h. let s = suited_same l w h in record { marks = s.marks; face = s.face; destroyed = s.destroyed })
     (record {
       turn = i;
@@ -203,18 +203,18 @@ module _ {b : Board} (u h : ℕ) (n : u < b.units.count) (r : Room b u h) where
 
   stand_else : (w : ℕ) → (w ≡ u → ⊥) → UnitOk b w → StandOk (moved b u h) w
   stand_else w e o =
-      stand-by (fixed b u h) w refl (else w e) (λ z. (o.stand.destroyed z).marks) (crowd_else (b.units.state.hex w)) o.stand
+      stand_by (fixed b u h) w refl (else w e) (λ z. (o.stand.destroyed z).marks) (crowd_else (b.units.state.hex w)) o.stand
 
   unit_moved : (w : ℕ) → UnitOk b w → UnitOk (moved b u h) w
   unit_moved w o =
-      let by = unit-by (fixed b u h) w refl o.counter.marks (λ t. t) in
+      let by = unit_by (fixed b u h) w refl o.counter.marks (λ t. t) in
       same_or w u
       (λ e. by (λ z. absurd (r.hex (sym (there w e) ∙ z))) (stand_there w e) o)
       (λ e. by (λ z. sym (else w e) ∙ z) (stand_else w e o) o)
 
   pair_moved : (v w : ℕ) → v < b.units.count → w < b.units.count → PairOk b v w → PairOk (moved b u h) v w
   pair_moved v w hv hw o =
-      pair-by (fixed b u h) v w refl refl
+      pair_by (fixed b u h) v w refl refl
       (λ d m z.
       same_or v u
       (λ e.
@@ -243,10 +243,10 @@ pub units_placed : {b : Board} → UnitsOk b → (u h : ℕ) → u < b.units.cou
 units_placed {b} o u h n r = rw (placed_is b u h r.stands) (units_moved o u h n r)
 
 -- role 1 units may stand in other hexes then, so what the stage of retreats asks is a condition
-pub lawful-placed :
+pub lawful_placed :
     {b : Board} → Lawful b → (u h : ℕ) → u < b.units.count → Room b u h
     → (b.desk.battle.stage ≡ Stage.retreats → RetreatsOk (change b (placed u h))) → Lawful (change b (placed u h))
-lawful-placed {b} l u h n r retreats =
+lawful_placed {b} l u h n r retreats =
     let e = placed_is b u h r.stands in
     let f = fixed b u h in
     rw e

@@ -31,7 +31,7 @@ use Rattle.position.proofs.Tallies.{
 use Rattle.position.proofs.Crowds.{holders_is}
 use Rattle.acceptance.specs.Noted.{heads}
 use Rattle.acceptance.proofs.Notes.{owing_hexes_is}
-use Rattle.acceptance.proofs.Counts.{tally_nought, tally-injects}
+use Rattle.acceptance.proofs.Counts.{tally_nought, tally_injects}
 
 module _ (b : Board) where
   pub owes : (u h : ℕ) → b.units.state.role u ≡ Role.owes → b.units.state.hex u ≡ h → owes_at b h u ≡ true
@@ -67,14 +67,14 @@ module _ (b : Board) where
       at d (no n) = absurd (first_not u w (omega arith) (first_role w f) (sym h) e)
 
   -- hexes that g numbers below k are at most k
-  pub owing-most :
+  pub owing_most :
       (g : ℕ → ℕ) (k : ℕ) → ((u : ℕ) → u < b.units.count → b.units.state.role u ≡ Role.owes → g (b.units.state.hex u) < k)
       → ((u w : ℕ) → u < b.units.count → w < b.units.count → b.units.state.role u ≡ Role.owes → b.units.state.role w ≡ Role.owes
       → g (b.units.state.hex u) ≡ g (b.units.state.hex w) → b.units.state.hex u ≡ b.units.state.hex w)
       → owing_hexes b ≤ k
-  owing-most g k small one =
+  owing_most g k small one =
       rw (owing_hexes_is b)
-      (tally-injects (λ u. g (b.units.state.hex u)) b.units.count k (heads b) (λ u l e. small u l (first_role u e))
+      (tally_injects (λ u. g (b.units.state.hex u)) b.units.count k (heads b) (λ u l e. small u l (first_role u e))
       (λ u w l m e f q. first_one u w e f (one u w l m (first_role u e) (first_role w f) q)))
 
   first_is : (u : ℕ) → b.units.state.role u ≡ Role.owes → any (owes_at b (b.units.state.hex u)) u ≡ false → heads b u ≡ true

@@ -52,10 +52,10 @@ module _ (b : Board) (r w x y z : ℕ) where
   unfolding filled
   filled_else i n = ap (λ (k : ℕ). not (eqb k nowhere)) (route_else i n 0)
 
-  pub routes-written :
+  pub routes_written_lem :
       r < route_count → (w ≡ nowhere → ⊥) → ((i : ℕ) → i + 1 ≡ r → filled b i ≡ true) → ((j : ℕ) → j < route_hexes → PlaceOk written r j)
       → RoutesOk b → RoutesOk written
-  routes-written l n before path o i m =
+  routes_written_lem l n before path o i m =
       record {
         first =
             λ p.
@@ -97,9 +97,9 @@ module _ (b : Board) (r h : ℕ) (l : r < route_count) (s : standable b h ≡ tr
         stands = lone_stands j;
       }
 
-  pub routes-lone :
+  pub routes_lone :
       (h ≡ nowhere → ⊥) → ((i : ℕ) → i + 1 ≡ r → filled b i ≡ true) → RoutesOk b → RoutesOk lone
-  routes-lone n before o = routes-written b r h nowhere nowhere nowhere l n before (λ j _. lone_place j) o
+  routes_lone n before o = routes_written_lem b r h nowhere nowhere nowhere l n before (λ j _. lone_place j) o
 
 -- no route at all
 module _ (b : Board) where
@@ -141,11 +141,11 @@ module _ {b : Board} (o : RoutesOk b) where
   routes_empty i l m = either (filled b i) (λ e. absurd (omega (arith, front_counted (filled b) route_count first_filled i m e))) (λ e. e)
 
 -- a route written where none was is one more
-pub routes-more :
+pub routes_more :
     (b : Board) (r w x y z : ℕ) → r < route_count → (w ≡ nowhere → ⊥) → filled b r ≡ false
     → routes (change b (routed r w x y z)) ≡ routes b + 1
 unfolding routes
-routes-more b r w x y z l n e =
+routes_more b r w x y z l n e =
     let s = filled (change b (routed r w x y z)) in
     let t = filled b in
     let h = tally_but_hit s r route_count l (filled_there b r w x y z l n) in

@@ -82,10 +82,10 @@ module _ {b : Board} {base u : ℕ} {s : List ℕ} (g : Seated b base u s) where
   seated_past n = record { long = g.long; seat = λ k l. passed_by b u (base + k) (n k l) (g.seat k l) }
 
   -- unit u stands on hex k of it, whose seat says x in table t, and the others what they said
-  seated-at :
+  seated_at :
       (k x : ℕ) {t : List ℕ} → k < block → b.units.state.hex u ≡ base + k → length t ≡ table → seat_of t k ≡ x
       → ((j : ℕ) → (j ≡ k → ⊥) → seat_of t j ≡ seat_of s j) → Seat b (u + 1) (base + k) x → Seated b base (u + 1) t
-  seated-at k x {t} l e long at off y =
+  seated_at k x {t} l e long at off y =
       record {
         long = long;
         seat =
@@ -145,14 +145,14 @@ module _ {b : Board} {base u : ℕ} {s : List ℕ} (g : Seated b base u s) (k x 
 
 -- the same by its byte m: in the lower half, and in the upper one
 module _ {b : Board} {base u : ℕ} {s : List ℕ} (i m f d : ℕ) (l : i < table) (is : m ≡ get_or s i 0) (of : f ≡ force_of b u) (r : f < 4) where
-  pub counts-low :
+  pub counts_low :
       b.units.state.hex u ≡ base + i → AddsTo (m % 16) f d → 0 < d → Seated b base u s → Seated b base (u + 1) (set s i (m + d))
-  counts-low e a p g =
+  counts_low e a p g =
       let low : m % 16 ≡ seat_of s i = ap (λ (k : ℕ). k % 16) is ∙ sym (seat_low s i l) in
       let y = seat_added g i (m % 16) f d (omega arith) e low of r a p in
       let small = y.small in
       let long : i < length s = omega (arith, g.long) in
-      seated-at g i (m % 16 + d) (omega arith) e (length-set s i (m + d) ∙ g.long)
+      seated_at g i (m % 16 + d) (omega arith) e (length-set s i (m + d) ∙ g.long)
       (seat_low (set s i (m + d)) i l ∙ ap (λ (k : ℕ). k % 16) (get_or-set_same s i (m + d) 0 long) ∙ omega arith)
       (λ j n.
       either (ltb j table)
@@ -162,15 +162,15 @@ module _ {b : Board} {base u : ℕ} {s : List ℕ} (i m f d : ℕ) (l : i < tabl
       seat_high (set s i (m + d)) j o ∙ high_kept s i m (m + d) is long (omega arith) (j - table) ∙ sym (seat_high s j o)))
       y
 
-  pub counts-high :
+  pub counts_high :
       b.units.state.hex u ≡ base + (i + table) → AddsTo (m / 16) f d → 0 < d → Seated b base u s → Seated b base (u + 1) (set s i (m + 16 * d))
-  counts-high e a p g =
+  counts_high e a p g =
       let back : i + table - table ≡ i = omega arith in
       let high : m / 16 ≡ seat_of s (i + table) =
       ap (λ (k : ℕ). k / 16) is ∙ ap (λ (k : ℕ). get_or s k 0 / 16) (sym back) ∙ sym (seat_high s (i + table) (omega arith)) in
       let y = seat_added g (i + table) (m / 16) f d (omega arith) e high of r a p in
       let long : i < length s = omega (arith, g.long) in
-      seated-at g (i + table) (m / 16 + d) (omega arith) e (length-set s i (m + 16 * d) ∙ g.long)
+      seated_at g (i + table) (m / 16 + d) (omega arith) e (length-set s i (m + 16 * d) ∙ g.long)
       (seat_high (set s i (m + 16 * d)) (i + table) (omega arith) ∙ ap (λ (k : ℕ). get_or (set s i (m + 16 * d)) k 0 / 16) back
       ∙ ap (λ (k : ℕ). k / 16) (get_or-set_same s i (m + 16 * d) 0 long) ∙ omega arith)
       (λ j n.
@@ -200,9 +200,9 @@ adds_fits (strange n q z) r l = omega arith
 adds_fits (full t z) r l = omega arith
 
 -- the answer by what the unit adds
-pub seated-of :
+pub seated_of :
     {b : Board} {base u : ℕ} {s t : List ℕ} (d : ℕ) → (0 < d → Counts b base u s t) → (d ≡ 0 → Crowded b base u s) → SeatedOf b base u s t (ltb 0 d)
-seated-of {b} {base} {u} {s} {t} d f g = at (ltb 0 d) (λ e. f (ltb-true 0 d e)) (λ e. g (omega (arith, ltb-false 0 d e)))
+seated_of {b} {base} {u} {s} {t} d f g = at (ltb 0 d) (λ e. f (ltb-true 0 d e)) (λ e. g (omega (arith, ltb-false 0 d e)))
   where
     at : (r : Bool) → (r ≡ true → Counts b base u s t) → (r ≡ false → Crowded b base u s) → SeatedOf b base u s t r
     at true f g = f refl

@@ -18,10 +18,10 @@ use Rattle.position.proofs.Tallies.{same_or, either}
 use Rattle.acceptance.specs.Accepted.{UnitsOk, StageOk, PlaceOk, RoutesOk, Lawful}
 use Rattle.acceptance.proofs.Carries.{Fixed, fixed_desk, fixed_change, routes_ok_by, lawful_by}
 use Rattle.acceptance.proofs.Lawfuls.{Room, units_placed}
-use Rattle.acceptance.proofs.Fates.{destroyed_else, destroyed_here, assigned_else, assigned_none, units-fewer}
+use Rattle.acceptance.proofs.Fates.{destroyed_else, destroyed_here, assigned_else, assigned_none, units_fewer}
 use Rattle.acceptance.proofs.Fates.Lesser.{same, freed, gone}
 use Rattle.acceptance.proofs.Stills.{fixed_refl, fixed_trans}
-use Rattle.acceptance.proofs.Routings.{routes-written, routes_cleared}
+use Rattle.acceptance.proofs.Routings.{routes_written_lem, routes_cleared}
 use Rattle.clock.specs.Phase as Phase
 
 -- board c, since board b
@@ -35,10 +35,10 @@ pub since_lawful : {b : Board} → Lawful b → Since b b
 since_lawful {b} l = record { fixed = fixed_refl b; clock = refl; units = l.units; routes = l.routes }
 
 -- the board at the end
-pub lawful-since :
+pub lawful_since :
     {b c : Board} → Lawful b → Since b c → c.desk.battle.stage ≤ 3 → ((c.desk.battle.stage ≡ Stage.quiet → ⊥) → b.desk.clock.phase ≡ Phase.combat) → StageOk c
     → Lawful c
-lawful-since l s most combat stage =
+lawful_since l s most combat stage =
     let k = l.clock in
     let i = s.clock in
     lawful_by s.fixed s.units
@@ -74,15 +74,15 @@ module _ {b c : Board} (most : b.map.hexes ≤ nowhere) (s : Since b c) where
         routes = routes_ok_by f (ap (λ (d : Desk). d.route) e) s.routes;
       }
 
-  since-desk :
+  since_desk :
       (d : Desk) → d.last_turn ≡ c.desk.last_turn → d.player ≡ c.desk.player → d.clock ≡ c.desk.clock → RoutesOk (with_desk c d)
       → Since b (with_desk c d)
-  since-desk d e g k o =
+  since_desk d e g k o =
       let f = fixed_desk c d e g in
       record {
         fixed = fixed_trans s.fixed f;
         clock = k ∙ s.clock;
-        units = units-fewer f small (λ w l. same (record { hex = refl; marks = refl; role = refl })) s.units;
+        units = units_fewer f small (λ w l. same (record { hex = refl; marks = refl; role = refl })) s.units;
         routes = o;
       }
 
@@ -91,7 +91,7 @@ module _ {b c : Board} (most : b.map.hexes ≤ nowhere) (s : Since b c) where
   unfolding change
   since_destroyed u =
       since_units (destroyed u) refl
-      (units-fewer (fixed_change c (destroyed u)) small
+      (units_fewer (fixed_change c (destroyed u)) small
       (λ w l.
       same_or u w
       (λ e. rw (sym e) (gone (destroyed_here c u (omega arith))))
@@ -102,7 +102,7 @@ module _ {b c : Board} (most : b.map.hexes ≤ nowhere) (s : Since b c) where
   unfolding change
   since_freed u =
       since_units (assigned u Role.none) refl
-      (units-fewer (fixed_change c (assigned u Role.none)) small
+      (units_fewer (fixed_change c (assigned u Role.none)) small
       (λ w l.
       same_or u w
       (λ e. rw (sym e) (freed (assigned_none c u (omega arith))))
@@ -116,19 +116,19 @@ module _ {b c : Board} (most : b.map.hexes ≤ nowhere) (s : Since b c) where
   pub since_staged : (t n x : ℕ) → Since b (change c (staged t n x))
   unfolding change
   since_staged t n x =
-      since-desk (with_stage c.desk t n x) refl refl refl
+      since_desk (with_stage c.desk t n x) refl refl refl
       (routes_ok_by (fixed_change c (staged t n x)) refl s.routes)
 
-  pub since-routed :
+  pub since_routed :
       (r w x y z : ℕ) → r < route_count → (w ≡ nowhere → ⊥) → ((i : ℕ) → i + 1 ≡ r → filled c i ≡ true)
       → ((j : ℕ) → j < route_hexes → PlaceOk (change c (routed r w x y z)) r j) → Since b (change c (routed r w x y z))
   unfolding change
-  since-routed r w x y z l n before path =
-      since-desk (with_routes c.desk (reroute c.desk.route r w x y z)) refl refl refl
-      (routes-written c r w x y z l n before path s.routes)
+  since_routed r w x y z l n before path =
+      since_desk (with_routes c.desk (reroute c.desk.route r w x y z)) refl refl refl
+      (routes_written_lem c r w x y z l n before path s.routes)
 
   -- the routes are cleared
   pub since_unrouted : Since b (change c unrouted)
   unfolding change
   since_unrouted =
-      since-desk (with_routes c.desk unfilled) refl refl refl (routes_cleared c)
+      since_desk (with_routes c.desk unfilled) refl refl refl (routes_cleared c)

@@ -15,7 +15,7 @@ use Rattle.position.proofs.BitLaws.UnitMark.{is-tried}
 use Rattle.position.proofs.Effects.{upd_there, upd_case, faced_face, turned_face}
 use Rattle.acceptance.specs.Accepted.{Lawful}
 use Rattle.acceptance.proofs.Carries.{Fixed, fixed_units, fixed_desk, fixed_change}
-use Rattle.acceptance.proofs.Lawfuls.{Suited, suited_same, lawful-still}
+use Rattle.acceptance.proofs.Lawfuls.{Suited, suited_same, lawful_still}
 
 -- what never changes, after one change and another
 pub fixed_refl : (b : Board) → Fixed b b
@@ -65,11 +65,11 @@ unfolding with
 with_tried_bare m l = omega arith
 
 module _ (b : Board) (u x : ℕ) where
-  turned-case :
+  turned_case :
       (P : ℕ → Type 0) (w : ℕ) → (w ≡ u → P (with tried (b.units.state.marks u))) → P (b.units.state.marks w)
       → P ((turned_up b u x).units.state.marks w)
   unfolding turned_up
-  turned-case P w f y = upd_case P b.units.count b.units.state.marks u (with tried (b.units.state.marks u)) w (λ _ e. f e) y
+  turned_case P w f y = upd_case P b.units.count b.units.state.marks u (with tried (b.units.state.marks u)) w (λ _ e. f e) y
 
   pub turned_still : Still b (turned_up b u x)
   unfolding turned_up
@@ -79,7 +79,7 @@ module _ (b : Board) (u x : ℕ) where
         hex = refl;
         role = refl;
         desk = refl;
-        face = λ w t. turned-case (λ m. has tried m ≡ true) w (λ e. turned_face (b.units.state.marks u)) t;
+        face = λ w t. turned_case (λ m. has tried m ≡ true) w (λ e. turned_face (b.units.state.marks u)) t;
       }
 
   pub turned_tried : u < b.units.count → has tried ((turned_up b u x).units.state.marks u) ≡ true
@@ -91,13 +91,13 @@ module _ (b : Board) (u x : ℕ) where
   turned_suited w s =
       record {
         marks =
-            turned-case (λ m. m < marks_end) w
+            turned_case (λ m. m < marks_end) w
             (λ e. with_within is-tried (b.units.state.marks u) (subst (λ (k : ℕ). b.units.state.marks k < marks_end) e s.marks))
             s.marks;
         face = turned_still.face w;
         destroyed =
             λ z.
-            turned-case (λ m. m ≤ tried) w
+            turned_case (λ m. m ≤ tried) w
             (λ e. with_tried_bare (b.units.state.marks u) (subst (λ (k : ℕ). b.units.state.marks k ≤ tried) e (s.destroyed z)))
             (s.destroyed z);
       }
@@ -105,7 +105,7 @@ module _ (b : Board) (u x : ℕ) where
   pub lawful_turned : Lawful b → Lawful (turned_up b u x)
   unfolding turned_up
   lawful_turned l =
-      lawful-still turned_still.fixed refl refl refl refl (λ w h. turned_suited w (suited_same l w h)) l.clock l
+      lawful_still turned_still.fixed refl refl refl refl (λ w h. turned_suited w (suited_same l w h)) l.clock l
 
 -- other marks for a unit
 pub marked_still : (b : Board) (u m : ℕ) → Still b (change b (marked u m))

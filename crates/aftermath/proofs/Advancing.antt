@@ -37,10 +37,10 @@ module _ (b : Board) (u : ℕ) where
     unfolding can_follow
     follow_apart e = simp e
 
-    pub follow-beside :
+    pub follow_beside :
         joined b.map (b.units.state.hex u) (b.desk.route r 0) ≡ true → can_follow b u hex r ≡ any (clear_to b u hex r) route_hexes
     unfolding can_follow
-    follow-beside e = simp e
+    follow_beside e = simp e
 
   pub some_route : (hex : ℕ) → any (can_follow b u hex) route_count ≡ true → no_route b u hex ≡ false
   unfolding no_route
@@ -51,10 +51,10 @@ module _ (b : Board) (u : ℕ) where
   route_none hex e = ap not e
 
 -- both writes are the advance's two changes
-pub both-made :
+pub both_made :
     (p : List ℕ) {q r : List ℕ} (u hex : ℕ) → q ≡ make p (placed u hex) → r ≡ make q (assigned u Role.none) → r ≡ makes p (advance_changes (board p) u hex)
 unfolding advance_changes makes
-both-made p u hex e f = f ∙ ap (λ (l : List ℕ). make l (assigned u Role.none)) e
+both_made p u hex e f = f ∙ ap (λ (l : List ℕ). make l (assigned u Role.none)) e
 
 -- who may advance has role 2
 pub closed_is : (b : Board) → reassigned b Role.advances Role.none ≡ close_changes b

@@ -24,16 +24,16 @@ use Rattle.aftermath.proofs.Losing.{short_special, spared_not, spared_owes, spec
 
 module _ (p : List ℕ) (b : Board) where
   -- units that owe, once each, pass refusals 4 and 6
-  owing-passes :
+  owing_passes :
       (before xs : List ℕ) (k : ℕ) → ((w : ℕ) → named xs w ≡ true → owes b w ≡ true)
       → ((w : ℕ) → named xs w ≡ true → named before w ≡ false) → Once xs
       → Passes p (λ v. along (loss b) and_then before xs k (λ s. v))
   unfolding along loss and_then
-  owing-passes before [] k f n o l v a q m g = g
-  owing-passes before (x ∷ xs) k f n o l v a q m g =
+  owing_passes before [] k f n o l v a q m g = g
+  owing_passes before (x ∷ xs) k f n o l v a q m g =
       pass (ap not (f x (named_here x xs x refl)))
       (pass (n x (named_here x xs x refl))
-      (owing-passes (before ++ (x ∷ [])) xs (k + 1) (λ w e. f w (named_more x xs w e))
+      (owing_passes (before ++ (x ∷ [])) xs (k + 1) (λ w e. f w (named_more x xs w e))
       (λ w e.
       named_last before x w (n w (named_more x xs w e))
       ∙ ne_eqb x w (λ z. not_both (named xs w) e (ap (named xs) (sym z) ∙ o.0)))
@@ -74,5 +74,5 @@ module _ (b : Board) where
       pass (ap not (list_fits all (omega (arith, all_long)) (omega (arith, all_long))))
       (there_passes p b all (λ w f. (sieve_passes (owes b) n w f).0) l _ a q m
       (pass (ap not (eq-eqb b.desk.battle.stage Stage.losses e))
-      (owing-passes p b [] all 1 (λ w f. (sieve_passes (owes b) n w f).1) (λ w f. named_nil w) (sieve_once (owes b) n) l _ a q m
+      (owing_passes p b [] all 1 (λ w f. (sieve_passes (owes b) n w f).1) (λ w f. named_nil w) (sieve_once (owes b) n) l _ a q m
       (pass (short_special b all all_enough ∙ all_special) g))))

@@ -11,7 +11,7 @@ use Rattle.position.specs.Board.{Board}
 use Rattle.position.specs.Crowd.{others}
 use Rattle.position.specs.Stage as Stage
 use Rattle.ruling.specs.Packed.Replies.{plainly}
-use Rattle.ruling.proofs.Bounded.{Bounded, bounded_at, bounded-each, bounded_past, bounded_ruled}
+use Rattle.ruling.proofs.Bounded.{Bounded, bounded_at, bounded_each, bounded_past, bounded_ruled}
 use Rattle.field.specs.Listed.{and_then, list_length, named}
 use Rattle.field.proofs.Bounds.{there_bounded}
 use Rattle.field.proofs.Lists.{list_in}
@@ -28,7 +28,7 @@ module _ {p l : List ℕ} (b : Board) where
       there_bounded b units _ (omega (arith, few))
       (bounded_past (not (eqb b.desk.battle.stage Stage.losses)) refl
       (λ _.
-      bounded-each (λ _. Unit {0}) and_then
+      bounded_each (λ _. Unit {0}) and_then
       (λ s x k v i f. bounded_at (not (owes b x)) refl i (λ _. bounded_at (named s x) refl i (λ _. f tt)))
       []
       units

@@ -23,15 +23,15 @@ use Rattle.aftermath.proofs.Advancing.{advance_may}
 use Rattle.aftermath.proofs.KeepAdvance.{closed}
 
 -- the units of a list have no role any more, all others have theirs
-freed-role :
+freed_role :
     (us : List ℕ) (c : Board) (w : ℕ) → w < c.units.count
     → (changes c (map (λ u. assigned u Role.none) us)).units.state.role w ≡ cond (named us w) Role.none (c.units.state.role w)
 unfolding changes named
-freed-role [] c w l = refl
-freed-role (u ∷ us) c w l =
+freed_role [] c w l = refl
+freed_role (u ∷ us) c w l =
     let d = change c (assigned u Role.none) in
     let none : ◌≡◌ {A = ℕ} (cond (named us w) Role.none 0) 0 = either (named us w) (λ e. simp e) (λ e. simp e) in
-    freed-role us d w (omega (arith, (fixed_change c (assigned u Role.none)).count))
+    freed_role us d w (omega (arith, (fixed_change c (assigned u Role.none)).count))
     ∙ same_or w u
     (λ e.
     ap (λ (x : ℕ). cond (named us w) Role.none x) (ap d.units.state.role e ∙ (assigned_none c u (omega arith)).role)
@@ -44,7 +44,7 @@ module _ (b : Board) where
   freed_all : (w : ℕ) → w < b.units.count → b.units.state.role w ≡ Role.advances → (changes b (close_changes b)).units.state.role w ≡ Role.none
   unfolding close_changes
   freed_all w l e =
-      freed-role (sieve (may_advance b) b.units.count) b w l
+      freed_role (sieve (may_advance b) b.units.count) b w l
       ∙ simp (sieve_names (may_advance b) b.units.count w l (advance_may b w e))
 
   pub closed_none : Lawful b → b.map.hexes ≤ nowhere → holders (changes b (close_changes b)) Role.advances ≡ 0

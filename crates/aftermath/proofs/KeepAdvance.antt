@@ -42,7 +42,7 @@ use Rattle.aftermath.specs.Advance.{
   shut,
   unit_checks,
 }
-use Rattle.aftermath.proofs.KeepStage.{Lessened, all_freed, lawful-then-on, lessened_freed, lessened_none, lessened_owing}
+use Rattle.aftermath.proofs.KeepStage.{Lessened, all_freed, lawful_then_on, lessened_freed, lessened_none, lessened_owing}
 
 -- a route's number is the hex, and it is not shut to unit u
 record Reached (b : Board) (u hex : ℕ) : Type 0 where
@@ -126,18 +126,18 @@ module _ {p : List ℕ} (a : Accepted p) where
           own = λ w m _ z. all_own_there b u hex r.free w m z;
         }
 
-    lawful-advance :
+    lawful_advance :
         u < (board p).units.count → (board p).desk.battle.stage ≡ Stage.advances → Room (board p) u hex
         → Lawful (changes (board p) (then_on (board p) (advance_changes (board p) u hex)))
     unfolding advance_changes changes
-    lawful-advance l e r =
+    lawful_advance l e r =
         let b = board p in
         let most = small p a in
         let o : Lessened b (change b (placed u hex)) =
         record { since = since_placed most (since_lawful a.lawful) u hex l r; had = λ w n. placed_role b u hex w }
         in
         let q = lessened_freed most o u in
-        lawful-then-on a.lawful most (λ z. omega arith) (placed u hex ∷ assigned u Role.none ∷ []) q.since
+        lawful_then_on a.lawful most (λ z. omega arith) (placed u hex ∷ assigned u Role.none ∷ []) q.since
         (λ n. absurd (n (lessened_owing q (a.lawful.stage.during.advances e).owing)))
 
     pub advance_keeps : {l : List ℕ} → Kept p l (advance_rule (board p) u hex)
@@ -159,14 +159,14 @@ module _ {p : List ℕ} (a : Accepted p) where
         kept_past a (leb 3 (others b u hex))
         (λ g.
         kept_ruled a (then_on b (advance_changes b u hex))
-        (lawful-advance (leb-false b.units.count u n) (stage_three b e) (room (leb-false b.map.hexes hex h) f g)))))))))
+        (lawful_advance (leb-false b.units.count u n) (stage_three b e) (room (leb-false b.map.hexes hex h) f g)))))))))
 
   lawful_close : (board p).desk.battle.stage ≡ Stage.advances → Lawful (changes (board p) (then_on (board p) (close_changes (board p))))
   lawful_close e =
       let b = board p in
       let most = small p a in
       let q = closed a.lawful most in
-      lawful-then-on a.lawful most (λ z. omega arith) (close_changes b) q.since
+      lawful_then_on a.lawful most (λ z. omega arith) (close_changes b) q.since
       (λ n. absurd (n (lessened_owing q (a.lawful.stage.during.advances e).owing)))
 
   pub close_keeps : {l : List ℕ} → Kept p l (close_rule (board p))

@@ -21,16 +21,16 @@ use Rattle.acceptance.specs.Accepted.{Accepted, Lawful, UnitsOk}
 use Rattle.acceptance.specs.Asked.{AloneOk}
 use Rattle.acceptance.proofs.Asking.{alone_of, roles_of, stacks_of, units_asked}
 use Rattle.acceptance.proofs.Carries.{Fixed, changes_then, fixed_change, routes_ok_by}
-use Rattle.acceptance.proofs.Fates.{Fated, Same, alone-fated, alone_same, assigned_else, assigned_here, fated_same, roles-passed, same_trans, same_fated, stacks_fewer}
+use Rattle.acceptance.proofs.Fates.{Fated, Same, alone_fated, alone_same, assigned_else, assigned_here, fated_same, roles_passed, same_trans, same_fated, stacks_fewer}
 use Rattle.acceptance.proofs.Owings.{holders_none, holders_nought}
 use Rattle.acceptance.proofs.Since.{Since}
 use Rattle.acceptance.proofs.Stills.{fixed_refl, fixed_trans}
-use Rattle.ruling.proofs.Kept.{Kept, kept-along, kept_past, kept_ruled}
+use Rattle.ruling.proofs.Kept.{Kept, kept_along, kept_past, kept_ruled}
 use Rattle.field.specs.Listed.{all_there, list_length, named, no_unit, sieve}
 use Rattle.field.proofs.Lists.{map_last, sieve_hit, sieve_miss}
 use Rattle.aftermath.specs.Losses.{loss, loss_changes, loss_checks, losses, losses_rule, owes, short, spared}
 use Rattle.aftermath.specs.Stage.{reassigned, then_on}
-use Rattle.aftermath.proofs.KeepStage.{Lessened, all_destroyed, lawful-then-on, lessened_none}
+use Rattle.aftermath.proofs.KeepStage.{Lessened, all_destroyed, lawful_then_on, lessened_none}
 use Rattle.aftermath.proofs.Losing.{survivors}
 
 -- d is c, but the units below n that pass the test have role 2
@@ -129,7 +129,7 @@ module _
       lot w l
       (λ e f.
       let h = was.duty.held (λ z. omega arith) in
-      alone-fated o.fixed 2 w f (omega arith) (λ _. h.tried) (λ _. h.mapped) was)
+      alone_fated o.fixed 2 w f (omega arith) (λ _. h.tried) (λ _. h.mapped) was)
       (λ _ f. alone_same o.fixed w f was)
 
   stays : (w : ℕ) → w < c.units.count → d.units.state.hex w ≡ c.units.state.hex w
@@ -145,7 +145,7 @@ module _
 
   units_promoted : UnitsOk d
   units_promoted =
-      units_asked alone (stacks_fewer o.fixed most (λ w l _. stays w l) (stacks_of u most)) (roles-passed o.fixed had (roles_of u))
+      units_asked alone (stacks_fewer o.fixed most (λ w l _. stays w l) (stacks_of u most)) (roles_passed o.fixed had (roles_of u))
 
   owing_none : holders d Role.owes ≡ 0
   owing_none =
@@ -180,10 +180,10 @@ module _ {b : Board} (l : Lawful b) (most : b.map.hexes ≤ nowhere) (e : b.desk
       holders_none b Role.advances w (l.stage.during.losses e).advancing (omega (arith, less.since.fixed.count))
       (sym (less.had w (λ n. omega arith)) ∙ z)
 
-  all-promoted :
+  all_promoted :
       Promoted struck (changes struck (reassigned struck Role.owes Role.advances)) (λ u. eqb (struck.units.state.role u) Role.owes) struck.units.count
   unfolding reassigned
-  all-promoted = promoted struck (λ u. eqb (struck.units.state.role u) Role.owes) struck.units.count
+  all_promoted = promoted struck (λ u. eqb (struck.units.state.role u) Role.owes) struck.units.count
 
   few : struck.map.hexes ≤ nowhere
   few = rw less.since.fixed.map most
@@ -191,14 +191,14 @@ module _ {b : Board} (l : Lawful b) (most : b.map.hexes ≤ nowhere) (e : b.desk
   -- the survivors owe no more
   pub since_losses : Since b (changes b (loss_changes b units))
   since_losses =
-      subst (λ (c : Board). Since b c) (sym after) (since_promoted all-promoted less.since.units few none_advances less.since)
+      subst (λ (c : Board). Since b c) (sym after) (since_promoted all_promoted less.since.units few none_advances less.since)
 
   pub losses_owing : holders (changes b (loss_changes b units)) Role.owes ≡ 0
-  losses_owing = ap (λ (c : Board). holders c Role.owes) after ∙ owing_none all-promoted less.since.units few none_advances
+  losses_owing = ap (λ (c : Board). holders c Role.owes) after ∙ owing_none all_promoted less.since.units few none_advances
 
   lawful_losses : Lawful (changes b (then_on b (loss_changes b units)))
   lawful_losses =
-      lawful-then-on l most (λ z. omega arith) (loss_changes b units) since_losses (λ n. absurd (n losses_owing))
+      lawful_then_on l most (λ z. omega arith) (loss_changes b units) since_losses (λ n. absurd (n losses_owing))
 
 module _ {p : List ℕ} (a : Accepted p) (units : List ℕ) where
   pub losses_keeps : {l : List ℕ} → Kept p l (losses_rule (board p) units)
@@ -207,11 +207,11 @@ module _ {p : List ℕ} (a : Accepted p) (units : List ℕ) where
       let b = board p in
       kept_past a (not (list_length units))
       (λ _.
-      kept-along a (λ _. Unit {0}) (λ s x k v _ f. kept_past a (leb b.units.count x) (λ _. f tt)) 0 tt units 1 _
+      kept_along a (λ _. Unit {0}) (λ s x k v _ f. kept_past a (leb b.units.count x) (λ _. f tt)) 0 tt units 1 _
       (λ _ _.
       kept_past a (not (eqb b.desk.battle.stage Stage.losses))
       (λ e.
-      kept-along a (λ _. Unit {0})
+      kept_along a (λ _. Unit {0})
       (λ s x k v _ f. kept_past a (not (owes b x)) (λ _. kept_past a (named s x) (λ _. f tt)))
       []
       tt

@@ -18,7 +18,7 @@ use Rattle.acceptance.specs.Accepted.{Lawful}
 use Rattle.acceptance.proofs.Carries.{changes_then}
 use Rattle.acceptance.proofs.Owings.{holders_none, holders_nought}
 use Rattle.acceptance.proofs.Routings.{routes_none}
-use Rattle.acceptance.proofs.Since.{Since, lawful-since, since_destroyed, since_freed, since_lawful, since_staged, since_unrouted}
+use Rattle.acceptance.proofs.Since.{Since, lawful_since, since_destroyed, since_freed, since_lawful, since_staged, since_unrouted}
 use Rattle.acceptance.proofs.Stages.{stage_advances, stage_quiet}
 use Rattle.aftermath.specs.Stage.{passes_on, then_on}
 
@@ -88,22 +88,22 @@ module _ {b c : Board} (l : Lawful b) (most : b.map.hexes ≤ nowhere) (combat :
   passed_quiet : holders c Role.owes ≡ 0 → holders c Role.advances ≡ 0 → Lawful (change (change c (staged Stage.quiet 0 0)) unrouted)
   unfolding change holders
   passed_quiet none e =
-      lawful-since l (since_unrouted most (since_staged most s 0 0 0)) (omega arith) (λ n. absurd (n refl))
+      lawful_since l (since_unrouted most (since_staged most s 0 0 0)) (omega arith) (λ n. absurd (n refl))
       (stage_quiet refl refl refl (record { owing = none; advancing = e; routes = routes_none (change c (staged Stage.quiet 0 0)) }))
 
   passed_advances : holders c Role.owes ≡ 0 → (holders c Role.advances ≡ 0 → ⊥) → Lawful (change c (staged Stage.advances 0 0))
   unfolding change holders
   passed_advances none n =
-      lawful-since l (since_staged most s 3 0 0) (omega arith) (λ _. l.clock.combat combat)
+      lawful_since l (since_staged most s 3 0 0) (omega arith) (λ _. l.clock.combat combat)
       (stage_advances refl refl refl (record { advancing = omega arith; owing = none }))
 
   pub lawful_passed : ((holders c Role.owes ≡ 0 → ⊥) → Lawful c) → Lawful (changes c (passes_on c))
   lawful_passed later = passed_by Lawful c passed_quiet passed_advances later
 
 -- a call's own changes, and then the stage that follows
-pub lawful-then-on :
+pub lawful_then_on :
     {b : Board} → Lawful b → b.map.hexes ≤ nowhere → (b.desk.battle.stage ≡ Stage.quiet → ⊥) → (xs : List Change) → Since b (changes b xs)
     → ((holders (changes b xs) Role.owes ≡ 0 → ⊥) → Lawful (changes b xs)) → Lawful (changes b (then_on b xs))
 unfolding then_on
-lawful-then-on {b} l most combat xs s later =
+lawful_then_on {b} l most combat xs s later =
     rw (changes_then xs (passes_on (changes b xs)) b) (lawful_passed l most combat s later)

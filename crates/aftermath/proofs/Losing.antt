@@ -20,13 +20,13 @@ use Rattle.position.specs.Tally.{any}
 use Rattle.position.specs.Role as Role
 use Rattle.acceptance.proofs.Carries.{fixed_change}
 use Rattle.acceptance.proofs.Fates.{destroyed_else, destroyed_here}
-use Rattle.ruling.proofs.Going.{Gone, gone-more}
+use Rattle.ruling.proofs.Going.{Gone, gone_more}
 use Rattle.ruling.proofs.Meets.{pass, stop}
 use Rattle.ruling.specs.Judged.{Passes, Stops}
 use Rattle.ruling.specs.Verdict.{Verdict}
 use Rattle.field.proofs.Lists.{sieve_same, take_more}
 use Rattle.field.specs.Listed.{and_then, named, sieve}
-use Rattle.line.proofs.Filling.{filled-list}
+use Rattle.line.proofs.Filling.{filled_list}
 use Rattle.line.specs.Line.{Filled, fighter_of, printed_total, total_by}
 use Rattle.line.specs.declared.Fighter.{Fighter}
 use Rattle.aftermath.specs.Losses.{
@@ -90,10 +90,10 @@ module _ (b : Board) (units : List ℕ) where
     unfolding passed_over
     passed_special_alone f = simp (e, f)
 
-    pub passed-special :
+    pub passed_special :
         any (other_type b units) b.units.count ≡ true → passed_over b units ≡ any (spared_special b units) b.units.count
     unfolding passed_over
-    passed-special f = simp (e, f)
+    passed_special f = simp (e, f)
 
   pub short_need : enough b units ≡ false → short b units ≡ true
   unfolding short
@@ -128,12 +128,12 @@ module _ (p : List ℕ) (b : Board) (before : List ℕ) (u k : ℕ) where
     passes_loss f = (λ l v a q m w. pass (ap not e) (pass f w), tt)
 
 -- tests that know the units named before, passed up to place i
-pub gone-behind :
+pub gone_behind :
     {p : List ℕ} {test : List ℕ → ℕ → ℕ → Verdict → Verdict} {units : List ℕ} {i : ℕ}
     → Gone p test and_then [] units i (take i units) → i < length units → Passes p (test (take i units) (get_or units i 0) (i + 1))
     → Gone p test and_then [] units (i + 1) (take (i + 1) units)
 unfolding and_then
-gone-behind {units = units} {i} o l t = rw (take_more units i l) (gone-more o l t)
+gone_behind {units = units} {i} o l t = rw (take_more units i l) (gone_more o l t)
 
 -- the printed total of a list is that of its line
 pub line_total : (b : Board) (us : List ℕ) → shown_total b us ≡ printed_total (map (loss_fighter b) us)
@@ -146,15 +146,15 @@ pub loss_place : (b : Board) (units : List ℕ) (i : ℕ) {s : ℕ} → s ≡ b.
 unfolding loss_at loss_fighter
 loss_place b units i e = ap (λ (k : ℕ). fighter_of (get_or units i 0) k 0) e
 
-pub listed-total :
+pub listed_total :
     (b : Board) (units : List ℕ) {l : List Fighter} {r : ℕ} → length units ≤ 18 → Filled (loss_at b units) (length units) l
     → r ≡ printed_total (take (length units - 0) (drop 0 l)) → r ≡ shown_total b units
 unfolding loss_at
-listed-total b units {l} k f e =
+listed_total b units {l} k f e =
     let z : length units - 0 ≡ length units = omega arith in
     e
     ∙ ap (λ (n : ℕ). printed_total (take n l)) z
-    ∙ ap printed_total (filled-list (loss_fighter b) units (omega arith) f refl (λ i j. refl))
+    ∙ ap printed_total (filled_list (loss_fighter b) units (omega arith) f refl (λ i j. refl))
     ∙ sym (line_total b units)
 
 -- a whole list, named
@@ -162,15 +162,15 @@ pub named_whole : (units : List ℕ) (u n : ℕ) {r : Bool} → r ≡ named (tak
 named_whole units u n e l = e ∙ ap (λ (k : List ℕ). named k u) (take_all n units l)
 
 -- of the units that owed, those that the list spares owe still
-pub owes-after :
+pub owes_after :
     (units : List ℕ) (b : Board) (w : ℕ) → w < b.units.count
     → eqb ((changes b (map destroyed units)).units.state.role w) Role.owes ≡ (eqb (b.units.state.role w) Role.owes && not (named units w))
 unfolding changes named
-owes-after [] b w l = simp and-true
-owes-after (u ∷ us) b w l =
+owes_after [] b w l = simp and-true
+owes_after (u ∷ us) b w l =
     let c = change b (destroyed u) in
     let k : w < c.units.count = omega (arith, (fixed_change b (destroyed u)).count) in
-    owes-after us c w k
+    owes_after us c w k
     ∙ same_or w u
     (λ e.
     let m : u < b.units.count = omega arith in
@@ -193,14 +193,14 @@ module _ (b : Board) (units : List ℕ) where
       let t : ℕ → Bool = λ u. eqb (c.units.state.role u) Role.owes in
       ap (map (λ u. assigned u Role.advances))
       (ap (sieve t) (changes_count (map destroyed units) b)
-      ∙ sieve_same t (spared b units) b.units.count (λ k l. owes-after units b k l))
+      ∙ sieve_same t (spared b units) b.units.count (λ k l. owes_after units b k l))
 
 -- the units of the list are destroyed, and then the survivors get role 2
-pub lost-then :
+pub lost_then :
     {p q r : List ℕ} → Shaped p → (units : List ℕ) → q ≡ makes p (map destroyed units) → r ≡ makes q (reassigned (board q) Role.owes Role.advances)
     → r ≡ makes p (loss_changes (board p) units)
 unfolding loss_changes
-lost-then {p} s units e f =
+lost_then {p} s units e f =
     let xs = map destroyed units in
     let ys = map (λ u. assigned u Role.advances) (sieve (spared (board p) units) (board p).units.count) in
     f

@@ -83,20 +83,20 @@ module _ {p : List ℕ} {v : View} {from to : ℕ} where
           ahead = λ w m. o.ahead w (omega arith);
         })
 
-    pub renewing-more :
+    pub renewing_more :
         r ≡ makes q (cond (eqb ((board q).units.state.role u) from) (assigned u to ∷ []) []) → Renewing p v from to (u + 1) r
     unfolding makes
-    renewing-more f =
+    renewing_more f =
         let z = ap (λ (k : ℕ). eqb k from) (o.ahead u (omega arith)) in
         either (eqb ((board p).units.state.role u) from)
         (λ e. hit e (simp (z ∙ e) at f))
         (λ e. miss e (simp (z ∙ e) at f))
 
-  pub renewing-all :
+  pub renewing_all :
       {u : ℕ} {q : List ℕ} → Renewing p v from to u q → v.count ≤ u → v.count ≡ (board p).units.count
       → q ≡ makes p (reassigned (board p) from to)
   unfolding reassigned
-  renewing-all {u} o l e =
+  renewing_all {u} o l e =
       let z : u ≡ (board p).units.count = omega (arith, o.most) in
       o.made
       ∙ ap (λ (n : ℕ). makes p (map (λ w. assigned w to) (sieve (λ w. eqb ((board p).units.state.role w) from) n))) z
@@ -107,11 +107,11 @@ module _ (p : List ℕ) where
   unfolding passes_on makes
   on_later n = simp (ne_eqb (holders (board p) Role.owes) 0 n)
 
-  pub on-advances :
+  pub on_advances :
       {q : List ℕ} → holders (board p) Role.owes ≡ 0 → (holders (board p) Role.advances ≡ 0 → ⊥) → q ≡ make p (staged Stage.advances 0 0)
       → q ≡ makes p (passes_on (board p))
   unfolding passes_on makes
-  on-advances e n f = simp (eq-eqb (holders (board p) Role.owes) 0 e, ne_eqb (holders (board p) Role.advances) 0 n) f
+  on_advances e n f = simp (eq-eqb (holders (board p) Role.owes) 0 e, ne_eqb (holders (board p) Role.advances) 0 n) f
 
   pub on_quiet :
       {q r : List ℕ} → holders (board p) Role.owes ≡ 0 → holders (board p) Role.advances ≡ 0 → q ≡ make p (staged Stage.quiet 0 0) → r ≡ make q unrouted
@@ -122,11 +122,11 @@ module _ (p : List ℕ) where
       (h ∙ ap (λ (l : List ℕ). make l unrouted) f)
 
 -- a call's own changes, and then the stage that follows
-pub then-on :
+pub then_on_lem :
     {p q r : List ℕ} → Shaped p → (xs : List Change) → q ≡ makes p xs → r ≡ makes q (passes_on (board q))
     → r ≡ makes p (then_on (board p) xs)
 unfolding then_on
-then-on {p} s xs e f =
+then_on_lem {p} s xs e f =
     f
     ∙ ap (λ (l : List ℕ). makes l (passes_on (board l))) e
     ∙ ap (λ (b : Board). makes (makes p xs) (passes_on b)) (board_makes s xs)

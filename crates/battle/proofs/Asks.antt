@@ -15,7 +15,7 @@ use Rattle.position.specs.Kind.{may_attack}
 use Rattle.position.specs.Tally.{any}
 use Rattle.position.specs.Stage as Stage
 use Rattle.position.specs.Layout.{die_faces}
-use Rattle.ruling.proofs.Going.{Gone, gone-more}
+use Rattle.ruling.proofs.Going.{Gone, gone_more}
 use Rattle.ruling.proofs.Meets.{pass, stop}
 use Rattle.ruling.specs.Judged.{Passes, Stops}
 use Rattle.field.proofs.Lists.{take_more}
@@ -110,14 +110,14 @@ pub record Asked (p : List ℕ) (target : ℕ) (units : List ℕ) (i : ℕ) : Ty
   pub gone : Gone p (attacker (board p) target) and_then [] units i (take i units)
   pub able : (j : ℕ) → j < i → Faces (board p) target (get_or units j 0)
 
-pub asked-more :
+pub asked_more :
     {p : List ℕ} {target : ℕ} {units : List ℕ} {i : ℕ} → Asked p target units i → i < length units
     → Passes p (attacker (board p) target (take i units) (get_or units i 0) (i + 1)) × Faces (board p) target (get_or units i 0)
     → Asked p target units (i + 1)
 unfolding and_then
-asked-more {p} {target} {units} {i} o l t =
+asked_more {p} {target} {units} {i} o l t =
     record {
-      gone = rw (take_more units i l) (gone-more o.gone l t.0);
+      gone = rw (take_more units i l) (gone_more o.gone l t.0);
       able = below_more (λ j. Faces (board p) target (get_or units j 0)) i o.able t.1;
     }
 

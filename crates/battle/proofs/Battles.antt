@@ -34,7 +34,7 @@ use Rattle.field.proofs.Lists.{sieve_long}
 use Rattle.ruling.proofs.Secrets.{each_by}
 use Rattle.field.proofs.Named.{each_then, each_map, named_each, named_then, sieve_each, sieve_names, once_most}
 use Rattle.battle.proofs.Onces.{once_each_lem, once_once}
-use Rattle.battle.proofs.Striking.{Present, marked_all, routed_all, Footing, routes-all, Struck, struck}
+use Rattle.battle.proofs.Striking.{Present, marked_all, routed_all, Footing, routes_all, Struck, struck}
 use Rattle.battle.proofs.Ring.{joined_one}
 use Rattle.results.proofs.Upshots.{Sensible, NeedOk}
 use Rattle.battle.proofs.LawfulAfter.{Attacker, Ready, attacker_of, attacker_off, Shown, Sides, Desked, lawful_after}
@@ -238,7 +238,7 @@ module _ {b : Board} {target : ℕ} {units : List ℕ} (g : Ready b target units
     routes_last =
         let w = routes_fit o in
         routes_ok_by fixed_routed (ap (λ (x : Desk). x.route) desk_settled)
-        (routes-all b (routes_written b target units o) 0 (omega (arith, w.few)) w.footing marked shown.still.fixed
+        (routes_all b (routes_written b target units o) 0 (omega (arith, w.few)) w.footing marked shown.still.fixed
         (λ i l. absurd (omega arith))
         shown.lawful.routes)
 

@@ -11,7 +11,7 @@ use Rattle.acceptance.specs.Accepted.{Accepted}
 use Rattle.line.specs.Line.{fighting_total}
 use Rattle.ruling.specs.Verdict.{judged}
 use Rattle.ruling.specs.Packed.Replies.{of_battle}
-use Rattle.ruling.proofs.Bounded.{Bounded, bounded_at, bounded-each, bounded_past, bounded-seen}
+use Rattle.ruling.proofs.Bounded.{Bounded, bounded_at, bounded_each, bounded_past, bounded_seen}
 use Rattle.field.specs.Listed.{and_then, list_length, named}
 use Rattle.field.specs.Phasing.{not_phasing}
 use Rattle.field.proofs.Bounds.{there_bounded}
@@ -59,7 +59,7 @@ module _ {p : List ℕ} (a : Accepted p) (target : ℕ) (units : List ℕ) where
       (λ _.
       bounded_past (no_target b target) refl
       (λ _.
-      bounded-each (λ _. Unit {0}) and_then
+      bounded_each (λ _. Unit {0}) and_then
       (λ s x k v i f.
       bounded_at (not_phasing b x) refl i
       (λ _.
@@ -71,5 +71,5 @@ module _ {p : List ℕ} (a : Accepted p) (target : ℕ) (units : List ℕ) where
       _
       (omega (arith, few))
       (λ _ _.
-      bounded-seen (participants b target units) (ruled b target units die)
+      bounded_seen (participants b target units) (ruled b target units die)
       (λ _ ss. (refl, column_small ss, code_small die d ss))))))))))

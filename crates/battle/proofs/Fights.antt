@@ -28,7 +28,7 @@ use Rattle.ruling.specs.Values.{fought_with}
 use Rattle.ruling.specs.Verdict.{Met, Outcome, judged, outcome, turned_all}
 use Rattle.ruling.specs.Verdict.Ruling.{accepted}
 use Rattle.walk.proofs.Marks.{le_or}
-use Rattle.line.proofs.Filling.{filled-list}
+use Rattle.line.proofs.Filling.{filled_list}
 use Rattle.line.specs.Line.{Filled, fighter_of, fighting_total, most, places, printed_total}
 use Rattle.line.specs.declared.Fighter.{Fighter}
 use Rattle.field.proofs.Lists.{Passing, map_at_lem, map_long, sieve_at, sieve_long}
@@ -127,24 +127,24 @@ module _ {b : Board} (l : Lawful b) (m : b.map.hexes ≤ 4096) where
   defender_stands target u k d = record { nation = stand_nation u d.counted; mapped = rw d.there k }
 
 -- every number of two lists, one behind the other
-pub either-part :
+pub either_part :
     (P : ℕ → Type 0) (xs ys : List ℕ) → ((i : ℕ) → i < length xs → P (get_or xs i 0)) → ((i : ℕ) → i < length ys → P (get_or ys i 0))
     → (i : ℕ) → i < length xs + length ys → P (get_or (xs ++ ys) i 0)
-either-part P xs ys f g i l =
+either_part P xs ys f g i l =
     le_or (length xs) i
     (λ k.
     let e : i ≡ length xs + (i - length xs) = omega arith in
     rw (ap (λ (j : ℕ). get_or (xs ++ ys) j 0) e ∙ get_or-append-add xs ys (i - length xs) 0) (g (i - length xs) (omega arith)))
     (λ k. rw (get_or-append xs ys 0 i k) (f i k))
 
-pub all-standing :
+pub all_standing :
     {b : Board} {target : ℕ} {units who : List ℕ} {n long : ℕ} → Lawful b → b.map.hexes ≤ 4096 → Engaged b target units long
     → Musters b target units who n → AllStanding b who n
 unfolding participants
-all-standing {b} {target} {units} {who} {n} l m e w i k =
+all_standing {b} {target} {units} {who} {n} l m e w i k =
     let z : get_or who i 0 ≡ get_or (units ++ defenders b target) i 0 = sym (get_or-take n who i 0 k) ∙ ap (λ (x : List ℕ). get_or x i 0) w.held in
     rw z
-    (either-part (Standing b) units (defenders b target)
+    (either_part (Standing b) units (defenders b target)
     (λ j h. attacker_stands l m target (get_or units j 0) (e.range.counted j h) (e.able j h))
     (λ j h. defender_stands l m target (get_or (defenders b target) j 0) e.range.aimed (defender_at b target j h))
     i
@@ -183,23 +183,23 @@ unfoldable pub fighter_by : Board → (ℕ → ℕ) → ℕ → Fighter
 fighter_by b s u = fighter b u (s u)
 
 -- a place of the arrays is the fighter of its unit
-drawn-place :
+drawn_place :
     (b : Board) (s : ℕ → ℕ) (who printed fighting : List ℕ) (i : ℕ) → get_or printed i 0 ≡ s (get_or who i 0)
     → get_or fighting i 0 ≡ strength_of b (get_or who i 0) (get_or printed i 0) → drawn who printed fighting i ≡ fighter_by b s (get_or who i 0)
 unfolding drawn fighter_by fighter
-drawn-place b s who printed fighting i e f =
+drawn_place b s who printed fighting i e f =
     ap₂ (fighter_of (get_or who i 0)) e (f ∙ ap (strength_of b (get_or who i 0)) e)
 
 -- and so the line is that of the participants
-drawn-list :
+drawn_list :
     {p : List ℕ} {target : ℕ} {units who printed fighting : List ℕ} {n : ℕ} {fs : List Fighter} → Musters (board p) target units who n
     → Prints p who n printed → ArmsAll (board p) who n printed fighting → Filled (drawn who printed fighting) n fs
     → take n fs ≡ map (fighter_by (board p) (strength p)) (participants (board p) target units)
-drawn-list {p} {target} {units} {who} {printed} {fighting} {n} {fs} w q a d =
+drawn_list {p} {target} {units} {who} {printed} {fighting} {n} {fs} w q a d =
     let b = board p in
     let g = fighter_by b (strength p) in
     let h : length (take n who) ≡ n = length-take-le n who (omega (arith, w.size, w.most)) in
-    filled-list g (take n who) w.most d h
+    filled_list g (take n who) w.most d h
     (λ i j.
     let e : get_or printed i 0 ≡ strength p (get_or who i 0) =
     sym (get_or-take n printed i 0 j)
@@ -207,7 +207,7 @@ drawn-list {p} {target} {units} {who} {printed} {fighting} {n} {fs} w q a d =
     ∙ map_at_lem (strength p) (take n who) i (omega arith)
     ∙ ap (strength p) (get_or-take n who i 0 j)
     in
-    drawn-place b (strength p) who printed fighting i e (a.each i j) ∙ sym (ap g (get_or-take n who i 0 j)))
+    drawn_place b (strength p) who printed fighting i e (a.each i j) ∙ sym (ap g (get_or-take n who i 0 j)))
     ∙ ap (map g) w.held
 
 -- the two sides of the line
@@ -315,18 +315,18 @@ sides {p} {target} {units} {who} {printed} {fighting} {n} {fs} w q a d =
     let b = board p in
     let ds = defenders b target in
     let g = fighter_by b (strength p) in
-    let e = drawn-list w q a d in
+    let e = drawn_list w q a d in
     record {
       attackers = first_part g units ds fs n d.size w.most w.long e ∙ sym (attack_line_lem b (strength p) target units);
       defenders = second_part g units ds fs n d.size w.most w.long e ∙ sym (defence_line_lem b (strength p) target units);
     }
 
 -- the participants, as they are lent from the array that the units of the line are read back into
-pub lent-all :
+pub lent_all :
     {b : Board} {target : ℕ} {units who all : List ℕ} {n : ℕ} {fs : List Fighter} (printed fighting : List ℕ) → Musters b target units who n
     → Filled (drawn who printed fighting) n fs → Names fs n all → take (n - 0) (drop 0 all) ≡ participants b target units
 unfolding drawn
-lent-all {who = who} {all = all} {n = n} printed fighting w d a =
+lent_all {who = who} {all = all} {n = n} printed fighting w d a =
     let e : n - 0 ≡ n = omega arith in
     let h : length (take n who) ≡ n = length-take-le n who (omega (arith, w.size, w.most)) in
     let k : length (take n all) ≡ n = length-take-le n all (omega (arith, a.size, w.most)) in

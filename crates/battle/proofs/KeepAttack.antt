@@ -19,7 +19,7 @@ use Rattle.acceptance.specs.Accepted.{Accepted, Lawful}
 use Rattle.ruling.specs.Verdict.{turned_all}
 use Rattle.ruling.specs.Secret.{Each}
 use Rattle.ruling.proofs.Kept.{Kept, kept_past, kept_ruled}
-use Rattle.ruling.proofs.Turning.{uncovered, kept_seen, kept-each}
+use Rattle.ruling.proofs.Turning.{uncovered, kept_seen, kept_each}
 use Rattle.field.specs.Scene.{scene, force_in}
 use Rattle.field.specs.Phasing.{not_phasing}
 use Rattle.field.specs.Zone.{stands_on, enemy_on, holds_enemy}
@@ -37,7 +37,7 @@ use Rattle.battle.specs.Battle.{column_of, code_of, need_for, ruled, battle, att
 use Rattle.ruling.proofs.Secrets.{each_by}
 use Rattle.odds.proofs.Columns.{last_small}
 use Rattle.results.proofs.Upshots.{sensible, NeedOk, need_ok}
-use Rattle.battle.proofs.Totals.{attack-total, defence-total}
+use Rattle.battle.proofs.Totals.{attack_total, defence_total}
 use Rattle.battle.proofs.LawfulAfter.{Held, Ready, crowd_there, crowd_some}
 use Rattle.battle.proofs.Battles.{defenders_each, defenders_long, stands_is, attackers_below, lawful_battle}
 use Rattle.clock.specs.Phase as Phase
@@ -127,14 +127,14 @@ module _ {p : List ℕ} (a : Accepted p) {target : ℕ} {units : List ℕ} (g : 
 
   attack_in : In 1 (printed_total (attack_line (board p) units told)) 1080
   attack_in =
-      let t = attack-total (board p) (strength p) target units (each_by a.strengths units (attackers_below g)) in
+      let t = attack_total (board p) (strength p) target units (each_by a.strengths units (attackers_below g)) in
       record { low = omega (arith, t.low, g.some); high = omega (arith, t.high, g.many) }
 
   defence_in : In 1 (printed_total (defence_line (board p) target units told)) 1080
   defence_in =
       let b = board p in
       let ds = defenders b target in
-      let t = defence-total b (strength p) target units (each_by (λ w h. a.strengths w h.0) ds (defenders_each b target)) in
+      let t = defence_total b (strength p) target units (each_by (λ w h. a.strengths w h.0) ds (defenders_each b target)) in
       let e = defenders_long b target in
       record { low = omega (arith, t.low, crowd_some g); high = omega (arith, t.high, crowd_there g) }
 
@@ -174,7 +174,7 @@ module _ {p : List ℕ} (a : Accepted p) (target : ℕ) (units : List ℕ) (die 
       (λ t.
       kept_past a (not (die_fits die))
       (λ d.
-      kept-each (λ u. u < b.units.count) (λ s x. s)
+      kept_each (λ u. u < b.units.count) (λ s x. s)
       (λ s x k v f. kept_past a (leb b.units.count x) (λ e. f (leb-false b.units.count x e)))
       0
       units
@@ -185,7 +185,7 @@ module _ {p : List ℕ} (a : Accepted p) (target : ℕ) (units : List ℕ) (die 
       (λ w.
       kept_past a (no_target b target)
       (λ h.
-      kept-each (Fit b target) and_then
+      kept_each (Fit b target) and_then
       (λ s x k v f.
       kept_past a (not_phasing b x)
       (λ e.

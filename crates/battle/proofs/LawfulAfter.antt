@@ -20,10 +20,10 @@ use Rattle.acceptance.specs.Accepted.{UnitsOk, DuringOk, StageOk, RoutesOk, Lawf
 use Rattle.acceptance.specs.Asked.{AloneOk, StacksOk, OneForce, RolesOk}
 use Rattle.acceptance.proofs.Carries.{Fixed, force_by, routes_by}
 use Rattle.acceptance.proofs.Asking.{units_asked, alone_of, stacks_of}
-use Rattle.acceptance.proofs.Since.{lawful-since}
-use Rattle.acceptance.proofs.Owings.{owing-most, owing_some, holders_nought, holders_pos, holders_none}
+use Rattle.acceptance.proofs.Since.{lawful_since}
+use Rattle.acceptance.proofs.Owings.{owing_most, owing_some, holders_nought, holders_pos, holders_none}
 use Rattle.acceptance.proofs.Stills.{fixed_trans, Still}
-use Rattle.acceptance.proofs.Fates.{Same, Fated, alone_same, alone-fated, stacks_fewer}
+use Rattle.acceptance.proofs.Fates.{Same, Fated, alone_same, alone_fated, stacks_fewer}
 use Rattle.ruling.specs.Secret.{Each}
 use Rattle.position.specs.Ground.{bearing}
 use Rattle.position.proofs.Bearings.{bearing_below}
@@ -161,11 +161,11 @@ module _
       let was = alone_of q.lawful.units w k in
       lot w n
       (λ e f.
-      alone-fated a.fixed o.attackers w f z.attackers (λ _. q.attackers w e)
+      alone_fated a.fixed o.attackers w f z.attackers (λ _. q.attackers w e)
       (λ _ x. (attacker_of g w e).mapped (sym (hex_shown w) ∙ x))
       was)
       (λ e f.
-      alone-fated a.fixed o.defenders w f z.defenders (λ _. q.defenders w n e)
+      alone_fated a.fixed o.defenders w f z.defenders (λ _. q.defenders w n e)
       (λ _ x. g.aimed (sym e ∙ sym (hex_shown w) ∙ x))
       was)
       (λ e. alone_same a.fixed w e was)
@@ -265,9 +265,9 @@ module _
       omega (arith, holders_is c r, crowd_is b target, ap (tally (equals b.units.state.hex target)) all_fixed.count, crowd_there g))
 
   -- where nobody is destroyed, the hexes of those that owe: the target, or hexes beside it
-  hex-after :
+  hex_after :
       (w : ℕ) → w < b.units.count → (o.attackers ≡ 0 → ⊥) → (o.defenders ≡ 0 → ⊥) → c.units.state.hex w ≡ b.units.state.hex w
-  hex-after w l x y =
+  hex_after w l x y =
       lot w l (λ _ f. f.stays x) (λ _ f. f.stays y) (λ f. f.hex) ∙ hex_shown w
 
   owing_six : o.attackers + o.defenders ≡ 3 → owing_hexes c ≤ 6
@@ -280,18 +280,18 @@ module _
       (λ i.
       let joins : (w : ℕ) → w < c.units.count → c.units.state.role w ≡ Role.owes → joined b.map (c.units.state.hex w) target ≡ true =
       λ w l r.
-      ap (λ (h : ℕ). joined b.map h target) (hex-after w (below l) x y)
+      ap (λ (h : ℕ). joined b.map h target) (hex_after w (below l) x y)
       ∙ side 1 w (below l) (λ k. omega arith) r (λ _ j. (attacker_of g w j).beside) (λ j _. absurd (omega arith))
       in
-      owing-most c (λ h. bearing b.map h target) 6
+      owing_most c (λ h. bearing b.map h target) 6
       (λ w l r. bearing_below b.map (c.units.state.hex w) target (joins w l r))
       (λ u w l k r s j. joined_one b.map target (c.units.state.hex u) (c.units.state.hex w) (joins u l r) (joins w k s) j))
       (λ n.
       let there : (w : ℕ) → w < c.units.count → c.units.state.role w ≡ Role.owes → c.units.state.hex w ≡ target =
       λ w l r.
-      hex-after w (below l) x y ∙ side 1 w (below l) (λ k. omega arith) r (λ j _. absurd (n j)) (λ _ j. j)
+      hex_after w (below l) x y ∙ side 1 w (below l) (λ k. omega arith) r (λ j _. absurd (n j)) (λ _ j. j)
       in
-      owing-most c (λ h. 0) 6 (λ w l r. omega arith) (λ u w l k r s j. there u l r ∙ sym (there w k s)))
+      owing_most c (λ h. 0) 6 (λ w l r. omega arith) (λ u w l k r s j. there u l r ∙ sym (there w k s)))
 
   owing_one : o.attackers + o.defenders ≡ 3 → 1 ≤ owing_hexes c
   owing_one e =
@@ -349,7 +349,7 @@ module _
 
     pub lawful_after : Lawful c
     lawful_after =
-        lawful-since g.lawful (record { fixed = all_fixed; clock = d.clock; units = units_after; routes = d.routes })
+        lawful_since g.lawful (record { fixed = all_fixed; clock = d.clock; units = units_after; routes = d.routes })
         (omega (arith, d.stage, z.stage))
         (λ _. g.phase)
         stage_after

@@ -41,10 +41,10 @@ pub record Enlisting (units who : List ℕ) (i : ℕ) : Type 0 where
   pub size : length who ≡ places
   pub held : take i who ≡ take i units
 
-pub enlist-more :
+pub enlist_more :
     {units who : List ℕ} {i : ℕ} → length units ≤ 18 → Enlisting units who i → i < length units
     → Enlisting units (set who i (get_or units i 0)) (i + 1)
-enlist-more {units} {who} {i} m o l =
+enlist_more {units} {who} {i} m o l =
     record {
       most = omega arith;
       size = simp length-set o.size;
@@ -77,10 +77,10 @@ module _ {t : ℕ → Bool} {before : List ℕ} {m count : ℕ} where
         let k = ap length (sieve_hit t u e) ∙ length-append (sieve t u) (u ∷ []) in
         omega (arith, o.long, sieve_grows t (u + 1) count (omega arith))
 
-    pub joining-hit :
+    pub joining_hit :
         {after' : List ℕ} {n' : ℕ} → m + length (sieve t count) ≤ places → t u ≡ true → after' ≡ set after n u → n' ≡ n + 1
         → Joining t before m count after' n' (u + 1)
-    joining-hit r e f g =
+    joining_hit r e f g =
         let k = ap length (sieve_hit t u e) ∙ length-append (sieve t u) (u ∷ []) in
         rw (f, g)
         (record {
@@ -94,9 +94,9 @@ module _ {t : ℕ → Bool} {before : List ℕ} {m count : ℕ} where
               ∙ ap (λ (x : List ℕ). take m before ++ x) (sym (sieve_hit t u e));
         })
 
-    pub joining-miss :
+    pub joining_miss :
         {after' : List ℕ} {n' : ℕ} → t u ≡ false → after' ≡ after → n' ≡ n → Joining t before m count after' n' (u + 1)
-    joining-miss e f g =
+    joining_miss e f g =
         rw (f, g)
         (record {
           most = omega arith;
@@ -105,11 +105,11 @@ module _ {t : ℕ → Bool} {before : List ℕ} {m count : ℕ} where
           held = o.held ∙ ap (λ (x : List ℕ). take m before ++ x) (sym (sieve_miss t u e));
         })
 
-pub joins-all :
+pub joins_all :
     {b : Board} {target : ℕ} {before : List ℕ} {m count : ℕ} {after : List ℕ} {n u : ℕ}
     → Joining (stands_on (scene b) target) before m count after n u → count ≤ u → count ≡ b.units.count → Joins b target before m after n
 unfolding defenders
-joins-all {b} {target} {before} {m} {count} {after} {n} {u} o l e =
+joins_all {b} {target} {before} {m} {count} {after} {n} {u} o l e =
     let k : u ≡ b.units.count = omega (arith, o.most) in
     record {
       size = o.size;
@@ -135,10 +135,10 @@ pub record Printing (p who : List ℕ) (n : ℕ) (printed : List ℕ) (i : ℕ) 
   pub size : length printed ≡ places
   pub held : take i printed ≡ map (strength p) (take i who)
 
-pub printing-more :
+pub printing_more :
     {p who printed : List ℕ} {n i x : ℕ} → length who ≡ places → n ≤ places → Printing p who n printed i → i < n
     → x ≡ strength p (get_or who i 0) → Printing p who n (set printed i x) (i + 1)
-printing-more {p} {who} {printed} {n} {i} {x} w m o l e =
+printing_more {p} {who} {printed} {n} {i} {x} w m o l e =
     record {
       most = omega arith;
       size = simp length-set o.size;
@@ -161,11 +161,11 @@ traced_says t h l = sym (t.tells h l)
 pub traced_as : {s : Scene} {m n : ℕ} {l : List ℕ} → m ≡ n → Traced s m l → Traced s n l
 traced_as {s} {l = l} e = subst (λ (k : ℕ). Traced s k l) e
 
-pub armed-is :
+pub armed_is :
     (b : Board) (u printed : ℕ) {t : Bool} {r : ℕ} → t ≡ supplied (scene b) (b.units.counter.nationality u) (b.units.state.hex u)
     → r ≡ working b u t printed → r ≡ strength_of b u printed
 unfolding strength_of
-armed-is b u printed e f = f ∙ ap (λ (x : Bool). working b u x printed) e
+armed_is b u printed e f = f ∙ ap (λ (x : Bool). working b u x printed) e
 
 -- the places below i are armed where they are of the nationality; all others are as they were
 pub record Arming (b : Board) (nation : ℕ) (who : List ℕ) (n : ℕ) (printed before after : List ℕ) (i : ℕ) : Type 0 where
@@ -183,10 +183,10 @@ module _ {b : Board} {nation : ℕ} {who : List ℕ} {n : ℕ} {printed before :
       }
 
   module _ {after : List ℕ} {i : ℕ} (m : n ≤ places) (o : Arming b nation who n printed before after i) (l : i < n) where
-    pub arming-hit :
+    pub arming_hit :
         {after' : List ℕ} {x : ℕ} → b.units.counter.nationality (get_or who i 0) ≡ nation → x ≡ strength_of b (get_or who i 0) (get_or printed i 0)
         → after' ≡ set after i x → Arming b nation who n printed before after' (i + 1)
-    arming-hit {after'} {x} e f g =
+    arming_hit {after'} {x} e f g =
         let z : i < length after = omega (arith, o.arms.size) in
         rw g
         (record {
@@ -208,10 +208,10 @@ module _ {b : Board} {nation : ℕ} {who : List ℕ} {n : ℕ} {printed before :
           rest = λ j k. get_or-set_other after i j x 0 (λ d. omega arith) ∙ o.rest j (omega arith);
         })
 
-    pub arming-miss :
+    pub arming_miss :
         {after' : List ℕ} → (b.units.counter.nationality (get_or who i 0) ≡ nation → ⊥) → after' ≡ after
         → Arming b nation who n printed before after' (i + 1)
-    arming-miss d g =
+    arming_miss d g =
         rw g
         (record {
           most = omega arith;
@@ -277,13 +277,13 @@ module _ {b : Board} {who : List ℕ} {n : ℕ} {printed after : List ℕ} where
   pub armed_all : {m : ℕ} → AllStanding b who n → ArmedTo b who n printed after m → 5 ≤ m → ArmsAll b who n printed after
   armed_all s o l = record { size = o.size; each = λ i k. o.each i k (omega (arith, (s i k).nation)) }
 
-pub armed-home :
+pub armed_home :
     {b : Board} {who : List ℕ} {n : ℕ} {printed before after : List ℕ} {m : ℕ}
     → m ≡ us
     → ArmedTo b who n printed before m
     → ArmsHome b who n printed before after
     → ArmedTo b who n printed after 5
-armed-home {b} {who} {n} {printed} {before} e o h =
+armed_home {b} {who} {n} {printed} {before} e o h =
     armed_more (armed_more (subst (ArmedTo b who n printed before) e o) (omega arith) h.first) (omega arith) h.second
 
 -- the units of the fighters, place by place

@@ -34,7 +34,7 @@ use Rattle.acceptance.proofs.Fates.{
   assigned_else,
   assigned_here,
 }
-use Rattle.acceptance.proofs.Routings.{filled_there, filled_else, routes-lone}
+use Rattle.acceptance.proofs.Routings.{filled_there, filled_else, routes_lone}
 use Rattle.ruling.specs.Secret.{Each}
 use Rattle.field.specs.Listed.{named}
 use Rattle.results.specs.Results.{lost, fought_by, suffers, routed_from}
@@ -87,17 +87,17 @@ pub record Footing (b : Board) (h : ℕ) : Type 0 where
   pub hex : h ≡ nowhere → ⊥
 
 module _ (b : Board) where
-  pub routes-all :
+  pub routes_all :
       (hs : List ℕ) (r : ℕ) → r + length hs ≤ route_count → Each (Footing b) hs → (d : Board) → Fixed b d
       → ((i : ℕ) → i < r → filled d i ≡ true) → RoutesOk d → RoutesOk (changes d (routed_from r hs))
   unfolding routed_from changes
-  routes-all [] r l h d f before o = o
-  routes-all (x ∷ xs) r l h d f before o =
+  routes_all [] r l h d f before o = o
+  routes_all (x ∷ xs) r l h d f before o =
       let m : r < route_count = omega arith in
       let n = h.0.hex in
       let c = change d (routed r x nowhere nowhere nowhere) in
-      let w = routes-lone d r x m (standable_by f x ∙ h.0.stands) n (λ i e. before i (omega arith)) o in
-      routes-all xs (r + 1) (omega arith) h.1 c (fixed_trans f (fixed_change d (routed r x nowhere nowhere nowhere)))
+      let w = routes_lone d r x m (standable_by f x ∙ h.0.stands) n (λ i e. before i (omega arith)) o in
+      routes_all xs (r + 1) (omega arith) h.1 c (fixed_trans f (fixed_change d (routed r x nowhere nowhere nowhere)))
       (λ i k.
       same_or i r (λ e. ap (filled c) e ∙ filled_there d r x nowhere nowhere nowhere m n)
       (λ e. filled_else d r x nowhere nowhere nowhere i e ∙ before i (omega arith)))

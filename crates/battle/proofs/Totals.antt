@@ -32,15 +32,15 @@ module _ (b : Board) (f : ℕ → ℕ) where
       record { low = omega arith; high = omega arith }
 
   module _ (target : ℕ) (units : List ℕ) where
-    pub attack-total :
+    pub attack_total :
         Each (λ u. In 1 (f u) 60) units
         → In (length units) (printed_total (attack_line b units (map f (participants b target units)))) (60 * length units)
     unfolding attack_line participants
-    attack-total h = rw (front_strengths f units (defenders b target)) (totals units h)
+    attack_total h = rw (front_strengths f units (defenders b target)) (totals units h)
 
-    pub defence-total :
+    pub defence_total :
         Each (λ u. In 1 (f u) 60) (defenders b target)
         → In (length (defenders b target)) (printed_total (defence_line b target units (map f (participants b target units))))
         (60 * length (defenders b target))
     unfolding defence_line participants
-    defence-total h = rw (back_strengths f units (defenders b target)) (totals (defenders b target) h)
+    defence_total h = rw (back_strengths f units (defenders b target)) (totals (defenders b target) h)

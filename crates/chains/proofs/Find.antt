@@ -252,7 +252,7 @@ module _ (b : Board) (f : ℕ) where
       at (no n) = not_both (standable b z) (both_yes (standable b z) _ e).0 (standable_off b z (omega arith))
 
 -- the hexes of a legal series are hexes of the map
-pub series-charted :
+pub series_charted :
     {b : Board} {f start n : ℕ} {route pushes : List ℕ} → LegalSeries b f start n route pushes → Charted b route × Charted b pushes
-series-charted {b} {f} {start} k =
+series_charted {b} {f} {start} k =
     series_each (λ z. z < b.map.hexes) (λ z u. bears_on b f z (stand_bears b f start z u)) k.series

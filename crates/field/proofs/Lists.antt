@@ -15,7 +15,7 @@ use Rattle.position.proofs.Tallies.{both_yes, either, neither, same_or}
 use Rattle.position.specs.Board.{Board, board}
 use Rattle.position.specs.Shape.{In}
 use Rattle.position.specs.Tally.{tally}
-use Rattle.ruling.proofs.Going.{Gone, GoneFrom, gone-end, gone-more, gone_none, gone-stop}
+use Rattle.ruling.proofs.Going.{Gone, GoneFrom, gone_end, gone_more, gone_none, gone_stop}
 use Rattle.ruling.proofs.Meets.{pass, stop}
 use Rattle.ruling.specs.Judged.{Passes, Stops}
 use Rattle.field.specs.Listed.{Charted, list_length, named, no_unit, off_map, on_map_from, sieve}
@@ -98,9 +98,9 @@ module _ {f : ℕ → ℕ} {us : List ℕ} {n x : ℕ} where
   pub unnamed_all : {j : ℕ} → Unnamed f us j n x → n ≤ j → named (map f (take n us)) x ≡ false
   unnamed_all {j} o l = let e : n ≡ j = omega (arith, o.most) in ap (λ (k : ℕ). named (map f (take k us)) x) e ∙ o.none
 
-pub unnamed-hit :
+pub unnamed_hit :
     (f : ℕ → ℕ) (us : List ℕ) (n j x : ℕ) → n ≤ length us → j < n → f (get_or us j 0) ≡ x → named (map f (take n us)) x ≡ true
-unnamed-hit f us n j x m l e =
+unnamed_hit f us n j x m l e =
     let k = length-take-le n us m in
     named_at (map f (take n us)) j x (omega (arith, map_long f (take n us)))
     (map_at_lem f (take n us) j (omega arith) ∙ ap f (get_or-take n us j 0 l) ∙ e)
@@ -124,11 +124,11 @@ pub record There (p units : List ℕ) (i : ℕ) : Type 0 where
   pub gone : Gone p (no_unit (board p)) (λ s x. s) 0 units i 0
   pub counted : (j : ℕ) → j < i → get_or units j 0 < (board p).units.count
 
-pub there-more :
+pub there_more :
     {p units : List ℕ} {i : ℕ} → There p units i → i < length units → get_or units i 0 < (board p).units.count → There p units (i + 1)
-there-more {p} {units} {i} o l t =
+there_more {p} {units} {i} o l t =
     record {
-      gone = gone-more o.gone l (is_unit p (board p) 0 (get_or units i 0) (i + 1) t);
+      gone = gone_more o.gone l (is_unit p (board p) 0 (get_or units i 0) (i + 1) t);
       counted = below_more (λ j. get_or units j 0 < (board p).units.count) i o.counted t;
     }
 
@@ -155,7 +155,7 @@ pub map_more :
     → OnMap k p path (i + 1)
 map_more {k} {p} {path} {i} o l t =
     record {
-      gone = gone-more o.gone l (on_map_lem p (board p) 0 (get_or path i 0) (i + k) t);
+      gone = gone_more o.gone l (on_map_lem p (board p) 0 (get_or path i 0) (i + k) t);
       charted = below_more (λ j. get_or path j 0 < (board p).map.hexes) i o.charted t;
     }
 
@@ -163,11 +163,11 @@ map_more {k} {p} {path} {i} o l t =
 module _ {k : ℕ} {p path : List ℕ} {i : ℕ} (o : OnMap k p path i) where
   pub map_stop : i < length path → (board p).map.hexes ≤ get_or path i 0 → Stops p (on_map_from (board p) path k) 3 (i + k)
   unfolding on_map_from
-  map_stop l t v = λ w. gone-stop o.gone l (off_map_lem p (board p) 0 (get_or path i 0) (i + k) t) v (λ s. w)
+  map_stop l t v = λ w. gone_stop o.gone l (off_map_lem p (board p) 0 (get_or path i 0) (i + k) t) v (λ s. w)
 
   pub map_end : length path ≤ i → Passes p (on_map_from (board p) path k)
   unfolding on_map_from
-  map_end m l v a q r w = gone-end o.gone m l (λ s. v) a q r w
+  map_end m l v a q r w = gone_end o.gone m l (λ s. v) a q r w
 
 -- a list of hexes of the map passes
 map_reaches : (k : ℕ) (p path : List ℕ) → Charted (board p) path → (i : ℕ) → i ≤ length path → OnMap k p path i

@@ -31,15 +31,15 @@ module _ (t : ℕ → Bool) where
       (λ e. simp (e, append-nil) (sieve_once n))
 
 module _ (p : List ℕ) (b : Board) where
-  there-from :
+  there_from :
       (xs : List ℕ) (k : ℕ) → ((w : ℕ) → named xs w ≡ true → w < b.units.count)
       → Passes p (λ v. along (no_unit b) (λ s x. s) 0 xs k (λ s. v))
   unfolding along no_unit
-  there-from [] k f l v a q m g = g
-  there-from (x ∷ xs) k f l v a q m g =
+  there_from [] k f l v a q m g = g
+  there_from (x ∷ xs) k f l v a q m g =
       pass (lt-leb b.units.count x (f x (named_here x xs x refl)))
-      (there-from xs (k + 1) (λ w e. f w (named_more x xs w e)) l v a q m g)
+      (there_from xs (k + 1) (λ w e. f w (named_more x xs w e)) l v a q m g)
 
   pub there_passes : (xs : List ℕ) → ((w : ℕ) → named xs w ≡ true → w < b.units.count) → Passes p (all_there b xs)
   unfolding all_there
-  there_passes xs f = there-from xs 1 f
+  there_passes xs f = there_from xs 1 f

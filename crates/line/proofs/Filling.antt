@@ -37,10 +37,10 @@ module _ {g : ℕ → Fighter} where
   filled_all o h = record { size = o.size; each = λ j k. o.each j (omega arith) }
 
   -- the line of a list, if each place has the fighter of its unit
-  pub filled-list :
+  pub filled_list :
       {n : ℕ} {l : List Fighter} (h : ℕ → Fighter) (us : List ℕ) → n ≤ places → Filled g n l → length us ≡ n
       → ((i : ℕ) → i < n → g i ≡ h (get_or us i 0)) → take n l ≡ map h us
-  filled-list {n} {l} h us k o e f =
+  filled_list {n} {l} h us k o e f =
       let long : length (take n l) ≡ n = length-take-le n l (omega (arith, o.size)) in
       ext_get_or (fighter_of 0 0 0) (take n l) (map h us) (long ∙ sym (length-map us h ∙ e))
       (λ i m.

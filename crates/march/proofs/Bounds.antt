@@ -14,11 +14,11 @@ use Rattle.position.specs.Stage as Stage
 use Rattle.position.proofs.Tallies.{both_yes}
 use Rattle.ruling.specs.Verdict.{Verdict}
 use Rattle.ruling.specs.Packed.Replies.{plainly}
-use Rattle.ruling.proofs.Bounded.{Bounded, bounded_at, bounded-each, bounded_past, bounded_ruled}
+use Rattle.ruling.proofs.Bounded.{Bounded, bounded_at, bounded_each, bounded_past, bounded_ruled}
 use Rattle.field.specs.Scene.{scene}
 use Rattle.field.specs.Zone.{holds_enemy, holds_neutral}
 use Rattle.field.specs.Phasing.{not_phasing}
-use Rattle.field.proofs.Bounds.{map-bounded}
+use Rattle.field.proofs.Bounds.{map_bounded}
 use Rattle.clock.specs.Clock.{is_last}
 use Rattle.march.specs.Move.{
   Leg,
@@ -44,11 +44,11 @@ path_few path e =
     let n = length path in leb-true n 30 (both_yes (leb 1 n) (leb n 30) (not-false (leb 1 n && leb n 30) e)).1
 
 module _ {p l : List ℕ} (b : Board) where
-  step-bounded :
+  step_bounded :
       (u : ℕ) (s : Leg) (x k : ℕ) (v : Verdict) → k < 65536 → (Unit {0} → Bounded plainly p l v)
       → Bounded plainly p l (step b u s x k v)
   unfolding step
-  step-bounded u s x k v i f =
+  step_bounded u s x k v i f =
       bounded_at (leaves_zone b u s k) refl i
       (λ _.
       bounded_at (no_step b s.at x) refl i
@@ -66,7 +66,7 @@ module _ {p l : List ℕ} (b : Board) where
       let few = path_few path e in
       bounded_past (leb b.units.count u) refl
       (λ _.
-      map-bounded b path _ (omega (arith, few))
+      map_bounded b path _ (omega (arith, few))
       (λ _.
       bounded_past (not (may_move_now b)) refl
       (λ _.
@@ -74,7 +74,7 @@ module _ {p l : List ℕ} (b : Board) where
       (λ _.
       bounded_past (forbidden b u) refl
       (λ _.
-      bounded-each (λ _. Unit {0}) (after_step b) (step-bounded u) (leg (b.units.state.hex u) 0) path 1 _ (omega (arith, few))
+      bounded_each (λ _. Unit {0}) (after_step b) (step_bounded u) (leg (b.units.state.hex u) 0) path 1 _ (omega (arith, few))
       (λ _ s. bounded_at (leb 3 (others b u s.at)) refl (omega (arith, few)) (λ _. bounded_ruled refl))))))))
 
   pub end_bounded : (long : ℕ) → Bounded plainly p l (end_rule b long)

@@ -125,11 +125,11 @@ marks_rested b (suc n) w h l =
     ∙ marks_rested b n w (omega arith) (omega arith)))
 
 -- unit after unit: the marks that are read are still those that the call began with
-pub rests-next :
+pub rests_next :
     {p q r : List ℕ} {m x : ℕ} (u : ℕ) → Shaped p → q ≡ makes p (rest_all (board p) u) → m ≡ Layout.marks q u → x ≡ rested m
     → r ≡ make q (marked u x) → r ≡ makes p (rest_all (board p) (u + 1))
 unfolding rest_all
-rests-next {p} {q} {r} {m} {x} u h e f g k =
+rests_next {p} {q} {r} {m} {x} u h e f g k =
     let b = board p in
     let z : Layout.marks q u ≡ b.units.state.marks u =
     ap (λ (y : Board). y.units.state.marks u) (ap board e ∙ board_makes h (rest_all b u)) ∙ (same_rested b b u u (omega arith)).marks
@@ -263,11 +263,11 @@ waits_next {b} {c} {n} s u l =
 scene_judged : (b c : Board) (n k : ℕ) → scene (changes c (judge_all b n k)) ≡ scene c
 scene_judged b c n k = (same_judged b c k n k (λ z. absurd (omega arith))).scenes
 
-pub judges-next :
+pub judges_next :
     {p map q r : List ℕ} {n u : ℕ} → Shaped p → u < Layout.count p → Traced (scene (board p)) n map
     → JudgesAll p n u q → JudgesUnit q map n u r → JudgesAll p n (u + 1) r
 unfolding judge_all
-judges-next {p} {map} {q} {r} {n} {u} h l m a g =
+judges_next {p} {map} {q} {r} {n} {u} h l m a g =
     record {
       judged =
           λ b s.
@@ -357,12 +357,12 @@ next_bytes {b} l =
     (λ _. record { turn = omega (arith, l.clock.turn.high); force = omega (arith, l.clock.force); phase = omega (arith, l.clock.phase) })
 
 -- marks, clock and supply, one after the other
-pub all-ended :
+pub all_ended :
     {p q r s : List ℕ} {k : ℕ} {c : Clock} → Accepted p → k ≡ Layout.count p → c ≡ next_clock (board p).desk.clock
     → q ≡ makes p (rest_all (board p) k) → r ≡ make q (timed c.turn c.force c.phase) → JudgesPhase r c s
     → s ≡ makes p (end_changes (board p))
 unfolding end_changes makes
-all-ended {p} {q} {r} {s} {k} {c} a e n f g j =
+all_ended {p} {q} {r} {s} {k} {c} a e n f g j =
     let b = board p in
     let xs = rest_all b b.units.count in
     let x = timed c.turn c.force c.phase in

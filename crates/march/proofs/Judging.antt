@@ -11,7 +11,7 @@ use Rattle.ruling.specs.Verdict.{Verdict, Ruling, Met}
 use Rattle.ruling.specs.Verdict.Ruling.{refused}
 use Rattle.ruling.specs.Judged.{Passes, Stops}
 use Rattle.ruling.proofs.Meets.{pass, stop}
-use Rattle.ruling.proofs.Going.{Gone, gone-more}
+use Rattle.ruling.proofs.Going.{Gone, gone_more}
 use Rattle.field.specs.Scene.{scene}
 use Rattle.field.specs.Zone.{holds_enemy, holds_neutral}
 use Rattle.march.specs.Move.{Leg, leg, after_step, allowed, leaves_zone, no_step, step}
@@ -29,18 +29,18 @@ module _ (p : List ℕ) (b : Board) (u : ℕ) (l : Leg) (x k : ℕ) where
   unfolding step
   stops_ground e f m v = pass e (stop f)
 
-  pub stops-enemy :
+  pub stops_enemy :
       leaves_zone b u l k ≡ false → no_step b l.at x ≡ false → holds_enemy (scene b) (force_of b u) x ≡ true
       → Stops p (step b u l x k) 8 k
   unfolding step
-  stops-enemy e f g m v = pass e (pass f (stop g))
+  stops_enemy e f g m v = pass e (pass f (stop g))
 
-  pub stops-neutral :
+  pub stops_neutral :
       leaves_zone b u l k ≡ false → no_step b l.at x ≡ false → holds_enemy (scene b) (force_of b u) x ≡ false
       → holds_neutral (scene b) (force_of b u) x ≡ true
       → Stops p (step b u l x k) 18 k
   unfolding step
-  stops-neutral e f g n m v = pass e (pass f (pass g (stop n)))
+  stops_neutral e f g n m v = pass e (pass f (pass g (stop n)))
 
   -- the tests before the last, passed
   pub record Open : Type 0 where
@@ -60,20 +60,20 @@ module _ (p : List ℕ) (b : Board) (u : ℕ) (l : Leg) (x k : ℕ) where
       pass o.zone (pass o.ground (pass o.foe (pass o.neutral (pass (le-ltb (allowed b u) (after_step b l x).spent h) w))))
 
 -- past a step, to where it leads and what it comes to
-pub gone-step :
+pub gone_step :
     (b : Board) (u : ℕ) {p path : List ℕ} {i at spent total : ℕ} {there zone : Bool} {first : Leg}
     → Gone p (step b u) (after_step b) first path i (leg at spent) → i < length path
     → Onward p (step b u (leg at spent) (get_or path i 0) (i + 1)) (after_step b (leg at spent) (get_or path i 0)).spent there total zone
     → Gone p (step b u) (after_step b) first path (i + 1) (leg (get_or path i 0) total)
 unfolding after_step
-gone-step b u {p} {path} {i} {first = first} o l w =
+gone_step b u {p} {path} {i} {first = first} o l w =
     subst (λ (n : ℕ). Gone p (step b u) (after_step b) first path (i + 1) (leg (get_or path i 0) n)) (sym w.is)
-    (gone-more o l w.passes)
+    (gone_more o l w.passes)
 
 -- the answer for the tests of a path, handed on past tests before them
-pub path-through :
+pub path_through :
     {p : List ℕ} {f g : (Leg → Verdict) → Verdict}
     → ((l : List ℕ) (v : Leg → Verdict) (a : Ruling) (q m : List ℕ) → Met p l (f v) a q m → Met p l (g v) a q m)
     → (r : Path) → PathOf p f r → PathOf p g r
-path-through t (P.To h) o = record { leg = o.leg; at = o.at; passes = λ l v a q m w. t l v a q m (o.passes l v a q m w) }
-path-through {p} t (P.Stop n k) o = λ l v. t l v (refused n k) p l (o l v)
+path_through t (P.To h) o = record { leg = o.leg; at = o.at; passes = λ l v a q m w. t l v a q m (o.passes l v a q m w) }
+path_through {p} t (P.Stop n k) o = λ l v. t l v (refused n k) p l (o l v)

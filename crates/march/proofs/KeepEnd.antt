@@ -33,7 +33,7 @@ use Rattle.march.specs.EndPhase.{
   end_rule,
 }
 use Rattle.acceptance.proofs.Carries.{changes_then}
-use Rattle.acceptance.proofs.Lawfuls.{Markable, lawful_marked, lawful-timed}
+use Rattle.acceptance.proofs.Lawfuls.{Markable, lawful_marked, lawful_timed}
 use Rattle.position.proofs.BitLaws.{with_within, without_within}
 use Rattle.position.proofs.BitLaws.UnitMark.{is_supplied, is_moved, is_fought}
 use Rattle.position.proofs.Tallies.{both_yes}
@@ -133,7 +133,7 @@ module _ {b : Board} (l : Lawful b) where
       let c = l.clock in
       let k = next_timely b.desk.last_turn b.desk.clock (timely c) e in
       let t =
-      lawful-timed r.lawful (ap (λ d. d.battle.stage) r.desk ∙ z) n.turn n.force n.phase
+      lawful_timed r.lawful (ap (λ d. d.battle.stage) r.desk ∙ z) n.turn n.force n.phase
       (record { low = omega (arith, c.turn.low, next_turn b.desk.clock); high = omega (arith, c.last_turn.high, k.turn) })
       (rw r.desk k.turn) k.force k.phase
       in

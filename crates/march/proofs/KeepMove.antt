@@ -42,8 +42,8 @@ use Rattle.march.specs.Move.{
   arrival,
   move_rule,
 }
-use Rattle.acceptance.proofs.Lawfuls.{Room, standable_on, lawful-placed, placed_hex, lawful_marked}
-use Rattle.ruling.proofs.Kept.{Kept, kept_past, kept-along, kept_ruled}
+use Rattle.acceptance.proofs.Lawfuls.{Room, standable_on, lawful_placed, placed_hex, lawful_marked}
+use Rattle.ruling.proofs.Kept.{Kept, kept_past, kept_along, kept_ruled}
 use Rattle.clock.specs.Phase as Phase
 
 -- where a move has come to: a hex to stand on, with none but units of unit u's force
@@ -86,7 +86,7 @@ module _ {b : Board} (l : Lawful b) (u : ℕ) (n : u < b.units.count) where
   lawful_move : (h : ℕ) → Room b u h → b.desk.battle.stage ≡ Stage.quiet → Lawful (changes b (move_changes b u h))
   unfolding changes move_changes
   lawful_move h r z =
-      lawful_marked (lawful-placed l u h n r (λ e. absurd (omega arith))) u (with moved (b.units.state.marks u))
+      lawful_marked (lawful_placed l u h n r (λ e. absurd (omega arith))) u (with moved (b.units.state.marks u))
       (record {
         marks = with_within is_moved (b.units.state.marks u) (l.units.each u n).counter.marks;
         destroyed = λ e. absurd (r.hex (sym (placed_hex u h n r) ∙ e));
@@ -134,7 +134,7 @@ module _ {p l : List ℕ} (a : Accepted p) (u : ℕ) where
       kept_past a (leb b.units.count u)
       (λ c.
       let n = leb-false b.units.count u c in
-      kept-along a (λ _. Unit {0}) (λ s x k v _ f. kept_past a (leb b.map.hexes x) (λ _. f tt)) 0 tt path 1 _
+      kept_along a (λ _. Unit {0}) (λ s x k v _ f. kept_past a (leb b.map.hexes x) (λ _. f tt)) 0 tt path 1 _
       (λ _ _.
       kept_past a (not (may_move_now b))
       (λ z.
@@ -142,7 +142,7 @@ module _ {p l : List ℕ} (a : Accepted p) (u : ℕ) where
       (λ m.
       kept_past a (forbidden b u)
       (λ _.
-      kept-along a (λ (s : Leg). Fair b u s.at) kept_step (leg (b.units.state.hex u) 0)
+      kept_along a (λ (s : Leg). Fair b u s.at) kept_step (leg (b.units.state.hex u) 0)
       (fair_start a.lawful u n (mapped b u m))
       path
       1

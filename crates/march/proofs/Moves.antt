@@ -74,8 +74,8 @@ unfolding with
 moved_small m l = omega arith
 
 -- both writes are the move's two changes: the marks are read before the unit is placed
-pub both-made :
+pub both_made :
     (p q r : List ℕ) (u h m : ℕ) → m ≡ with moved (marks p u) → q ≡ make p (placed u h) → r ≡ make q (marked u m)
     → r ≡ makes p (move_changes (board p) u h)
 unfolding move_changes makes
-both-made p q r u h m e f g = g ∙ ap₂ (λ (l : List ℕ) (x : ℕ). make l (marked u x)) f e
+both_made p q r u h m e f g = g ∙ ap₂ (λ (l : List ℕ) (x : ℕ). make l (marked u x)) f e

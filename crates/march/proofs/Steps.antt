@@ -37,12 +37,12 @@ module _ (b : Board) (s : ℕ) where
   cost_none e f = simp (ne_eqb s river_side e, ne_eqb s major_river_side f)
 
 -- the working allowance, read by the mark and the allowance
-pub allowed-read :
+pub allowed_read :
     (b : Board) (u : ℕ) {s : Bool} {n r : ℕ}
     → s ≡ has supplied (b.units.state.marks u) → Read (b.units.counter.allowance u) 256 n → Read (working b u s n) 65536 r
     → Read (allowed b u) 256 r
 unfolding allowed
-allowed-read b u {s} {n} e f w =
+allowed_read b u {s} {n} e f w =
     record { is = w.is ∙ ap₂ (working b u) e f.is; small = omega (arith, working_most b u s n) }
 
 -- the first step, and a later one

@@ -59,11 +59,11 @@ module _ (c : Chart) (s : ℕ) where
   multiple_none e f = simp (ne_eqb s river_side e, ne_eqb s major_river_side f)
 
 -- what an attacker crosses, read
-pub crossed-read :
+pub crossed_read :
     (b : Board) (target u : ℕ) {h d s r : ℕ} → h ≡ b.units.state.hex u → d ≡ bearing b.map h target → s ≡ side b.map h d → r ≡ side_multiple b.chart s
     → r ≡ crossed b target u
 unfolding crossed
-crossed-read b target u {h} {d} e f g k =
+crossed_read b target u {h} {d} e f g k =
     k
     ∙ ap (side_multiple b.chart)
     (g ∙ ap (side b.map h) f ∙ ap (λ (x : ℕ). side b.map x (bearing b.map x target)) e)
@@ -96,10 +96,10 @@ lowest_first {f} {us} l e s =
       small = s;
     }
 
-pub lowest-more :
+pub lowest_more :
     {f : ℕ → ℕ} {us : List ℕ} {i low x r : ℕ} → Lowest f us i low → i < length us → x ≡ f (get_or us i 0) → x < 256 → r ≡ smaller x low
     → Lowest f us (i + 1) r
-lowest-more {f} {us} {i} {low} {x} {r} o l e s g =
+lowest_more {f} {us} {i} {low} {x} {r} o l e s g =
     record {
       most = omega arith;
       some = omega arith;

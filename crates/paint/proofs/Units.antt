@@ -202,10 +202,10 @@ module _ (s : Scene) (f u : ℕ) where
     away_says spare = refl
 
 -- the same by the view's width and height
-pub unit-away :
+pub unit_away :
     {p : List ℕ} {v : View} {at : Region} → Laid p v → (f u x : ℕ) → x ≡ hex p u → Away v.width v.height at x
     → (k : Mark) (h : ℕ) → Inside v.width v.height at h → says (scene (board p)) f u k h ≡ false
-unit-away {p} {v} {at} l f u x e a k h i =
+unit_away {p} {v} {at} l f u x e a k h i =
     let w = l.view.width in
     let t = l.view.height in
     away_says (scene (board p)) f u (rw (w, t, e) at a) h (rw (w, t) at i) k
@@ -246,10 +246,10 @@ module _ (s : Scene) (f : ℕ) where
       }
 
 -- the one byte of a region of one hex has the marks of that hex
-pub one-marked :
+pub one_marked :
     {s : Scene} {f : ℕ} {at : Region} {l : List ℕ} {w tall x h r : ℕ} → w ≡ s.map.width → tall ≡ s.map.height → Shows s f at l
     → One w tall x at → r ≡ byte l 0 → x ≡ h → Marked s f h r
-one-marked {s} {f} {at} {l} {w} {tall} {x} {h} {r} t t' k n e q =
+one_marked {s} {f} {at} {l} {w} {tall} {x} {h} {r} t t' k n e q =
     let o = k.each x (rw (t, t') at n.here) in
     let p : place_of w at x ≡ 0 = omega (arith, place-in n.here, n.size) in
     let z : place_of s.map.width at x ≡ 0 = ap (λ (m : ℕ). place_of m at x) (sym t) ∙ p in

@@ -15,7 +15,7 @@ use Rattle.chains.specs.Serves.{ends_in}
 use Rattle.plot.specs.Plot.{places, stand_in, next_in}
 use Rattle.plot.proofs.Plots.{next_below}
 use Rattle.plot.proofs.Ends.{up_to, rest_at, rest_way, end_via, way_off, way_at, way_all, rest_yes, rest_all_lem}
-use Rattle.plot.proofs.Ends.{via_off, via_at, ends_rest, ends-via, ends_never}
+use Rattle.plot.proofs.Ends.{via_off, via_at, ends_rest, ends_via, ends_never}
 
 -- a chain from the stack in place h on ends in some place
 abbrev pub ends : List ℕ → List ℕ → ℕ → ℕ → Bool
@@ -45,16 +45,16 @@ module _ (l used : List ℕ) (left h : ℕ) (p : 1 ≤ left) where
   can_none b q = any_never _ places (λ y m. ends_never (next_in l) (stand_in l) used left h y p b q)
 
   -- a stack that it pushes goes on with one
-  pub can-via :
+  pub can_via :
       (d z : ℕ) → d < 6 → next_in l h d ≡ At z → has_rest (next_in l) (stand_in l) (h ∷ used) h ≡ false
       → yields (stand_in l) (h ∷ used) z ≡ true → (trail : List ℕ) → trail ≡ h ∷ used → ends l trail (left - 1) z ≡ true
       → ends l used left h ≡ true
   unfolding up_to
-  can-via d z b e q r trail f g =
+  can_via d z b e q r trail f g =
       let k = any_some (ends_in (next_in l) (stand_in l) (h ∷ used) (left - 1) z) places
       (ap (λ (us : List ℕ). ends l us (left - 1) z) (sym f) ∙ g) in
       any_true (ends_in (next_in l) (stand_in l) used left h) places k.at k.below
-      (sym (ends-via (next_in l) (stand_in l) used left h k.at p q)
+      (sym (ends_via (next_in l) (stand_in l) used left h k.at p q)
       ∙ any_true (λ n. end_via (next_in l) (stand_in l) (h ∷ used) (left - 1) h n k.at) 6 d b
       (via_at (next_in l) (stand_in l) (h ∷ used) h d (left - 1) z e k.at
       ∙ ap (λ (v : Bool). v && ends_in (next_in l) (stand_in l) (h ∷ used) (left - 1) z k.at) r
@@ -69,9 +69,9 @@ module _ {l used : List ℕ} {left h : ℕ} where
   endless_first = record { none = λ n y b m. absurd (omega arith) }
 
   module _ {d : ℕ} (u : Endless l used left h d) where
-    endless-more :
+    endless_more :
         ((y : ℕ) → y < places → end_via (next_in l) (stand_in l) (h ∷ used) (left - 1) h d y ≡ false) → Endless l used left h (d + 1)
-    endless-more f = record {
+    endless_more f = record {
       none = λ n y c m.
           same_or n d
           (λ e. ap (λ (k : ℕ). end_via (next_in l) (stand_in l) (h ∷ used) (left - 1) h k y) e ∙ f y m)
@@ -80,20 +80,20 @@ module _ {l used : List ℕ} {left h : ℕ} where
 
     -- nothing is in direction d; or a stack that cannot be pushed; or one with which no chain ends
     pub endless_off : next_in l h d ≡ Off → Endless l used left h (d + 1)
-    endless_off e = endless-more (λ y m. via_off (next_in l) (stand_in l) (h ∷ used) h d (left - 1) e y)
+    endless_off e = endless_more (λ y m. via_off (next_in l) (stand_in l) (h ∷ used) h d (left - 1) e y)
 
     pub endless_held : (z : ℕ) → next_in l h d ≡ At z → yields (stand_in l) (h ∷ used) z ≡ false → Endless l used left h (d + 1)
     endless_held z e r =
-        endless-more
+        endless_more
         (λ y m.
         via_at (next_in l) (stand_in l) (h ∷ used) h d (left - 1) z e y
         ∙ ap (λ (v : Bool). v && ends_in (next_in l) (stand_in l) (h ∷ used) (left - 1) z y) r)
 
-    pub endless-via :
+    pub endless_via :
         (z : ℕ) → next_in l h d ≡ At z → (trail : List ℕ) → trail ≡ h ∷ used → ends l trail (left - 1) z ≡ false
         → Endless l used left h (d + 1)
-    endless-via z e trail f g =
-        endless-more
+    endless_via z e trail f g =
+        endless_more
         (λ y m.
         via_at (next_in l) (stand_in l) (h ∷ used) h d (left - 1) z e y
         ∙ ap (λ (v : Bool). yields (stand_in l) (h ∷ used) z && v)
@@ -106,5 +106,5 @@ module _ {l used : List ℕ} {left h : ℕ} where
     endless p b q =
         any_never _ places
         (λ y m.
-        sym (ends-via (next_in l) (stand_in l) used left h y p q)
+        sym (ends_via (next_in l) (stand_in l) used left h y p q)
         ∙ any_never (λ n. end_via (next_in l) (stand_in l) (h ∷ used) (left - 1) h n y) 6 (λ n c. u.none n y (omega arith) m))

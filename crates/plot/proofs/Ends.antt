@@ -59,10 +59,10 @@ module _ {x : ℕ} where
   pub marks_as : {t u : ℕ → Bool} {l m : List ℕ} → ((y : ℕ) → Close x y 3 → t y ≡ u y) → Marks x t l m → Marks x u l m
   marks_as {t} {u} {l} {m} f a = record { long = a.long; each = λ y c. a.each y c ∙ ap (λ (b : Bool). b || marked l x y) (f y c) }
 
-  pub marks-left :
+  pub marks_left :
       (next : Ways) (s : Stands) (used : List ℕ) (h : ℕ) {k n : ℕ} {l m : List ℕ} → k ≡ n → Marks x (ends_in next s used k h) l m
       → Marks x (ends_in next s used n h) l m
-  marks-left next s used h {k} {n} {l} {m} e a = subst (λ (i : ℕ). Marks x (ends_in next s used i h) l m) e a
+  marks_left next s used h {k} {n} {l} {m} e a = subst (λ (i : ℕ). Marks x (ends_in next s used i h) l m) e a
 
   -- place z is marked
   pub marks_one : (z : ℕ) (l m : List ℕ) → Close x z 3 → MarkSet (span + z - x) l m → Marks x (eqb z) l m
@@ -174,15 +174,15 @@ module _ {x : ℕ} (next : Ways) (s : Stands) (used : List ℕ) (h d z : ℕ) (e
   upto_rest p r c b =
       upto_more (rest_at next s used h) p (marks_as (λ y k. rest_yes next s used h d z e r y) (marks_one z m n c b))
 
-  pub upto-stay :
+  pub upto_stay :
       Marks x (up_to (rest_at next s used h) d) l m → rests s used z ≡ false → n ≡ m → Marks x (up_to (rest_at next s used h) (d + 1)) l n
-  upto-stay p r q =
+  upto_stay p r q =
       subst (Marks x (up_to (rest_at next s used h) (d + 1)) l) (sym q) (upto_skip (rest_at next s used h) p (rest_not next s used h d z e r))
 
-  pub upto-ends :
+  pub upto_ends :
       (left : ℕ) (trail : List ℕ) → Marks x (up_to (end_via next s used left h) d) l m → yields s used z ≡ true → trail ≡ used
       → Marks x (ends_in next s trail left z) m n → Marks x (up_to (end_via next s used left h) (d + 1)) l n
-  upto-ends left trail p r f a =
+  upto_ends left trail p r f a =
       upto_more (end_via next s used left h) p
       (marks_as
       (λ y k.
@@ -190,10 +190,10 @@ module _ {x : ℕ} (next : Ways) (s : Stands) (used : List ℕ) (h d z : ℕ) (e
       ∙ sym (via_at next s used h d left z e y ∙ ap (λ (b : Bool). b && ends_in next s used left z y) r))
       a)
 
-  pub upto-held :
+  pub upto_held :
       (left : ℕ) → Marks x (up_to (end_via next s used left h) d) l m → yields s used z ≡ false → n ≡ m
       → Marks x (up_to (end_via next s used left h) (d + 1)) l n
-  upto-held left p r q =
+  upto_held left p r q =
       subst (Marks x (up_to (end_via next s used left h) (d + 1)) l) (sym q)
       (upto_skip (end_via next s used left h) p
       (λ y. via_at next s used h d left z e y ∙ ap (λ (b : Bool). b && ends_in next s used left z y) r))
@@ -219,13 +219,13 @@ module _ (next : Ways) (s : Stands) (used : List ℕ) (left h y : ℕ) (p : 1 �
   pub ends_rest : has_rest next s (h ∷ used) h ≡ true → rests_beside next s (h ∷ used) h y ≡ ends_in next s used left h y
   ends_rest e = by_rest next s used (left - 1) h y e ∙ ap (λ (k : ℕ). ends_in next s used k h y) one_more
 
-  pub ends-via :
+  pub ends_via :
       has_rest next s (h ∷ used) h ≡ false → up_to (end_via next s (h ∷ used) (left - 1) h) 6 y ≡ ends_in next s used left h y
-  ends-via e = by_push next s used (left - 1) h y e ∙ ap (λ (k : ℕ). ends_in next s used k h y) one_more
+  ends_via e = by_push next s used (left - 1) h y e ∙ ap (λ (k : ℕ). ends_in next s used k h y) one_more
 
   pub ends_never : left < 2 → has_rest next s (h ∷ used) h ≡ false → ends_in next s used left h y ≡ false
   unfolding up_to
-  ends_never q e = sym (ends-via e) ∙ any_never (λ d. end_via next s (h ∷ used) (left - 1) h d y) 6 (λ d l. off d (next h d) refl)
+  ends_never q e = sym (ends_via e) ∙ any_never (λ d. end_via next s (h ∷ used) (left - 1) h d y) 6 (λ d l. off d (next h d) refl)
     where
       off : (d : ℕ) (b : Beside) → next h d ≡ b → end_via next s (h ∷ used) (left - 1) h d y ≡ false
       off d Off k = via_off next s (h ∷ used) h d (left - 1) k y
@@ -262,19 +262,19 @@ led_next next h y e =
     (sym (any_same (λ d. is_at (next h d) y) (λ d. leads_to (λ z. eqb z y) (next h d)) 6 (λ d l. at_leads (next h d) y)) ∙ e)
 
 -- a chain of `left` stacks ends in a place that close
-rest-close :
+rest_close :
     (l : List ℕ) (s : Stands) (used : List ℕ) (h x y n : ℕ) → n < 3 → Close x h n → rests_beside (next_in l) s used h y ≡ true → Close x y 3
 unfolding rests_beside
-rest-close l s used h x y n b c e =
+rest_close l s used h x y n b c e =
     let k = led_next (next_in l) h y (both_yes (leads (next_in l) h y) (rests s used y) e).0 in
     let q : k.to ≡ y = eqb-true k.to y k.passes in
     close_more 3 (omega arith) (close_step l h k.dir y (k.leads ∙ ap At q) c)
 
-led-end :
+led_end :
     (next : Ways) (s : Stands) (used : List ℕ) (left h y : ℕ) → up_to (end_via next s used left h) 6 y ≡ true
     → Led next (end_from next s used left y) h
 unfolding up_to end_via
-led-end next s used left h y e = led next (end_from next s used left y) h e
+led_end next s used left h y e = led next (end_from next s used left y) h e
 
 end_on : (next : Ways) (s : Stands) (used : List ℕ) (left z y : ℕ) → end_from next s used left y z ≡ true → ends_in next s used left z y ≡ true
 unfolding end_from
@@ -286,9 +286,9 @@ pub ends_close :
 ends_close l s used zero h x y b c e = not_both (ends_in (next_in l) s used 0 h y) e (none_left (next_in l) s used 0 h y)
 ends_close l s used (suc left) h x y b c e =
     either (has_rest (next_in l) s (h ∷ used) h)
-    (λ r. rest-close l s (h ∷ used) h x y (3 - suc left) (omega arith) c (by_rest (next_in l) s used left h y r ∙ e))
+    (λ r. rest_close l s (h ∷ used) h x y (3 - suc left) (omega arith) c (by_rest (next_in l) s used left h y r ∙ e))
     (λ r.
-    let k = led-end (next_in l) s (h ∷ used) left h y (by_push (next_in l) s used left h y r ∙ e) in
+    let k = led_end (next_in l) s (h ∷ used) left h y (by_push (next_in l) s used left h y r ∙ e) in
     ends_close l s (h ∷ used) left k.to x y (omega arith)
     (close_more (3 - left) (omega arith) (close_step l h k.dir k.to k.leads c))
     (end_on (next_in l) s (h ∷ used) left k.to y k.passes))

@@ -18,7 +18,7 @@ use Rattle.plot.specs.declared.Took.{Took}
 use Rattle.plot.specs.declared.Took.TheVariants as T
 use Rattle.plot.specs.Plot.{places, wide, stand_in, next_in, land_in, shifted}
 use Rattle.plot.specs.Follow.{places_from, follows_in, goes_on, Stepped, PushedOut}
-use Rattle.plot.proofs.Taking.{led_below, never_took, none_left, places-next, places_none, same_took}
+use Rattle.plot.proofs.Taking.{led_below, never_took, none_left, places_next, places_none, same_took}
 use Rattle.plot.proofs.Plots.{shifted_land, shifted_long, shifted_stands}
 
 -- a step of the group, by what it finds
@@ -41,11 +41,11 @@ module _ (g : Land) (s : Stands) (i a x : ℕ) (rest ps : List ℕ) where
   follows_by e f = simp (e, eq-eqb (g.far x) (suc i) f)
 
 -- a chain that is done leaves the land, and changes the stands
-on-shifted :
+on_shifted :
     (home : ℕ) (l : List ℕ) (x y : ℕ) → length l ≡ places → x < places → y < places → (i a : ℕ) (rest ps : List ℕ)
     → follows (land_in home l) (after (stand_in l) x y) i a rest ps
     ≡ follows (land_in home (shifted l x y)) (stand_in (shifted l x y)) i a rest ps
-on-shifted home l x y b p q i a rest ps =
+on_shifted home l x y b p q i a rest ps =
     ap₂ (λ (g : Land) (s : Stands). follows g s i a rest ps)
     (sym (shifted_land l x y b p q home)) (sym (shifted_stands l x y b p q))
 
@@ -83,17 +83,17 @@ module _ {place : ℕ → ℕ} {home : ℕ} {l : List ℕ} {i a x k : ℕ} {push
           left_to_ask = λ rest. follows_by _ _ _ _ _ _ _ e (f ∙ add-one i) ∙ rw s;
         }
 
-    pub stepped-loose :
+    pub stepped_loose :
         {m : List ℕ} (r : Took) → stand_in l x ≡ Loose → length l ≡ places → PushedOut place l m a x k pushes r
         → Stepped place home l m i a x k pushes r
     unfolding land_in
-    stepped-loose {m} T.Wrong s b p =
+    stepped_loose {m} T.Wrong s b p =
         record {
           long = ap length (p.kept refl);
           used = λ y j g. never_took y j g;
           left_to_ask = λ rest. follows_by _ _ _ _ _ _ _ e (f ∙ add-one i) ∙ rw s (rw (sym p.took));
         }
-    stepped-loose {m} (T.UpTo y j) s b p =
+    stepped_loose {m} (T.UpTo y j) s b p =
         let q = p.left y j refl in
         let n = led_below l a x e in
         record {
@@ -101,7 +101,7 @@ module _ {place : ℕ → ℕ} {home : ℕ} {l : List ℕ} {i a x k : ℕ} {push
           used = λ y' j' g. let t = same_took y j y' j' g in (n, omega (arith, q.2, t.1));
           left_to_ask = λ rest.
               follows_by (land_in home l) (stand_in l) i a x rest (places_from place k pushes) e (f ∙ add-one i)
-              ∙ rw s (rw (sym p.took) (rw q.0 (on-shifted home l x y b n q.1 (suc i) x rest
+              ∙ rw s (rw (sym p.took) (rw q.0 (on_shifted home l x y b n q.1 (suc i) x rest
               (places_from place j pushes))));
         }
 
@@ -114,10 +114,10 @@ pub record Followed (place : ℕ → ℕ) (home : ℕ) (l route pushes m : List 
   pub most : i ≤ length route
   pub left_to_ask : follows_in place home l 0 home route 0 pushes ≡ follows_in place home m i a route k pushes
 
-pub followed-none :
+pub followed_none :
     {place : ℕ → ℕ} {home : ℕ} {l route pushes : List ℕ} {a : ℕ} → length l ≡ places → a ≡ home → a < places
     → Followed place home l route pushes l a 0 0
-followed-none {place} {home} {l} {route} {pushes} {a} b e p =
+followed_none {place} {home} {l} {route} {pushes} {a} b e p =
     record {
       long = b;
       inside = p;
@@ -130,14 +130,14 @@ module _ {place : ℕ → ℕ} {home : ℕ} {l route pushes m : List ℕ} {a k i
   -- a step more, or a wrong one
   module _ {n : List ℕ} {x : ℕ} {r : Took} (b : i < length route) (e : x ≡ place (get_or route i 0))
       (t : Stepped place home m n i a x k pushes r) where
-    stepped-on :
+    stepped_on :
         follows_in place home l 0 home route 0 pushes
         ≡ goes_on place home n (suc i) x (places_from place (i + 1) route) pushes r
     unfolding follows_in
-    stepped-on =
+    stepped_on =
         u.left-to-ask
         ∙ ap (λ (rest : List ℕ). follows (land_in home m) (stand_in m) i a rest (places_from place k pushes))
-        (places-next place i route x b e)
+        (places_next place i route x b e)
         ∙ t.left-to-ask (places_from place (i + 1) route)
 
     pub followed_more : {y j : ℕ} → r ≡ T.UpTo y j → Followed place home l route pushes n x j (i + 1)
@@ -149,11 +149,11 @@ module _ {place : ℕ → ℕ} {home : ℕ} {l route pushes m : List ℕ} {a k i
           inside = q.0;
           few = q.1;
           most = omega arith;
-          left_to_ask = stepped-on ∙ ap (goes_on place home n (suc i) x (places_from place (i + 1) route) pushes) f ∙ rw (add-one i);
+          left_to_ask = stepped_on ∙ ap (goes_on place home n (suc i) x (places_from place (i + 1) route) pushes) f ∙ rw (add-one i);
         }
 
     pub followed_wrong : r ≡ T.Wrong → follows_in place home l 0 home route 0 pushes ≡ false
-    followed_wrong f = stepped-on ∙ ap (goes_on place home n (suc i) x (places_from place (i + 1) route) pushes) f
+    followed_wrong f = stepped_on ∙ ap (goes_on place home n (suc i) x (places_from place (i + 1) route) pushes) f
 
   -- the route is at its end
   pub followed_all : length route ≤ i → follows_in place home l 0 home route 0 pushes ≡ eqb k (length pushes)

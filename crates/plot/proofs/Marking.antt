@@ -28,17 +28,17 @@ has_none (suc (suc (suc (suc (suc (suc (suc zero))))))) = refl
 has_none (suc (suc (suc (suc (suc (suc (suc (suc j)))))))) = refl
 
 -- a number below eight, one by one
-below-8 :
+below_8 :
     (t : ℕ → Type 0) → t 0 → t 1 → t 2 → t 3 → t 4 → t 5 → t 6 → t 7 → (j : ℕ) → j < 8 → t j
-below-8 t a b c d e f g h zero l = a
-below-8 t a b c d e f g h (suc zero) l = b
-below-8 t a b c d e f g h (suc (suc zero)) l = c
-below-8 t a b c d e f g h (suc (suc (suc zero))) l = d
-below-8 t a b c d e f g h (suc (suc (suc (suc zero)))) l = e
-below-8 t a b c d e f g h (suc (suc (suc (suc (suc zero))))) l = f
-below-8 t a b c d e f g h (suc (suc (suc (suc (suc (suc zero)))))) l = g
-below-8 t a b c d e f g h (suc (suc (suc (suc (suc (suc (suc zero))))))) l = h
-below-8 t a b c d e f g h (suc (suc (suc (suc (suc (suc (suc (suc j)))))))) l = absurd (omega arith)
+below_8 t a b c d e f g h zero l = a
+below_8 t a b c d e f g h (suc zero) l = b
+below_8 t a b c d e f g h (suc (suc zero)) l = c
+below_8 t a b c d e f g h (suc (suc (suc zero))) l = d
+below_8 t a b c d e f g h (suc (suc (suc (suc zero)))) l = e
+below_8 t a b c d e f g h (suc (suc (suc (suc (suc zero))))) l = f
+below_8 t a b c d e f g h (suc (suc (suc (suc (suc (suc zero)))))) l = g
+below_8 t a b c d e f g h (suc (suc (suc (suc (suc (suc (suc zero))))))) l = h
+below_8 t a b c d e f g h (suc (suc (suc (suc (suc (suc (suc (suc j)))))))) l = absurd (omega arith)
 
 -- the first two bits, and those that directions have too
 pub bit_low : (j : ℕ) → j < 2 → j + 1 ≡ bit_of j
@@ -67,41 +67,41 @@ module _ (m : ℕ) where
   Room i = m / bit_of i % 2 ≡ 0 → m < 256 → m + bit_of i < 256
 
   gets : (i : ℕ) → i < 8 → Fresh i
-  gets = below-8 Fresh (λ e. omega arith) (λ e. omega arith) (λ e. omega arith) (λ e. omega arith) (λ e. omega arith) (λ e. omega arith) (λ e. omega arith) (λ e. omega arith)
+  gets = below_8 Fresh (λ e. omega arith) (λ e. omega arith) (λ e. omega arith) (λ e. omega arith) (λ e. omega arith) (λ e. omega arith) (λ e. omega arith) (λ e. omega arith)
 
   fits : (i : ℕ) → i < 8 → Room i
-  fits = below-8 Room (λ e l. omega arith) (λ e l. omega arith) (λ e l. omega arith) (λ e l. omega arith) (λ e l. omega arith) (λ e l. omega arith) (λ e l. omega arith) (λ e l. omega arith)
+  fits = below_8 Room (λ e l. omega arith) (λ e l. omega arith) (λ e l. omega arith) (λ e l. omega arith) (λ e l. omega arith) (λ e l. omega arith) (λ e l. omega arith) (λ e l. omega arith)
 
   -- the higher digits stay, as there is no carry, and so do the lower ones
   higher : (n k : ℕ) → n / k ≡ m / k → n / k % 2 ≡ m / k % 2
   higher n k e = ap (λ (x : ℕ). x % 2) e
 
   stays_0 : (j : ℕ) → j < 8 → Stays 0 j
-  stays_0 = below-8 (Stays 0) (λ d e. absurd (d refl)) (λ d e. higher (m + 1) 2 (omega arith)) (λ d e. higher (m + 1) 4 (omega arith)) (λ d e. higher (m + 1) 8 (omega arith)) (λ d e. higher (m + 1) 16 (omega arith)) (λ d e. higher (m + 1) 32 (omega arith)) (λ d e. higher (m + 1) 64 (omega arith)) (λ d e. higher (m + 1) 128 (omega arith))
+  stays_0 = below_8 (Stays 0) (λ d e. absurd (d refl)) (λ d e. higher (m + 1) 2 (omega arith)) (λ d e. higher (m + 1) 4 (omega arith)) (λ d e. higher (m + 1) 8 (omega arith)) (λ d e. higher (m + 1) 16 (omega arith)) (λ d e. higher (m + 1) 32 (omega arith)) (λ d e. higher (m + 1) 64 (omega arith)) (λ d e. higher (m + 1) 128 (omega arith))
 
   stays_1 : (j : ℕ) → j < 8 → Stays 1 j
-  stays_1 = below-8 (Stays 1) (λ d e. omega arith) (λ d e. absurd (d refl)) (λ d e. higher (m + 2) 4 (omega arith)) (λ d e. higher (m + 2) 8 (omega arith)) (λ d e. higher (m + 2) 16 (omega arith)) (λ d e. higher (m + 2) 32 (omega arith)) (λ d e. higher (m + 2) 64 (omega arith)) (λ d e. higher (m + 2) 128 (omega arith))
+  stays_1 = below_8 (Stays 1) (λ d e. omega arith) (λ d e. absurd (d refl)) (λ d e. higher (m + 2) 4 (omega arith)) (λ d e. higher (m + 2) 8 (omega arith)) (λ d e. higher (m + 2) 16 (omega arith)) (λ d e. higher (m + 2) 32 (omega arith)) (λ d e. higher (m + 2) 64 (omega arith)) (λ d e. higher (m + 2) 128 (omega arith))
 
   stays_2 : (j : ℕ) → j < 8 → Stays 2 j
-  stays_2 = below-8 (Stays 2) (λ d e. omega arith) (λ d e. omega arith) (λ d e. absurd (d refl)) (λ d e. higher (m + 4) 8 (omega arith)) (λ d e. higher (m + 4) 16 (omega arith)) (λ d e. higher (m + 4) 32 (omega arith)) (λ d e. higher (m + 4) 64 (omega arith)) (λ d e. higher (m + 4) 128 (omega arith))
+  stays_2 = below_8 (Stays 2) (λ d e. omega arith) (λ d e. omega arith) (λ d e. absurd (d refl)) (λ d e. higher (m + 4) 8 (omega arith)) (λ d e. higher (m + 4) 16 (omega arith)) (λ d e. higher (m + 4) 32 (omega arith)) (λ d e. higher (m + 4) 64 (omega arith)) (λ d e. higher (m + 4) 128 (omega arith))
 
   stays_3 : (j : ℕ) → j < 8 → Stays 3 j
-  stays_3 = below-8 (Stays 3) (λ d e. omega arith) (λ d e. omega arith) (λ d e. omega arith) (λ d e. absurd (d refl)) (λ d e. higher (m + 8) 16 (omega arith)) (λ d e. higher (m + 8) 32 (omega arith)) (λ d e. higher (m + 8) 64 (omega arith)) (λ d e. higher (m + 8) 128 (omega arith))
+  stays_3 = below_8 (Stays 3) (λ d e. omega arith) (λ d e. omega arith) (λ d e. omega arith) (λ d e. absurd (d refl)) (λ d e. higher (m + 8) 16 (omega arith)) (λ d e. higher (m + 8) 32 (omega arith)) (λ d e. higher (m + 8) 64 (omega arith)) (λ d e. higher (m + 8) 128 (omega arith))
 
   stays_4 : (j : ℕ) → j < 8 → Stays 4 j
-  stays_4 = below-8 (Stays 4) (λ d e. omega arith) (λ d e. omega arith) (λ d e. omega arith) (λ d e. omega arith) (λ d e. absurd (d refl)) (λ d e. higher (m + 16) 32 (omega arith)) (λ d e. higher (m + 16) 64 (omega arith)) (λ d e. higher (m + 16) 128 (omega arith))
+  stays_4 = below_8 (Stays 4) (λ d e. omega arith) (λ d e. omega arith) (λ d e. omega arith) (λ d e. omega arith) (λ d e. absurd (d refl)) (λ d e. higher (m + 16) 32 (omega arith)) (λ d e. higher (m + 16) 64 (omega arith)) (λ d e. higher (m + 16) 128 (omega arith))
 
   stays_5 : (j : ℕ) → j < 8 → Stays 5 j
-  stays_5 = below-8 (Stays 5) (λ d e. omega arith) (λ d e. omega arith) (λ d e. omega arith) (λ d e. omega arith) (λ d e. omega arith) (λ d e. absurd (d refl)) (λ d e. higher (m + 32) 64 (omega arith)) (λ d e. higher (m + 32) 128 (omega arith))
+  stays_5 = below_8 (Stays 5) (λ d e. omega arith) (λ d e. omega arith) (λ d e. omega arith) (λ d e. omega arith) (λ d e. omega arith) (λ d e. absurd (d refl)) (λ d e. higher (m + 32) 64 (omega arith)) (λ d e. higher (m + 32) 128 (omega arith))
 
   stays_6 : (j : ℕ) → j < 8 → Stays 6 j
-  stays_6 = below-8 (Stays 6) (λ d e. omega arith) (λ d e. omega arith) (λ d e. omega arith) (λ d e. omega arith) (λ d e. omega arith) (λ d e. omega arith) (λ d e. absurd (d refl)) (λ d e. higher (m + 64) 128 (omega arith))
+  stays_6 = below_8 (Stays 6) (λ d e. omega arith) (λ d e. omega arith) (λ d e. omega arith) (λ d e. omega arith) (λ d e. omega arith) (λ d e. omega arith) (λ d e. absurd (d refl)) (λ d e. higher (m + 64) 128 (omega arith))
 
   stays_7 : (j : ℕ) → j < 8 → Stays 7 j
-  stays_7 = below-8 (Stays 7) (λ d e. omega arith) (λ d e. omega arith) (λ d e. omega arith) (λ d e. omega arith) (λ d e. omega arith) (λ d e. omega arith) (λ d e. omega arith) (λ d e. absurd (d refl))
+  stays_7 = below_8 (Stays 7) (λ d e. omega arith) (λ d e. omega arith) (λ d e. omega arith) (λ d e. omega arith) (λ d e. omega arith) (λ d e. omega arith) (λ d e. omega arith) (λ d e. absurd (d refl))
 
   keeps : (i : ℕ) → i < 8 → (j : ℕ) → j < 8 → Stays i j
-  keeps = below-8 (λ i. (j : ℕ) → j < 8 → Stays i j) stays_0 stays_1 stays_2 stays_3 stays_4 stays_5 stays_6 stays_7
+  keeps = below_8 (λ i. (j : ℕ) → j < 8 → Stays i j) stays_0 stays_1 stays_2 stays_3 stays_4 stays_5 stays_6 stays_7
 
 -- mark k of a buffer
 pub mark_read : (k : ℕ) (l : List ℕ) (b m : ℕ) (r : Bool) → r ≡ has b m → b ≡ bit_of (k % 8) → m ≡ byte l (k / 8) → r ≡ mark_in l k

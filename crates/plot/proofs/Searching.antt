@@ -61,41 +61,41 @@ module _ (home : ℕ) (l : List ℕ) (k i a x : ℕ) where
   unfolding over_in on_over land_in
   over_far h = simp (ne_eqb (distance_of wide home x) (suc i) (λ e. h (e ∙ sym (add-one i))))
 
-  by-stand :
+  by_stand_lem :
       distance_of wide home x ≡ i + 1
       → over_in home l k i a x ≡ by_stand (serves_in home l k (i + 1) x) (shoves_in home l k i a x) (stand_in l x)
   unfolding over_in on_over land_in serves_in shoves_in with_in further
-  by-stand e = rw (add-one i) (simp (eq-eqb (distance_of wide home x) (suc i) (e ∙ add-one i)))
+  by_stand_lem e = rw (add-one i) (simp (eq-eqb (distance_of wide home x) (suc i) (e ∙ add-one i)))
 
   pub over_shut : distance_of wide home x ≡ i + 1 → stand_in l x ≡ Shut → over_in home l k i a x ≡ false
-  over_shut e s = by-stand e ∙ ap (by_stand (serves_in home l k (i + 1) x) (shoves_in home l k i a x)) s
+  over_shut e s = by_stand_lem e ∙ ap (by_stand (serves_in home l k (i + 1) x) (shoves_in home l k i a x)) s
 
   pub over_free : distance_of wide home x ≡ i + 1 → stand_in l x ≡ Free → over_in home l k i a x ≡ serves_in home l k (i + 1) x
-  over_free e s = by-stand e ∙ ap (by_stand (serves_in home l k (i + 1) x) (shoves_in home l k i a x)) s
+  over_free e s = by_stand_lem e ∙ ap (by_stand (serves_in home l k (i + 1) x) (shoves_in home l k i a x)) s
 
   pub over_loose : distance_of wide home x ≡ i + 1 → stand_in l x ≡ Loose → over_in home l k i a x ≡ shoves_in home l k i a x
-  over_loose e s = by-stand e ∙ ap (by_stand (serves_in home l k (i + 1) x) (shoves_in home l k i a x)) s
+  over_loose e s = by_stand_lem e ∙ ap (by_stand (serves_in home l k (i + 1) x) (shoves_in home l k i a x)) s
 
   -- as a last step it asks only for a chain at all
   pub last_free : distance_of wide home x ≡ i + 1 → stand_in l x ≡ Free → k ≡ 0 → over_in home l k i a x ≡ true
   last_free e s z = over_free e s ∙ serves_done home l k (i + 1) x z
 
-  pub last-loose :
+  pub last_loose :
       distance_of wide home x ≡ i + 1 → stand_in l x ≡ Loose → k ≡ 0 → (trail : List ℕ) → trail ≡ a ∷ []
       → over_in home l k i a x ≡ any (ends_in (next_in l) (stand_in l) trail 3 x) places
   unfolding shoves_in with_in on_with land_in further serves
-  last-loose e s z trail t =
+  last_loose e s z trail t =
       over_loose e s ∙ rw z (rw t (any_same _ _ places (λ y b. and-true (ends_in (next_in l) (stand_in l) (a ∷ []) 3 x y))))
 
   pub with_no : (y : ℕ) → ends_in (next_in l) (stand_in l) (a ∷ []) most x y ≡ false → with_in home l k i a x y ≡ false
   unfolding with_in on_with land_in
   with_no y e = simp e
 
-  pub with-yes :
+  pub with_yes :
       (y : ℕ) → length l ≡ places → x < places → y < places → ends_in (next_in l) (stand_in l) (a ∷ []) most x y ≡ true
       → with_in home l k i a x y ≡ serves_in home (shifted l x y) k (i + 1) x
   unfolding with_in on_with land_in further serves_in
-  with-yes y long p q e = rw (add-one i) (simp (e, shifted_stands l x y long p q, shifted_ways l x y long p q))
+  with_yes y long p q e = rw (add-one i) (simp (e, shifted_stands l x y long p q, shifted_ways l x y long p q))
 
 -- the plot is as it was, and no series goes over a place beside place a in the directions before d
 pub record Unserved (home : ℕ) (l : List ℕ) (k i a : ℕ) (m : List ℕ) (d : ℕ) : Type 0 where
@@ -115,9 +115,9 @@ module _ {home : ℕ} {l : List ℕ} {k i a : ℕ} {m : List ℕ} {d : ℕ} (u :
       beside_at home l k i a (k - 1) d x (ap (λ (q : List ℕ). next_in q a d) (sym u.same) ∙ e)
       ∙ ap (λ (q : List ℕ). over_in home q (k - 1) i a x) (sym u.same)
 
-  pub unserved-over :
+  pub unserved_over :
       {x : ℕ} {n : List ℕ} → d < 6 → next_in m a d ≡ At x → over_in home m (k - 1) i a x ≡ false → n ≡ m → Unserved home l k i a n (d + 1)
-  unserved-over {x} b e f g =
+  unserved_over {x} b e f g =
       record { same = g ∙ u.same; most = omega arith; none = any_miss _ _ (over-at x e ∙ f) ∙ u.none }
 
   pub served :
@@ -149,13 +149,13 @@ module _ {home : ℕ} {l ends : List ℕ} {k i a x : ℕ} {m : List ℕ} {y : �
       y < places → end_marked ends x y ≡ true
       → with_in home l k i a x y ≡ serves_in home (shifted m x y) k (i + 1) x
   with_at b e =
-      with-yes home l k i a x y u.long u.inside b (sym (u.told y b) ∙ e)
+      with_yes home l k i a x y u.long u.inside b (sym (u.told y b) ∙ e)
       ∙ ap (λ (q : List ℕ). serves_in home (shifted q x y) k (i + 1) x) (sym u.same)
 
-  pub unended-with :
+  pub unended_with :
       {n : List ℕ} → y < places → end_marked ends x y ≡ true
       → serves_in home (shifted m x y) k (i + 1) x ≡ false → n ≡ m → Unended home l ends k i a x n (y + 1)
-  unended-with b e f g =
+  unended_with b e f g =
       record {
         same = g ∙ u.same;
         long = u.long;

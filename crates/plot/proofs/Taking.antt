@@ -72,21 +72,21 @@ module _ (place : ℕ → ℕ) (k : ℕ) (hexes : List ℕ) where
   unfolding places_from
   places_none l = ap (map place) (drop_of_length-le hexes l)
 
-  pub places-more :
+  pub places_more :
       k < length hexes → places_from place k hexes ≡ place (get_or hexes k 0) ∷ places_from place (k + 1) hexes
   unfolding places_from
-  places-more l = rw (add-one k) (ap (map place) (drop-cons hexes k 0 l))
+  places_more l = rw (add-one k) (ap (map place) (drop-cons hexes k 0 l))
 
   pub none_left : k ≤ length hexes → none (places_from place k hexes) ≡ eqb k (length hexes)
   none_left l =
       same_or k (length hexes)
       (λ e. ap none (places_none (omega arith)) ∙ sym (eq-eqb k (length hexes) e))
-      (λ n. ap none (places-more (omega arith)) ∙ sym (ne_eqb k (length hexes) n))
+      (λ n. ap none (places_more (omega arith)) ∙ sym (ne_eqb k (length hexes) n))
 
-  pub places-next :
+  pub places_next :
       (z : ℕ) → k < length hexes → z ≡ place (get_or hexes k 0)
       → places_from place k hexes ≡ z ∷ places_from place (k + 1) hexes
-  places-next z b e = places-more b ∙ ap (λ (x : ℕ). x ∷ places_from place (k + 1) hexes) (sym e)
+  places_next z b e = places_more b ∙ ap (λ (x : ℕ). x ∷ places_from place (k + 1) hexes) (sym e)
 
 -- what a chain takes, by its next hex
 module _ (next : Ways) (s : Stands) (used : List ℕ) (h z : ℕ) (zs : List ℕ) where
@@ -99,25 +99,25 @@ module _ (next : Ways) (s : Stands) (used : List ℕ) (h z : ℕ) (zs : List ℕ
   takes_apart zero e = refl
   takes_apart (suc n) e = simp e
 
-  pub takes-rest :
+  pub takes_rest :
       (left : ℕ) → 1 ≤ left → leads next h z ≡ true → rests s (h ∷ used) z ≡ true → takes next s used left h (z ∷ zs) ≡ up_to z zs
   unfolding takes
-  takes-rest zero p e f = absurd (omega arith)
-  takes-rest (suc n) p e f = simp (e, f)
+  takes_rest zero p e f = absurd (omega arith)
+  takes_rest (suc n) p e f = simp (e, f)
 
-  pub takes-shy :
+  pub takes_shy :
       (left : ℕ) → leads next h z ≡ true → rests s (h ∷ used) z ≡ false → has_rest next s (h ∷ used) h ≡ true
       → takes next s used left h (z ∷ zs) ≡ wrong
   unfolding takes
-  takes-shy zero e f g = refl
-  takes-shy (suc n) e f g = simp (e, f, g)
+  takes_shy zero e f g = refl
+  takes_shy (suc n) e f g = simp (e, f, g)
 
-  pub takes-firm :
+  pub takes_firm :
       (left : ℕ) → leads next h z ≡ true → rests s (h ∷ used) z ≡ false → has_rest next s (h ∷ used) h ≡ false
       → yields s (h ∷ used) z ≡ false → takes next s used left h (z ∷ zs) ≡ wrong
   unfolding takes
-  takes-firm zero e f g y = refl
-  takes-firm (suc n) e f g y = simp (e, f, g, y)
+  takes_firm zero e f g y = refl
+  takes_firm (suc n) e f g y = simp (e, f, g, y)
 
   more :
       (n : ℕ) → leads next h z ≡ true → rests s (h ∷ used) z ≡ false → has_rest next s (h ∷ used) h ≡ false
@@ -125,10 +125,10 @@ module _ (next : Ways) (s : Stands) (used : List ℕ) (h z : ℕ) (zs : List ℕ
   unfolding takes
   more n e f g y = simp (e, f, g, y)
 
-  pub takes-on :
+  pub takes_on :
       (left : ℕ) → 1 ≤ left → leads next h z ≡ true → rests s (h ∷ used) z ≡ false → has_rest next s (h ∷ used) h ≡ false
       → yields s (h ∷ used) z ≡ true → takes next s used left h (z ∷ zs) ≡ takes next s (h ∷ used) (left - 1) z zs
-  takes-on left p e f g y =
+  takes_on left p e f g y =
       let q : left ≡ suc (left - 1) = omega arith in
       ap (λ (n : ℕ). takes next s used n h (z ∷ zs)) q ∙ more (left - 1) e f g y
 
@@ -139,19 +139,19 @@ takes_zero next s used h [] = refl
 takes_zero next s used h (p ∷ ps) = refl
 
 -- the last stack that may be pushed pushes none
-pub takes-last :
+pub takes_last :
     (next : Ways) (s : Stands) (used : List ℕ) (h z : ℕ) (zs : List ℕ) (left : ℕ) → 1 ≤ left → left < 2 → leads next h z ≡ true
     → rests s (h ∷ used) z ≡ false → takes next s used left h (z ∷ zs) ≡ wrong
-takes-last next s used h z zs left p b e f =
+takes_last next s used h z zs left p b e f =
     either (has_rest next s (h ∷ used) h)
-    (λ g. takes-shy next s used h z zs left e f g)
+    (λ g. takes_shy next s used h z zs left e f g)
     (λ g.
     either (yields s (h ∷ used) z)
     (λ y.
     let q : left - 1 ≡ 0 = omega arith in
-    takes-on next s used h z zs left p e f g y
+    takes_on next s used h z zs left p e f g y
     ∙ ap (λ (n : ℕ). takes next s (h ∷ used) n z zs) q ∙ takes_zero next s (h ∷ used) z zs)
-    (λ y. takes-firm next s used h z zs left e f g y))
+    (λ y. takes_firm next s used h z zs left e f g y))
 
 -- an answer's parts
 pub same_took : (y j z k : ℕ) → T.UpTo y j ≡ T.UpTo z k → (y ≡ z) × (j ≡ k)
@@ -161,66 +161,66 @@ pub never_took : {A : Type 0} (y j : ℕ) → T.Wrong ≡ T.UpTo y j → A
 never_took y j e = let z : ◌≡◌ {A = ℕ} 0 1 = cc in absurd (omega arith)
 
 -- the next push is the place z
-along-chain :
+along_chain :
     (place : ℕ → ℕ) (l used : List ℕ) (left h k : ℕ) (pushes : List ℕ) (z : ℕ) → k < length pushes → z ≡ place (get_or pushes k 0)
     → takes (next_in l) (stand_in l) used left h (places_from place k pushes)
     ≡ takes (next_in l) (stand_in l) used left h (z ∷ places_from place (k + 1) pushes)
-along-chain place l used left h k pushes z b e =
+along_chain place l used left h k pushes z b e =
     ap (takes (next_in l) (stand_in l) used left h)
-    (places-next place k pushes z b e)
+    (places_next place k pushes z b e)
 
 -- the chain from the stack in place h on is wrong; or it comes to its last place
 module _ {place : ℕ → ℕ} {l used : List ℕ} {left h k : ℕ} {pushes : List ℕ} where
-  took-wrong :
+  took_wrong :
       takes (next_in l) (stand_in l) used left h (places_from place k pushes) ≡ wrong → TookIn place l used left h k pushes T.Wrong
-  took-wrong e = record { took = sym e; ends = λ y j f. never_took y j f }
+  took_wrong e = record { took = sym e; ends = λ y j f. never_took y j f }
 
   pub took_none : length pushes ≤ k → TookIn place l used left h k pushes T.Wrong
   took_none b =
-      took-wrong
+      took_wrong
       (ap (takes (next_in l) (stand_in l) used left h) (places_none place k pushes b) ∙ takes_none (next_in l) (stand_in l) used h 0 [] left)
 
   module _ {z : ℕ} (b : k < length pushes) (e : z ≡ place (get_or pushes k 0)) where
     pub took_apart : leads (next_in l) h z ≡ false → TookIn place l used left h k pushes T.Wrong
-    took_apart f = took-wrong (along-chain place l used left h k pushes z b e ∙ takes_apart _ _ _ _ _ _ left f)
+    took_apart f = took_wrong (along_chain place l used left h k pushes z b e ∙ takes_apart _ _ _ _ _ _ left f)
 
-    pub took-rest :
+    pub took_rest :
         1 ≤ left → leads (next_in l) h z ≡ true → rests (stand_in l) (h ∷ used) z ≡ true
         → TookIn place l used left h k pushes (T.UpTo z (k + 1))
-    took-rest p f r =
+    took_rest p f r =
         record {
-          took = sym (along-chain place l used left h k pushes z b e ∙ takes-rest _ _ _ _ _ _ left p f r);
+          took = sym (along_chain place l used left h k pushes z b e ∙ takes_rest _ _ _ _ _ _ left p f r);
           ends = λ y j q.
               let s = same_took z (k + 1) y j q in
               (omega (arith, led_below l h z f, s.0), omega (arith, s.1));
         }
 
-    pub took-last :
+    pub took_last :
         1 ≤ left → left < 2 → leads (next_in l) h z ≡ true → rests (stand_in l) (h ∷ used) z ≡ false
         → TookIn place l used left h k pushes T.Wrong
-    took-last p q f r = took-wrong (along-chain place l used left h k pushes z b e ∙ takes-last _ _ _ _ _ _ left p q f r)
+    took_last p q f r = took_wrong (along_chain place l used left h k pushes z b e ∙ takes_last _ _ _ _ _ _ left p q f r)
 
-    pub took-shy :
+    pub took_shy :
         leads (next_in l) h z ≡ true → rests (stand_in l) (h ∷ used) z ≡ false → has_rest (next_in l) (stand_in l) (h ∷ used) h ≡ true
         → TookIn place l used left h k pushes T.Wrong
-    took-shy f r g = took-wrong (along-chain place l used left h k pushes z b e ∙ takes-shy _ _ _ _ _ _ left f r g)
+    took_shy f r g = took_wrong (along_chain place l used left h k pushes z b e ∙ takes_shy _ _ _ _ _ _ left f r g)
 
-    pub took-firm :
+    pub took_firm :
         leads (next_in l) h z ≡ true → rests (stand_in l) (h ∷ used) z ≡ false → has_rest (next_in l) (stand_in l) (h ∷ used) h ≡ false
         → yields (stand_in l) (h ∷ used) z ≡ false → TookIn place l used left h k pushes T.Wrong
-    took-firm f r g y = took-wrong (along-chain place l used left h k pushes z b e ∙ takes-firm _ _ _ _ _ _ left f r g y)
+    took_firm f r g y = took_wrong (along_chain place l used left h k pushes z b e ∙ takes_firm _ _ _ _ _ _ left f r g y)
 
     -- it goes on from the stack there
-    pub took-on :
+    pub took_on :
         {more : List ℕ} {r : Took} → 1 ≤ left → leads (next_in l) h z ≡ true → rests (stand_in l) (h ∷ used) z ≡ false
         → has_rest (next_in l) (stand_in l) (h ∷ used) h ≡ false → yields (stand_in l) (h ∷ used) z ≡ true → more ≡ h ∷ used
         → TookIn place l more (left - 1) z (k + 1) pushes r → TookIn place l used left h k pushes r
-    took-on p f r g y q t =
+    took_on p f r g y q t =
         record {
           took =
               t.took
               ∙ ap (λ (u : List ℕ). takes (next_in l) (stand_in l) u (left - 1) z (places_from place (k + 1) pushes)) q
-              ∙ sym (along-chain place l used left h k pushes z b e ∙ takes-on _ _ _ _ _ _ left p f r g y);
+              ∙ sym (along_chain place l used left h k pushes z b e ∙ takes_on _ _ _ _ _ _ left p f r g y);
           ends = t.ends;
         }
 

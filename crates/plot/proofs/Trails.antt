@@ -159,9 +159,9 @@ unused_falls used z l n =
     omega (arith, tally_but_hit t z places l n)
 
 -- so a push takes the chain to a place more
-pub push-uses :
+pub push_uses :
     (s : Stands) {used more : List ℕ} (z : ℕ) → more ≡ used → z < places → yields s used z ≡ true → unused (z ∷ more) < unused used
 unfolding yields
-push-uses s {used} {more} z e l y =
+push_uses s {used} {more} z e l y =
     let u = ap (λ (us : List ℕ). unused (z ∷ us)) e in
     omega (arith, unused_falls used z l (both_yes (is_loose (s z)) (not (named used z)) y).1)

@@ -41,11 +41,11 @@ pub placed_out : (p : List ℕ) (u h : ℕ) → hexes p ≤ h → make p (placed
 unfolding make
 placed_out p u h l = simp (le-ltb h (hexes p) l)
 
-pub routed-in :
+pub routed_in :
     (p : List ℕ) (r a b c d : ℕ) → r < route_count
     → make p (routed r a b c d) ≡ set_route_hex (set_route_hex (set_route_hex (set_route_hex p r 0 a) r 1 b) r 2 c) r 3 d
 unfolding make set_route
-routed-in p r a b c d l = simp (lt-ltb r route_count l)
+routed_in p r a b c d l = simp (lt-ltb r route_count l)
 
 pub routed_out : (p : List ℕ) (r a b c d : ℕ) → route_count ≤ r → make p (routed r a b c d) ≡ p
 unfolding make set_route

@@ -119,9 +119,9 @@ module _ {p : List ℕ} {v : View} (o : ViewOf p v) (a d : ℕ) where
       (λ z. sym (next_blocked (ground p) a d z))
       (λ z. sym (next_beside (ground p) a d z ∙ sym (beside_view o a d) ∙ e))
 
-  pub next-at :
+  pub next_at :
       {x : ℕ} → neighbour_of v.width v.height a d ≡ At x → (side (ground p) a d ≡ blocked_side → ⊥) → At x ≡ next (ground p) a d
-  next-at e z = sym (next_beside (ground p) a d z ∙ sym (beside_view o a d) ∙ e)
+  next_at e z = sym (next_beside (ground p) a d z ∙ sym (beside_view o a d) ∙ e)
 
 -- what a test of a step tells of it
 pub is-at : (r : Beside) (x : ℕ) → is_at r x ≡ true → r ≡ At x

@@ -133,10 +133,10 @@ module _ (b : Board) (f start home : ℕ) (at : Region) (l : List ℕ) (o : On b
       ∙ sym (same_search folds agrees (board_bounded b start) (plot_bounded home l) n 0 start (near_start w h start o) (omega arith))
 
   -- and the test of an order says what it says there
-  pub follows-there :
+  pub follows_there :
       (route pushes : List ℕ) → length route ≤ 3
       → follows (land_in home l) (stand_in l) 0 home (map place route) (map place pushes)
       ≡ follows (land_of b start) (stand b f start) 0 start route pushes
-  follows-there route pushes q =
+  follows_there route pushes q =
       let by : ℕ → Bool = λ i. follows (land_in home l) (stand_in l) 0 i (map place route) (map place pushes) in
       ap by (sym start_place) ∙ sym (same_test folds agrees 0 start (near_start w h start o) route pushes (omega arith))

@@ -20,7 +20,7 @@ use Rattle.pushes.specs.declared.Served.{Served}
 use Rattle.pushes.specs.declared.Served.TheVariants.{None, Wrong, Right}
 use Rattle.pushes.specs.Drawn.{Drawn}
 use Rattle.pushes.specs.Pushes.{served, served_in}
-use Rattle.pushes.proofs.Folding.{serves_there, follows-there}
+use Rattle.pushes.proofs.Folding.{serves_there, follows_there}
 
 -- what comes of an order on a plot, by the search, the route's length and the test
 module _ (place : ℕ → ℕ) (home : ℕ) (l : List ℕ) (n : ℕ) (route pushes : List ℕ) where
@@ -54,7 +54,7 @@ module _ (b : Board) (f start home : ℕ) (at : Region) (l : List ℕ) (o : On b
   unfolding legal_pushes follows_in places_from
   legal n route pushes t =
       same_or (length route) n
-      (λ q. ap (λ (x : Bool). eqb (length route) n && x) (follows-there b f start home at l o r e k route pushes (omega (arith, q, t))))
+      (λ q. ap (λ (x : Bool). eqb (length route) n && x) (follows_there b f start home at l o r e k route pushes (omega (arith, q, t))))
       (λ q. simp (ne_eqb (length route) n q))
 
   pub as_on_board : (n : ℕ) (route pushes : List ℕ) → n ≤ 3 → served_in place home l n route pushes ≡ served b f start n route pushes

@@ -50,9 +50,9 @@ pub turning_none : {p us : List ℕ} {v : View} → Laid p v → Turning p v us 
 unfolding turned_all
 turning_none l = record { most = omega arith; made = refl; laid = l }
 
-pub turning-more :
+pub turning_more :
     {p us q r : List ℕ} {v : View} {i u : ℕ} → Turning p v us i q → i < length us → u ≡ get_or us i 0 → r ≡ turned q u → Turning p v us (i + 1) r
-turning-more {p} {us} {q} {r} {v} {i} {u} o l e f =
+turning_more {p} {us} {q} {r} {v} {i} {u} o l e f =
     record {
       most = omega arith;
       made =
@@ -158,11 +158,11 @@ pub marking_none : {p us : List ℕ} {v : View} → Laid p v → Marking p v us 
 unfolding makes fought_by
 marking_none l = record { most = omega arith; laid = l; made = λ b o. (refl, o) }
 
-pub marking-more :
+pub marking_more :
     {p us q r : List ℕ} {v : View} {i u m x : ℕ} → Marking p v us i q → i < length us → u ≡ get_or us i 0 → m ≡ marks q u → x ≡ with fought m
     → r ≡ make q (marked u x) → Marking p v us (i + 1) r
 unfolding fought_by
-marking-more {p} {us} {q} {r} {v} {i} {u} {m} {x} o l e f g h =
+marking_more {p} {us} {q} {r} {v} {i} {u} {m} {x} o l e f g h =
     record {
       most = omega arith;
       laid = rw h (laid_make o.laid (marked u x));
@@ -233,14 +233,14 @@ module _ (xs : List ℕ) (x : ℕ) where
   unfolding add_once
   once_new e = once_last [] xs x ∙ simp (once_named xs x ∙ e)
 
-routed-last :
+routed_last :
     (r : ℕ) (hs : List ℕ) (h : ℕ) → routed_from r (hs ++ (h ∷ [])) ≡ routed_from r hs ++ (routed (r + length hs) h nowhere nowhere nowhere ∷ [])
 unfolding routed_from
-routed-last r [] h = let e : r ≡ r + 0 = omega arith in ap (λ (k : ℕ). routed k h nowhere nowhere nowhere ∷ []) e
-routed-last r (y ∷ ys) h =
+routed_last r [] h = let e : r ≡ r + 0 = omega arith in ap (λ (k : ℕ). routed k h nowhere nowhere nowhere ∷ []) e
+routed_last r (y ∷ ys) h =
     let e : r + 1 + length ys ≡ r + suc (length ys) = omega arith in
     ap (λ (l : List Change). routed r y nowhere nowhere nowhere ∷ l)
-    (routed-last (r + 1) ys h ∙ ap (λ (k : ℕ). routed_from (r + 1) ys ++ (routed k h nowhere nowhere nowhere ∷ [])) e)
+    (routed_last (r + 1) ys h ∙ ap (λ (k : ℕ). routed_from (r + 1) ys ++ (routed k h nowhere nowhere nowhere ∷ [])) e)
 
 -- writing routes moves no unit
 routed_units : (b : Board) (r : ℕ) (hs : List ℕ) → (changes b (routed_from r hs)).units ≡ b.units
@@ -270,10 +270,10 @@ module _ {p us q : List ℕ} {v : View} {i r : ℕ} (s : Shaped p) (o : Routing 
   written : map (hex p) (take (i + 1) us) ≡ map (hex p) (take i us) ++ (hex p (get_or us i 0) ∷ [])
   written = ap (map (hex p)) (take_more us i l) ∙ map_last (hex p) (take i us) (get_or us i 0)
 
-  pub routing-more :
+  pub routing_more :
       {n : ℕ} {t : List ℕ} → RoutesOnce q (named (map (hex q) (take i us)) (hex q (get_or us i 0))) r (hex q (get_or us i 0)) n t
       → Laid t v → Routing p v us (i + 1) n t
-  routing-more {n} {t} g k =
+  routing_more {n} {t} g k =
       let xs = map (hex p) (take i us) in
       let h = hex p (get_or us i 0) in
       let e : named (map (hex q) (take i us)) (hex q (get_or us i 0)) ≡ named xs h =
@@ -308,7 +308,7 @@ module _ {p us q : List ℕ} {v : View} {i r : ℕ} (s : Shaped p) (o : Routing 
             ∙ ap₂ (λ (x : List ℕ) (b : ℕ). make x (y r b)) o.made (stays (get_or us i 0))
             ∙ ap (λ (a : ℕ). make (makes p (routed_from 0 hs)) (y a h)) a
             ∙ sym (makes_snoc (routed_from 0 hs) (y (0 + length hs) h) p)
-            ∙ ap (makes p) (sym (routed-last 0 hs h))
+            ∙ ap (makes p) (sym (routed_last 0 hs h))
             ∙ ap (λ (x : List ℕ). makes p (routed_from 0 x)) (sym z);
       })
 

@@ -103,7 +103,7 @@ module _ (b : Board) (f start : ℕ) (nobody : Nobody b f start) where
       (λ y. y)
 
 -- the group has no series of pushes then
-pub alone-series :
+pub alone_series :
     (b : Board) (h : ℕ) → b.desk.battle.owed ≤ 3 → Nobody b (group_force b h) h → has_route b h ≡ false → has_series b h ≡ false
 unfolding has_route has_series
-alone-series b h l n e = alone_none b (group_force b h) h n b.desk.battle.owed l e
+alone_series b h l n e = alone_none b (group_force b h) h n b.desk.battle.owed l e

@@ -20,7 +20,7 @@ use Rattle.ruling.specs.Packed.{Roomy}
 use Rattle.ruling.specs.Packed.Replies.{of_retreat}
 use Rattle.ruling.specs.Secret.{Each}
 use Rattle.ruling.proofs.Bounded.{Bounded, bounded_past, bounded_ruled}
-use Rattle.field.proofs.Bounds.{from-bounded, map-bounded}
+use Rattle.field.proofs.Bounds.{from_bounded, map_bounded}
 use Rattle.retreat.specs.Retreat.{doomed, end_of, not_part, not_pushed, not_vacant, retreat_rule, retreat_values}
 
 -- a number of a list of hexes, or nowhere
@@ -29,17 +29,17 @@ hex_small l [] h i = omega arith
 hex_small l (x ∷ xs) h zero = omega (arith, h.0)
 hex_small l (x ∷ xs) h (suc i) = hex_small l xs h.1 i
 
-values-roomy :
+values_roomy :
     (b : Board) (h : ℕ) (route : List ℕ) → b.map.hexes ≤ 65536 → Each (λ x. x < b.map.hexes) route
     → Roomy of_retreat (retreat_values b h route)
 unfolding retreat_values end_of
-values-roomy b h route l on =
+values_roomy b h route l on =
     either (doomed b h) (λ e. rw e (inl refl)) (λ e. rw e (inr (refl, hex_small l route on (b.desk.battle.owed - 1))))
 
-pub retreat-bounded :
+pub retreat_bounded :
     {p l : List ℕ} → Accepted p → (h : ℕ) (route pushes : List ℕ) → Bounded of_retreat p l (retreat_rule (board p) h route pushes)
 unfolding retreat_rule
-retreat-bounded {p} a h route pushes =
+retreat_bounded {p} a h route pushes =
     let b = board p in
     bounded_past (ltb 3 (length route)) refl
     (λ short.
@@ -49,9 +49,9 @@ retreat-bounded {p} a h route pushes =
     let f = ltb-false 9 (length pushes) few in
     bounded_past (leb b.map.hexes h) refl
     (λ _.
-    map-bounded b route _ (omega (arith, s))
+    map_bounded b route _ (omega (arith, s))
     (λ on.
-    from-bounded b pushes _ (length route + 1) (omega (arith, s, f))
+    from_bounded b pushes _ (length route + 1) (omega (arith, s, f))
     (λ _.
     bounded_past (not (eqb b.desk.battle.stage Stage.retreats)) refl
     (λ _.
@@ -62,4 +62,4 @@ retreat-bounded {p} a h route pushes =
     bounded_past (not_vacant b h route pushes) refl
     (λ _.
     bounded_past (not_pushed b h route pushes) refl
-    (λ _. bounded_ruled (values-roomy b h route (omega (arith, hexes_most a.shaped)) on)))))))))))
+    (λ _. bounded_ruled (values_roomy b h route (omega (arith, hexes_most a.shaped)) on)))))))))))

@@ -117,21 +117,21 @@ module _ (b : Board) (f a : ℕ) where
   past_vacant x ps h v = record { stays = carried_vacant b x v ps h; only = λ y i. sym (carried_vacant b x v ps y) ∙ i }
 
   -- "no hex comes twice": a hex of the chain that came before is passed
-  chain-past :
+  chain_past :
       {next : Ways} {used zs : List ℕ} {left x last : ℕ} → Chain next (stand b f a) used left x zs last → named used a ≡ true
       → stand b f a x ≡ Loose → (others : List ℕ) (h : ℕ) → named used h ≡ true → (h ≡ x → ⊥) → Past b x (zs ++ others) h
-  chain-past (rest {used} {left} {h = x} {z} d l e r) u i others h k n =
+  chain_past (rest {used} {left} {h = x} {z} d l e r) u i others h k n =
       let q = rests_free (stand b f a) (x ∷ used) z r in
       let off : (y : ℕ) → named used y ≡ true → y ≡ z → ⊥ =
       λ y j s. not_both (named (x ∷ used) z) (ap (named (x ∷ used)) (sym s) ∙ named_more x used y j) q.1
       in
       past_more x z others h (loose_held b f a x (loose_is b f a x i)) n (off h k)
       (past_vacant z others h (free_vacant b f a z (λ s. off a u (sym s)) (free_is b f a z q.0)))
-  chain-past (push {used} {left} {h = x} {z} {last} {zs} d l e m r c) u i others h k n =
+  chain_past (push {used} {left} {h = x} {z} {last} {zs} d l e m r c) u i others h k n =
       let q = yields_loose (stand b f a) (x ∷ used) z r in
       let off : h ≡ z → ⊥ = λ s. not_both (named (x ∷ used) z) (ap (named (x ∷ used)) (sym s) ∙ named_more x used h k) q.1 in
       past_more x z (zs ++ others) h (loose_held b f a x (loose_is b f a x i)) n off
-      (chain-past c (named_more x used a u) q.0 others h (named_more x used h k) off)
+      (chain_past c (named_more x used a u) q.0 others h (named_more x used h k) off)
 
 -- board c, once hex x of board b is cleared by these pushes: each unit is where they carry it, and whoever is in the box stays there
 pub record Shoved (b : Board) (x : ℕ) (ps : List ℕ) (c : Board) : Type 0 where
@@ -148,10 +148,10 @@ shoved_vacant b x v ps =
     }
 
 -- one push more: the stack of hex x follows into hex z
-shoved-more :
+shoved_more :
     (b : Board) (x z : ℕ) (ps : List ℕ) → vacant (scene b) x ≡ false → z < b.map.hexes → (x ≡ nowhere → ⊥) → Past b z ps x
     → Shoved b z ps (once_cleared b z ps) → Shoved b x (z ∷ ps) (once_cleared b x (z ∷ ps))
-shoved-more b x z ps e m real p s =
+shoved_more b x z ps e m real p s =
     let c = once_cleared b z ps in
     let f = fixed_changes (clears b z ps).done b in
     let moved : (w : ℕ) → w < b.units.count → Moved c (changes c (stack_to c x z)) x z w =
@@ -177,23 +177,23 @@ module _ (b : Board) (most : b.map.hexes ≤ nowhere) (f a : ℕ) where
   on_map_lem x e = standable_on b x (bears_stands b f x e)
 
   -- the whole chain
-  pub chain-shoved :
+  pub chain_shoved :
       {next : Ways} {used zs : List ℕ} {left x last : ℕ} → Chain next (stand b f a) used left x zs last → named used a ≡ true
       → stand b f a x ≡ Loose → (others : List ℕ) → Shoved b x (zs ++ others) (once_cleared b x (zs ++ others))
   unfolding changes
-  chain-shoved (rest {used} {left} {h = x} {z} d l e r) u i others =
+  chain_shoved (rest {used} {left} {h = x} {z} d l e r) u i others =
       let q = rests_free (stand b f a) (x ∷ used) z r in
       let free = free_is b f a z q.0 in
       let off : z ≡ a → ⊥ = λ s. not_both (named (x ∷ used) z) (ap (named (x ∷ used)) s ∙ named_more x used a u) q.1 in
       let v = free_vacant b f a z off free in
       let loose = loose_is b f a x i in
       let j = on_map_lem x loose.bear in
-      shoved-more b x z others (loose_held b f a x loose) (on_map_lem z free.bear) (λ k. omega (arith, j)) (past_vacant b f a z others x v)
+      shoved_more b x z others (loose_held b f a x loose) (on_map_lem z free.bear) (λ k. omega (arith, j)) (past_vacant b f a z others x v)
       (rw (clears_vacant b z v others) (shoved_vacant b z v others))
-  chain-shoved (push {used} {left} {h = x} {z} {last} {zs} d l e m r c) u i others =
+  chain_shoved (push {used} {left} {h = x} {z} {last} {zs} d l e m r c) u i others =
       let q = yields_loose (stand b f a) (x ∷ used) z r in
       let loose = loose_is b f a x i in
       let j = on_map_lem x loose.bear in
-      shoved-more b x z (zs ++ others) (loose_held b f a x loose) (on_map_lem z (loose_is b f a z q.0).bear) (λ k. omega (arith, j))
-      (chain-past b f a c (named_more x used a u) q.0 others x (named_here x used x refl) (unnamed_parts x used z q.1).0)
-      (chain-shoved c (named_more x used a u) q.0 others)
+      shoved_more b x z (zs ++ others) (loose_held b f a x loose) (on_map_lem z (loose_is b f a z q.0).bear) (λ k. omega (arith, j))
+      (chain_past b f a c (named_more x used a u) q.0 others x (named_here x used x refl) (unnamed_parts x used z q.1).0)
+      (chain_shoved c (named_more x used a u) q.0 others)

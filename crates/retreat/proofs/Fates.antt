@@ -59,10 +59,10 @@ none_eqb (x ∷ xs) = ne_eqb (length (x ∷ xs)) 0 (λ e. omega arith)
 
 -- what a group that is destroyed must be sent
 module _ (b : Board) (h : ℕ) (route : List ℕ) where
-  pub part-walks :
+  pub part_walks :
       any (walks_from b h) b.units.count ≡ true → is_part b h route ≡ part_route b (group_force b h) h route
   unfolding is_part
-  part-walks w = simp w
+  part_walks w = simp w
 
   pub part_supply : any (walks_from b h) b.units.count ≡ false → is_part b h route ≡ none route
   unfolding is_part
@@ -112,40 +112,40 @@ module _ (b : Board) (h : ℕ) (route pushes : List ℕ) where
       fate_no_pushes f = simp (e, r, f)
 
   -- where only supply units owe
-  pub fate-supply :
+  pub fate_supply :
       any (walks_from b h) b.units.count ≡ false → lost_fate (eqb (length route) 0) pushes ≡ fate_of b h route pushes
-  fate-supply w =
+  fate_supply w =
       ap (λ (t : Bool). lost_fate t pushes) (none_eqb route ∙ sym (part_supply b h route w))
       ∙ sym (fate_doomed (doomed_supply b h w))
 
   module _ (w : any (walks_from b h) b.units.count ≡ true) where
     -- where no vacant route exists, and no series either
-    pub fate-trapped :
+    pub fate_trapped :
         has_route b h ≡ false → has_series b h ≡ false
         → lost_fate (part_route b (group_force b h) h route) pushes ≡ fate_of b h route pushes
-    fate-trapped r s =
-        ap (λ (t : Bool). lost_fate t pushes) (sym (part-walks b h route w)) ∙ sym (fate_doomed (doomed_neither b h r s))
+    fate_trapped r s =
+        ap (λ (t : Bool). lost_fate t pushes) (sym (part_walks b h route w)) ∙ sym (fate_doomed (doomed_neither b h r s))
 
     -- where no vacant route exists
-    pub fate-served :
+    pub fate_served :
         has_route b h ≡ false
         → served_fate (lost_fate (part_route b (group_force b h) h route) pushes)
         (served b (group_force b h) h b.desk.battle.owed route pushes)
         ≡ fate_of b h route pushes
     unfolding served has_series
-    fate-served r =
+    fate_served r =
         either (pushes_serve b (group_force b h) h b.desk.battle.owed)
         (λ s.
         either fits_pushed
         (λ f. simp (s, f) (sym (fate_pushing (spared_series b h w s) r f)))
         (λ f. simp (s, f) (sym (fate_no_pushes (spared_series b h w s) r f))))
-        (λ s. simp s (fate-trapped r s))
+        (λ s. simp s (fate_trapped r s))
 
     -- where one does
     module _ (r : has_route b h ≡ true) where
-      pub fate-legal :
+      pub fate_legal :
           legal b (group_force b h) h b.desk.battle.owed route ≡ true → cond (none pushes) Walking WrongRoute ≡ fate_of b h route pushes
-      fate-legal f =
+      fate_legal f =
           either (none pushes)
           (λ e. simp e (sym (fate_vacant (spared_route b h w r) r (simp (f, e)))))
           (λ e. simp e (sym (fate_no_route (spared_route b h w r) r (simp (f, e)))))

@@ -66,20 +66,20 @@ module _ (t : ℕ → Bool) where
       ∙ sieve_first n u e (omega arith) y)
 
 module _ (b : Board) (h : ℕ) where
-  pub first-owing :
+  pub first_owing_lem :
       (u : ℕ) → any (owes_at b h) u ≡ false → u < b.units.count → owes_at b h u ≡ true → u ≡ get_or (group b h) 0 0
   unfolding group
-  first-owing u e l y = sym (sieve_first (owes_at b h) b.units.count u e l y)
+  first_owing_lem u e l y = sym (sieve_first (owes_at b h) b.units.count u e l y)
 
   pub none_owing : any (owes_at b h) b.units.count ≡ false → 0 ≡ get_or (group b h) 0 0
   unfolding group
   none_owing e = sym (ap (λ (us : List ℕ). get_or us 0 0) (sieve_none (owes_at b h) b.units.count e))
 
 -- what the outlook is, of the numbers as they were read
-pub outlook-as :
+pub outlook_as :
     (b : Board) (h : ℕ) (route : List ℕ) (r : Outlook) {f g n m : ℕ} → f ≡ g → n ≡ m → OutlookOf b f h n route r
     → OutlookOf b g h m route r
-outlook-as b h route r ef en o = rw ef at (rw en at o)
+outlook_as b h route r ef en o = rw ef at (rw en at o)
 
 -- it tells whether a run of so many hexes exists
 abbrev pub opens : Outlook → Bool
@@ -88,12 +88,12 @@ opens Illegal = true
 opens (Friends run) = false
 opens (Alone run) = false
 
-pub outlook-opens :
+pub outlook_opens :
     (b : Board) (f h n : ℕ) (route : List ℕ) (r : Outlook) → OutlookOf b f h n route r → found (first_route b f h n) ≡ opens r
-outlook-opens b f h n route Legal o = o.0
-outlook-opens b f h n route Illegal o = o.0
-outlook-opens b f h n route (Friends run) o = o.0
-outlook-opens b f h n route (Alone run) o = o.0
+outlook_opens b f h n route Legal o = o.0
+outlook_opens b f h n route Illegal o = o.0
+outlook_opens b f h n route (Friends run) o = o.0
+outlook_opens b f h n route (Alone run) o = o.0
 
 -- what is asked of a vacant route
 pub none_found :
@@ -118,16 +118,16 @@ module _ (b : Board) (h : ℕ) (route : List ℕ) where
   unfolding has_route
   told_friends o = o
 
-  pub told-alone :
+  pub told_alone :
       {t : Bool} → Says (Alone t) → (has_route b h ≡ false) × (t ≡ is_run b (group_force b h) h route) × Nobody b (group_force b h) h
   unfolding has_route
-  told-alone o = o
+  told_alone o = o
 
 -- and what comes of pushes, of them
-pub served-as :
+pub served_as :
     (b : Board) (h : ℕ) (route pushes : List ℕ) {f n : ℕ} {y : Served} → f ≡ group_force b h → n ≡ b.desk.battle.owed
     → y ≡ served b f h n route pushes → y ≡ served b (group_force b h) h b.desk.battle.owed route pushes
-served-as b h route pushes ef en ey = ey ∙ ap₂ (λ (f n : ℕ). served b f h n route pushes) ef en
+served_as b h route pushes ef en ey = ey ∙ ap₂ (λ (f n : ℕ). served b f h n route pushes) ef en
 
 -- the questions of the group, in their order
 module _ (p : List ℕ) (b : Board) (h : ℕ) (route pushes : List ℕ) where
@@ -155,9 +155,9 @@ module _ (p : List ℕ) (b : Board) (h : ℕ) (route pushes : List ℕ) where
         stops_route s l v = numbers (s l _)
 
         module _ (o : Passes p (on_map_all b route)) where
-          pub stops-pushes :
+          pub stops_pushes :
               {n j : ℕ} → Stops p (on_map_from b pushes (length route + 1)) n j → Stops p (group_checks b h route pushes) n j
-          stops-pushes s l v = numbers (o l _ _ _ _ (s l _))
+          stops_pushes s l v = numbers (o l _ _ _ _ (s l _))
 
           module _ (i : Passes p (on_map_from b pushes (length route + 1))) where
             pub stops_stage : (b.desk.battle.stage ≡ Stage.retreats → ⊥) → Stops p (group_checks b h route pushes) 2 0
@@ -168,9 +168,9 @@ module _ (p : List ℕ) (b : Board) (h : ℕ) (route pushes : List ℕ) where
               stops_role f l v =
                   numbers (o l _ _ _ _ (i l _ _ _ _ (pass (ap not (eq-eqb b.desk.battle.stage Stage.retreats e)) (stop (ap not f)))))
 
-              pub passes-group :
+              pub passes_group :
                   any (owes_at b h) b.units.count ≡ true → Passes p (group_checks b h route pushes) × RetreatNow b h
-              passes-group f = (
+              passes_group f = (
                 λ l v a q x w.
                     numbers (o l _ a q x (i l _ a q x (pass (ap not (eq-eqb b.desk.battle.stage Stage.retreats e)) (pass (ap not f) w)))),
                 record { there = k; now = e },

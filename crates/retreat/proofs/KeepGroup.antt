@@ -27,7 +27,7 @@ use Rattle.field.proofs.Lists.{named_nil, sieve_at, sieve_long}
 use Rattle.field.proofs.Named.{sieve_each, sieve_names}
 use Rattle.shoves.specs.Group.{group, group_force}
 use Rattle.shoves.proofs.KeepEnds.{Left, all_doomed}
-use Rattle.shoves.proofs.KeepMove.{Going, Goes, all-gone}
+use Rattle.shoves.proofs.KeepMove.{Going, Goes, all_gone}
 use Rattle.shoves.proofs.KeepStep.{OwnGroup}
 use Rattle.retreat.specs.Retreat.{goes_off, leaves}
 use Rattle.retreat.proofs.Leaving.{gather_falls, gather_leaves}
@@ -80,7 +80,7 @@ module _ {o b : Board} (s : Since o b) (most : o.map.hexes ≤ nowhere) (h : ℕ
     going =
         let t = owes_at b h in
         rw (sym (gather_leaves d x (group b h)))
-        (all-gone s most h x t supply true (λ w l e. owes_hex b w h e) real stands v (leaves d x) goes (group b h)
+        (all_gone s most h x t supply true (λ w l e. owes_hex b w h e) real stands v (leaves d x) goes (group b h)
         (sieve_each t b.units.count)
         (sieve_names t b.units.count))
 

@@ -23,10 +23,10 @@ use Rattle.position.proofs.Tallies.{any_some, both_yes, either, tally_some}
 use Rattle.acceptance.specs.Accepted.{Accepted, Lawful, StageOk}
 use Rattle.acceptance.proofs.Carries.{changes_then, fixed_change, standable_by}
 use Rattle.acceptance.proofs.Owings.{owing_some}
-use Rattle.acceptance.proofs.Routings.{routes_empty, routes-more}
-use Rattle.acceptance.proofs.Since.{Since, lawful-since}
+use Rattle.acceptance.proofs.Routings.{routes_empty, routes_more}
+use Rattle.acceptance.proofs.Since.{Since, lawful_since}
 use Rattle.acceptance.proofs.Stages.{stage_retreats}
-use Rattle.ruling.proofs.Kept.{Kept, kept-along, kept_past, kept_ruled}
+use Rattle.ruling.proofs.Kept.{Kept, kept_along, kept_past, kept_ruled}
 use Rattle.field.specs.Listed.{off_map, on_map_all, on_map_from}
 use Rattle.field.specs.Scene.{scene}
 use Rattle.field.specs.Zone.{stands_on, vacant}
@@ -41,10 +41,10 @@ use Rattle.chains.proofs.Follows.{legal_pushes_right}
 use Rattle.shoves.specs.Group.{group, group_force}
 use Rattle.shoves.proofs.KeepChain.{bears_stands}
 use Rattle.shoves.proofs.KeepEnds.{Left}
-use Rattle.shoves.proofs.KeepSeries.{series-left}
+use Rattle.shoves.proofs.KeepSeries.{series_left}
 use Rattle.shoves.proofs.KeepStep.{OwnGroup}
-use Rattle.shoves.proofs.KeepZone.{bears-same}
-use Rattle.shoves.proofs.Standing.{apart-same, not_shut, stand-same}
+use Rattle.shoves.proofs.KeepZone.{bears_same}
+use Rattle.shoves.proofs.Standing.{apart_same, not_shut, stand_same}
 use Rattle.aftermath.specs.Stage.{passes_on, then_on}
 use Rattle.aftermath.proofs.KeepStage.{lawful_passed}
 use Rattle.retreat.specs.Retreat.{
@@ -63,15 +63,15 @@ use Rattle.retreat.specs.Retreat.{
   retreat_rule,
   walks_from,
 }
-use Rattle.retreat.proofs.Fates.{none_nil, part_supply, part-walks}
+use Rattle.retreat.proofs.Fates.{none_nil, part_supply, part_walks}
 use Rattle.retreat.proofs.KeepRoute.{
   refuge_stands,
   refuge_vacant,
   routes_room_lem,
-  run-follows,
-  run-refuge,
+  run_follows,
+  run_refuge,
   series_follows,
-  since-written,
+  since_written,
   standable_where,
 }
 use Rattle.retreat.proofs.KeepGroup.{Owes, doomed_left, group_own, left_holders, left_owing, off_left, start_stands}
@@ -107,7 +107,7 @@ module _ (b : Board) (h x y z : ℕ) where
       let k = fixed_change b (routed (routes b) h x y z) in
       fun_ext
       (λ w.
-      stand-same f h h w k (bears-same f k (λ u l n. refl) w) (λ u l. apart-same b noted h w u refl refl) (λ u l e. refl))
+      stand_same f h h w k (bears_same f k (λ u l n. refl) w) (λ u l. apart_same b noted h w u refl refl) (λ u l e. refl))
 
   pub noted_own : (f : ℕ) → OwnGroup b f h → OwnGroup noted f h
   unfolding change force_of
@@ -152,7 +152,7 @@ module _ {b : Board} (l : Lawful b) (most : b.map.hexes ≤ nowhere) (e : b.desk
     one_more : routes c ≡ routes b + 1
     one_more =
         routes_desk (noted b h x y z) c o.desk
-        ∙ routes-more b (routes b) h x y z (routes_room_lem l e) real
+        ∙ routes_more b (routes b) h x y z (routes_room_lem l e) real
         (routes_empty l.routes (routes b) (omega arith) (routes_room_lem l e))
 
     as_before : (c.desk.battle.stage ≡ Stage.retreats) × (c.desk.battle.owed ≡ b.desk.battle.owed) × (c.desk.battle.need ≡ 0)
@@ -184,7 +184,7 @@ module _ {b : Board} (l : Lawful b) (most : b.map.hexes ≤ nowhere) (e : b.desk
     lawful_left : Lawful (changes c (passes_on c))
     lawful_left =
         lawful_passed l most (λ i. omega arith) o.since
-        (λ n. lawful-since l o.since (omega (arith, as_before.0)) (λ _. l.clock.combat (λ i. omega arith)) (goes_on_lem n))
+        (λ n. lawful_since l o.since (omega (arith, as_before.0)) (λ _. l.clock.combat (λ i. omega arith)) (goes_on_lem n))
 
   -- the group is destroyed at the end of a run
   module _ (f : ℕ) (route : List ℕ) {last : ℕ} (r : Run b f h 0 h route last) where
@@ -195,8 +195,8 @@ module _ {b : Board} (l : Lawful b) (most : b.map.hexes ≤ nowhere) (e : b.desk
         let x = get_or route 0 nowhere in
         let y = get_or route 1 nowhere in
         let z = get_or route 2 nowhere in
-        let k = run-follows most real r in
-        rw (sym (noted_group b h x y z)) (doomed_left (since-written l most e h x y z stands (k 0) (k 1) (k 2)) most h)
+        let k = run_follows most real r in
+        rw (sym (noted_group b h x y z)) (doomed_left (since_written l most e h x y z stands (k 0) (k 1) (k 2)) most h)
 
   -- it goes along a vacant route
   module _ (f : ℕ) (route : List ℕ) (r : LegalRoute b f h b.desk.battle.owed route) where
@@ -206,13 +206,13 @@ module _ {b : Board} (l : Lawful b) (most : b.map.hexes ≤ nowhere) (e : b.desk
         let x = get_or route 0 nowhere in
         let y = get_or route 1 nowhere in
         let z = get_or route 2 nowhere in
-        let k = run-follows most real r.run in
+        let k = run_follows most real r.run in
         let w = (l.stage.during.retreats e).owed in
         let i = b.desk.battle.owed - 1 in
-        let v = run-refuge most r.run i (omega (arith, r.long, w.low)) in
+        let v = run_refuge most r.run i (omega (arith, r.long, w.low)) in
         let end = get_or route i nowhere in
         rw (sym (noted_group b h x y z))
-        (off_left (since-written l most e h x y z stands (k 0) (k 1) (k 2)) most h b end real
+        (off_left (since_written l most e h x y z stands (k 0) (k 1) (k 2)) most h b end real
         (standable_by (fixed_change b (routed (routes b) h x y z)) end ∙ refuge_stands b f end v)
         (noted_vacant b h x y z end ∙ refuge_vacant b f end v))
 
@@ -224,7 +224,7 @@ module _ {b : Board} (l : Lawful b) (most : b.map.hexes ≤ nowhere) (e : b.desk
         let k =
         series_follows h most (λ w n. bears_stands b f w (not_shut b f h w n)) real r.series
         in
-        since-written l most e h (get_or route 0 nowhere) (get_or route 1 nowhere) (get_or route 2 nowhere) stands (k 0) (k 1) (k 2)
+        since_written l most e h (get_or route 0 nowhere) (get_or route 1 nowhere) (get_or route 2 nowhere) stands (k 0) (k 1) (k 2)
 
     pushed :
         Left b (noted b h (get_or route 0 nowhere) (get_or route 1 nowhere) (get_or route 2 nowhere)) h (changes b (push_changes b h route pushes))
@@ -233,7 +233,7 @@ module _ {b : Board} (l : Lawful b) (most : b.map.hexes ≤ nowhere) (e : b.desk
         let x = get_or route 0 nowhere in
         let y = get_or route 1 nowhere in
         let z = get_or route 2 nowhere in
-        series-left f most pushed_since real (noted_own b h x y z f own) (far_start b h) r.series (noted_stand b h x y z f)
+        series_left f most pushed_since real (noted_own b h x y z f own) (far_start b h) r.series (noted_stand b h x y z f)
 
   -- what is not refused by 14 or 17 is a part route, and so a run, or legal; a vacant route comes without pushes
   pub is_run_lem : (route pushes : List ℕ) → not_part b h route pushes ≡ false → doomed b h ≡ true
@@ -244,7 +244,7 @@ module _ {b : Board} (l : Lawful b) (most : b.map.hexes ≤ nowhere) (e : b.desk
       let q : not (t && none pushes) ≡ false = simp d at n in
       let z = (both_yes t (none pushes) (not-false (t && none pushes) q)).0 in
       either (any (walks_from b h) b.units.count)
-      (λ w. let r = ((part_right b (group_force b h) h route).0 (sym (part-walks b h route w) ∙ z)).run in (r.last, r.run))
+      (λ w. let r = ((part_right b (group_force b h) h route).0 (sym (part_walks b h route w) ∙ z)).run in (r.last, r.run))
       (λ w. rw (none_nil route (sym (part_supply b h route w) ∙ z)) (h, stay))
 
   pub is_legal : (route pushes : List ℕ) → not_vacant b h route pushes ≡ false → doomed b h ≡ false → has_route b h ≡ true
@@ -313,9 +313,9 @@ module _ {p : List ℕ} (a : Accepted p) (h : ℕ) (route pushes : List ℕ) whe
       (λ _.
       kept_past a (leb b.map.hexes h)
       (λ _.
-      kept-along a (λ _. Unit {0}) (λ s x k v _ f. kept_past a (leb b.map.hexes x) (λ _. f tt)) 0 tt route 1 _
+      kept_along a (λ _. Unit {0}) (λ s x k v _ f. kept_past a (leb b.map.hexes x) (λ _. f tt)) 0 tt route 1 _
       (λ _ _.
-      kept-along a (λ _. Unit {0}) (λ s x k v _ f. kept_past a (leb b.map.hexes x) (λ _. f tt)) 0 tt pushes (length route + 1) _
+      kept_along a (λ _. Unit {0}) (λ s x k v _ f. kept_past a (leb b.map.hexes x) (λ _. f tt)) 0 tt pushes (length route + 1) _
       (λ _ _.
       kept_past a (not (eqb b.desk.battle.stage Stage.retreats))
       (λ e.

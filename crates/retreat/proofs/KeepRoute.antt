@@ -19,7 +19,7 @@ use Rattle.acceptance.specs.Accepted.{Lawful, PlaceOk}
 use Rattle.acceptance.proofs.Carries.{fixed_change, standable_by}
 use Rattle.acceptance.proofs.Lawfuls.{standable_on}
 use Rattle.acceptance.proofs.Routings.{route_there, routes_filled}
-use Rattle.acceptance.proofs.Since.{Since, since_lawful, since-routed}
+use Rattle.acceptance.proofs.Since.{Since, since_lawful, since_routed}
 use Rattle.field.specs.Listed.{Charted}
 use Rattle.field.specs.Scene.{scene}
 use Rattle.field.specs.Zone.{enemy_zone, vacant}
@@ -64,21 +64,21 @@ run_charted (go d s k) (suc j) l = run_charted k j (omega arith)
 
 -- they are refuges, and each may follow the one before
 module _ {b : Board} {f start : ℕ} (most : b.map.hexes ≤ nowhere) where
-  pub run-refuge :
+  pub run_refuge :
       {i a last : ℕ} {route : List ℕ} → Run b f start i a route last → (j : ℕ) → j < length route
       → refuge b f (get_or route j nowhere) ≡ true
-  run-refuge stay j l = absurd (omega arith)
-  run-refuge (go d s k) zero l = s.into
-  run-refuge (go d s k) (suc j) l = run-refuge k j (omega arith)
+  run_refuge stay j l = absurd (omega arith)
+  run_refuge (go d s k) zero l = s.into
+  run_refuge (go d s k) (suc j) l = run_refuge k j (omega arith)
 
-  pub run-follows :
+  pub run_follows :
       {i a last : ℕ} {route : List ℕ} → (a ≡ nowhere → ⊥) → Run b f start i a route last → (j : ℕ)
       → (get_or route j nowhere ≡ nowhere → ⊥) → Follows b (get_or (a ∷ route) j nowhere) (get_or route j nowhere)
-  run-follows n stay j m = absurd (m refl)
-  run-follows n (go {a = a} {x = x} d s k) zero m =
+  run_follows n stay j m = absurd (m refl)
+  run_follows n (go {a = a} {x = x} d s k) zero m =
       record { front = n; step = next_joined b.map a x d s.leads; stands = refuge_stands b f x s.into }
-  run-follows n (go {x = x} d s k) (suc j) m =
-      run-follows (standable_where b x most (refuge_stands b f x s.into)) k j m
+  run_follows n (go {x = x} d s k) (suc j) m =
+      run_follows (standable_where b x most (refuge_stands b f x s.into)) k j m
 
 -- so may each hex of a series: what is not shut to the group can be stood on
 abbrev Open : Board → Stands → Type 0
@@ -142,12 +142,12 @@ pub routes_room_lem : {b : Board} → Lawful b → b.desk.battle.stage ≡ Stage
 routes_room_lem l e = let o = l.stage.during.retreats e in omega (arith, o.some, o.room)
 
 -- the next route is written
-pub since-written :
+pub since_written :
     {b : Board} → Lawful b → b.map.hexes ≤ nowhere → b.desk.battle.stage ≡ Stage.retreats → (w x y z : ℕ) → standable b w ≡ true
     → ((x ≡ nowhere → ⊥) → Follows b w x) → ((y ≡ nowhere → ⊥) → Follows b x y) → ((z ≡ nowhere → ⊥) → Follows b y z)
     → Since b (change b (routed (routes b) w x y z))
-since-written {b} l most e w x y z s one two three =
-    since-routed most (since_lawful l) (routes b) w x y z (routes_room_lem l e) (standable_where b w most s)
+since_written {b} l most e w x y z s one two three =
+    since_routed most (since_lawful l) (routes b) w x y z (routes_room_lem l e) (standable_where b w most s)
     (λ i q. routes_filled l.routes i (omega arith))
     (λ j _. places_written b (routes b) w x y z (routes_room_lem l e) s each j)
   where

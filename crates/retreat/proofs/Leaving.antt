@@ -70,11 +70,11 @@ module _ (p : List ℕ) (end u : ℕ) where
   unfolding leaves makes
   leave_supply e f = simp (eq-eqb ((board p).units.counter.kind u) 5 e) f
 
-  pub leave-walks :
+  pub leave_walks :
       {q r : List ℕ} → ((board p).units.counter.kind u ≡ 5 → ⊥) → q ≡ make p (placed u end) → r ≡ make q (assigned u Role.none)
       → r ≡ makes p (leaves (board p) end u)
   unfolding leaves makes
-  leave-walks n e f = simp (ne_eqb ((board p).units.counter.kind u) 5 n) (f ∙ ap (λ (l : List ℕ). make l (assigned u Role.none)) e)
+  leave_walks n e f = simp (ne_eqb ((board p).units.counter.kind u) 5 n) (f ∙ ap (λ (l : List ℕ). make l (assigned u Role.none)) e)
 
 pub falls_made : (p : List ℕ) (u : ℕ) {q : List ℕ} → q ≡ make p (destroyed u) → q ≡ makes p (falls u)
 unfolding makes
@@ -101,21 +101,21 @@ module _ {p q : List ℕ} (s : Shaped p) (r a x y z : ℕ) (e : q ≡ make p (ro
   goes_routed end [] = refl
   goes_routed end (u ∷ us) = ap₂ (λ (k l : List Change). k ++ l) (leaves_routed end u) (goes_routed end us)
 
-  pub routed-goes :
+  pub routed_goes :
       {m : List ℕ} (h end : ℕ) → m ≡ makes q (goes_off (board q) end (group (board q) h))
       → m ≡ makes p (routed r a x y z ∷ goes_off (board p) end (group (board p) h))
   unfolding makes
-  routed-goes h end f =
+  routed_goes h end f =
       f
       ∙ ap (λ (us : List ℕ). makes q (goes_off (board q) end us)) (routed_group h)
       ∙ ap (makes q) (goes_routed end (group (board p) h))
       ∙ ap (λ (l : List ℕ). makes l (goes_off (board p) end (group (board p) h))) e
 
-  pub routed-falls :
+  pub routed_falls :
       {m : List ℕ} (h : ℕ) → m ≡ makes q (map destroyed (group (board q) h))
       → m ≡ makes p (routed r a x y z ∷ map destroyed (group (board p) h))
   unfolding makes
-  routed-falls h f =
+  routed_falls h f =
       f
       ∙ ap (λ (us : List ℕ). makes q (map destroyed us)) (routed_group h)
       ∙ ap (λ (l : List ℕ). makes l (map destroyed (group (board p) h))) e
@@ -133,25 +133,25 @@ noted p h route {r} {x} {y} {z} er ex ey ez e =
     ∙ ap₂ (λ (k l : ℕ). after (routes (board p)) (get_or route 0 nowhere) k l) ey ez
 
 -- the route and then the group
-pub gone-off :
+pub gone_off :
     {p q m : List ℕ} → Shaped p → (h : ℕ) (route : List ℕ) {end : ℕ} → end ≡ end_of (board p) route
     → q ≡ make p (note_of (board p) h route) → m ≡ makes q (goes_off (board q) end (group (board q) h))
     → m ≡ makes p (retreat_changes (board p) h route)
 unfolding retreat_changes note_of
-gone-off {p} s h route {end} ee e f =
+gone_off {p} s h route {end} ee e f =
     let b = board p in
     let x = get_or route 0 nowhere in
     let y = get_or route 1 nowhere in
     let z = get_or route 2 nowhere in
-    routed-goes s (routes b) h x y z e h end f
+    routed_goes s (routes b) h x y z e h end f
     ∙ ap (λ (k : ℕ). makes p (routed (routes b) h x y z ∷ goes_off b k (group b h))) ee
 
 -- with pushes, step by step
-pub pushed-off :
+pub pushed_off :
     {p q m : List ℕ} → Shaped p → (h : ℕ) (route pushes : List ℕ) → q ≡ make p (note_of (board p) h route)
     → m ≡ makes q (marches (board q) h route pushes) → m ≡ makes p (push_changes (board p) h route pushes)
 unfolding push_changes makes
-pushed-off {p} {q} s h route pushes e f =
+pushed_off {p} {q} s h route pushes e f =
     let n = note_of (board p) h route in
     f
     ∙ ap (λ (b : Board). makes q (marches b h route pushes)) (ap board e ∙ board_make s n)
@@ -163,7 +163,7 @@ pub fallen :
     → m ≡ makes q (map destroyed (group (board q) h)) → m ≡ makes p (doom_changes (board p) h route)
 unfolding doom_changes note_of
 fallen {p} s h route e f =
-    routed-falls s (routes (board p)) h (get_or route 0 nowhere) (get_or route 1 nowhere) (get_or route 2 nowhere) e h f
+    routed_falls s (routes (board p)) h (get_or route 0 nowhere) (get_or route 1 nowhere) (get_or route 2 nowhere) e h f
 
 -- where the route ends, of the numbers as they were read
 pub ends :

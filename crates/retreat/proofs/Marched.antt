@@ -28,13 +28,13 @@ use Rattle.chains.specs.Series.{Land, Series, stay, walk, shove}
 use Rattle.shoves.specs.Group.{gather, group}
 use Rattle.shoves.specs.Played.{once_cleared, once_entered}
 use Rattle.shoves.specs.Shoves.{Cleared, clears, frees, goes_to, group_to, marches}
-use Rattle.shoves.proofs.KeepChain.{Pushes, bears_stands, chain-clears, chain-other, clears_vacant, real_hex}
-use Rattle.shoves.proofs.KeepSeries.{emptied, pushes_owes, march-on, pushes_own}
+use Rattle.shoves.proofs.KeepChain.{Pushes, bears_stands, chain_clears, chain_other, clears_vacant, real_hex}
+use Rattle.shoves.proofs.KeepSeries.{emptied, pushes_owes, march_on, pushes_own}
 use Rattle.shoves.proofs.KeepStep.{OwnGroup, Stepped, stepped, went}
 use Rattle.shoves.proofs.Standing.{free_is, free_vacant}
 use Rattle.shoves.proofs.Sweeps.{own_frees, own_goes}
 use Rattle.retreat.specs.Units.{Arrived, Eliminated, brought_to}
-use Rattle.retreat.proofs.Carried.{Shoved, chain-shoved, shoved_vacant}
+use Rattle.retreat.proofs.Carried.{Shoved, chain_shoved, shoved_vacant}
 use Rattle.retreat.proofs.Dealt.{
   Lasts,
   dealt,
@@ -76,10 +76,10 @@ module _ (b : Board) (a : ℕ) where
   unfolding changes frees
   frees_one c u l = assigned_none c u l
 
-  frees-group :
+  frees_group :
       (u : ℕ) → u < b.units.count → owes_at b a u ≡ true → Freed b.units (changes b (gather frees (group b a))).units u
   unfolding group
-  frees-group u l e =
+  frees_group u l e =
       dealt frees own_frees u (lasts_freed u) (λ c f. frees_one c u (omega (arith, f.count))) (group b a) b (fixed_refl b)
       (sieve_names (owes_at b a) b.units.count u l e)
 
@@ -91,7 +91,7 @@ module _ (b : Board) (a : ℕ) where
   unfolding marches brought_to
   halted real ps =
       record {
-        walkers = λ u l e k. let y = frees-group u l e in record { there = y.hex ∙ owes_hex b u a e; role = y.role };
+        walkers = λ u l e k. let y = frees_group u l e in record { there = y.hex ∙ owes_hex b u a e; role = y.role };
         supplies = λ u l e k n. absurd (omega arith);
         others = λ w l e. (frees_others w e).hex;
         boxed = λ w l e. frees_others w (boxed_not b a w real e);
@@ -180,10 +180,10 @@ module _
               same_trans i (m.boxed w (later w l) (i.hex ∙ e));
         }
 
-    marched-on :
+    marched_on :
         {route : List ℕ} → Marched entered x route left (changes entered (marches entered x route left))
         → Marched b a (x ∷ route) ps (changes b (marches b a (x ∷ route) ps))
-    marched-on {route} m = rw (march-on b a x route ps, ec, el) (goes_on_lem m)
+    marched_on {route} m = rw (march_on b a x route ps, ec, el) (goes_on_lem m)
 
 -- a vacant hex is as it was once it is cleared
 once_vacant : (b : Board) (x : ℕ) → vacant (scene b) x ≡ true → (ps : List ℕ) → (once_cleared b x ps ≡ b) × ((clears b x ps).left ≡ ps)
@@ -193,32 +193,32 @@ once_vacant b x v ps =
     (ap (λ (r : Cleared). changes b r.done) e, ap (λ (r : Cleared). r.left) e)
 
 -- a legal series
-pub series-marched :
+pub series_marched :
     {o b : Board} {g : Land} {s : Stands} {i a : ℕ} {route pushes : List ℕ} (f : ℕ) → o.map.hexes ≤ nowhere → Since o b
     → (a ≡ nowhere → ⊥) → OwnGroup b f a → g.far a ≡ i → Series g s i a route pushes → stand b f a ≡ s
     → Marched b a route pushes (changes b (marches b a route pushes))
-series-marched {b = b} {a = a} f small k real mine z stay e = halted b a real []
-series-marched {o} {b} {g} {s} {i} {a} f small k real mine z (walk {x = x} {route = route} {pushes = ps} d t y n) e =
+series_marched {b = b} {a = a} f small k real mine z stay e = halted b a real []
+series_marched {o} {b} {g} {s} {i} {a} f small k real mine z (walk {x = x} {route = route} {pushes = ps} d t y n) e =
     let here : stand b f a x ≡ Free = ap (λ (q : Stands). q x) e ∙ y in
     let free = free_is b f a x here in
     let v = free_vacant b f a x (λ q. omega (arith, t.away, z, ap g.far q)) free in
     let c = stepped k small f a x real mine v free.bear in
     let u = once_vacant b x v ps in
-    marched-on small f a x real (pushes_none k) mine v free.bear (shoved_vacant b x v ps) u.0 u.1
-    (series-marched f small c.since (real_hex k small f a x (bears_stands b f x free.bear)) c.own t.away n (c.stands ∙ e))
-series-marched {o} {b} {g} {s} {i} {a} f small k real mine z (shove {x = x} {y = y} {route = route} {chain = zs} {pushes = ps} d t l h n) e =
+    marched_on small f a x real (pushes_none k) mine v free.bear (shoved_vacant b x v ps) u.0 u.1
+    (series_marched f small c.since (real_hex k small f a x (bears_stands b f x free.bear)) c.own t.away n (c.stands ∙ e))
+series_marched {o} {b} {g} {s} {i} {a} f small k real mine z (shove {x = x} {y = y} {route = route} {chain = zs} {pushes = ps} d t l h n) e =
     let here : stand b f a x ≡ Loose = ap (λ (q : Stands). q x) e ∙ l in
     let off : x ≡ a → ⊥ = λ q. omega (arith, t.away, z, ap g.far q) in
     let h' = subst (λ (p : Stands). Chain g.next p (a ∷ []) most x zs y) (sym e) h in
     let first = named_here a [] a refl in
-    let q = chain-clears k small f a h' first off here ps in
+    let q = chain_clears k small f a h' first off here ps in
     let u = q.shifted.pushes in
     let b' = once_cleared b x (zs ++ ps) in
-    let free : stand b' f a x ≡ Free = ap (λ (p : Stands). p x) q.shifted.stands ∙ emptied (stand b f a) x y (chain-other h' here) in
+    let free : stand b' f a x ≡ Free = ap (λ (p : Stands). p x) q.shifted.stands ∙ emptied (stand b f a) x y (chain_other h' here) in
     let bear = (free_is b' f a x free).bear in
     let own = pushes_own a u mine in
     let c = stepped u.since small f a x real own q.shifted.empty bear in
-    let w = chain-shoved b (rw k.fixed.map small) f a h' first here ps in
-    marched-on small f a x real u own q.shifted.empty bear w refl q.left_over
-    (series-marched f small c.since (real_hex u.since small f a x (bears_stands b' f x bear)) c.own t.away n
+    let w = chain_shoved b (rw k.fixed.map small) f a h' first here ps in
+    marched_on small f a x real u own q.shifted.empty bear w refl q.left_over
+    (series_marched f small c.since (real_hex u.since small f a x (bears_stands b' f x bear)) c.own t.away n
     (c.stands ∙ q.shifted.stands ∙ ap (λ (p : Stands). after p x y) e))

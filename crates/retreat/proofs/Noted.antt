@@ -65,25 +65,25 @@ module _ (b : Board) (d : Desk) where
   carried_desk [] x y = refl
   carried_desk (z ∷ ps) x y = rw (desk_vacant b d x, carried_desk ps z y) refl
 
-brought-desk :
+brought_desk :
     (route : List ℕ) (b : Board) (d : Desk) (a : ℕ) (ps : List ℕ) (y : ℕ)
     → brought_to (with_desk b d) a route ps y ≡ brought_to b a route ps y
 unfolding brought_to
-brought-desk [] b d a ps y = refl
-brought-desk (x ∷ route) b d a ps y =
+brought_desk [] b d a ps y = refl
+brought_desk (x ∷ route) b d a ps y =
     let r = clears b x ps in
     let c = changes b r.done in
     let i = changes_desk r.done b d in
     let xs = group_to c a x in
     let j = changes_desk xs c i.0 in
     rw (clears_desk b d ps x, carried_desk b d ps x y, i.1, desk_group c i.0 a x, j.1)
-    (brought-desk route (changes c xs) j.0 x r.left (carried b x ps y))
+    (brought_desk route (changes c xs) j.0 x r.left (carried b x ps y))
 
 -- so the note of a route does not matter
-pub brought-noted :
+pub brought_noted :
     (b : Board) (h : ℕ) (noted route ps : List ℕ) (y : ℕ) → brought_to (change b (note_of b h noted)) h route ps y ≡ brought_to b h route ps y
 unfolding change note_of
-brought-noted b h noted route ps y = brought-desk route b _ h ps y
+brought_noted b h noted route ps y = brought_desk route b _ h ps y
 
 -- and without pushes everybody stays
 pub brought_none : (route : List ℕ) (b : Board) (a y : ℕ) → brought_to b a route [] y ≡ y

@@ -23,8 +23,8 @@ use Rattle.retreat.proofs.Fates.{Falls, falls_by}
 use Rattle.retreat.proofs.KeepGroup.{Owes}
 use Rattle.retreat.proofs.KeepRetreat.{doom, is_run_lem}
 use Rattle.retreat.proofs.KeepRoute.{routes_room_lem}
-use Rattle.retreat.proofs.Rulings.{ends-doomed}
-use Rattle.retreat.proofs.Words.{destroyed_right, lost_any, on_due, parts_right, passes-due}
+use Rattle.retreat.proofs.Rulings.{ends_doomed}
+use Rattle.retreat.proofs.Words.{destroyed_right, lost_any, on_due, parts_right, passes_due}
 
 -- the four numbers of a route are the start and the route's own
 four :
@@ -71,7 +71,7 @@ module _ {p : List ℕ} {h : ℕ} {route pushes : List ℕ} (d : Due p h route p
   after =
       let b = board p in
       let xs = doom_changes b h route in
-      ap board (sym (checked d.whole (ends-doomed h route pushes (passes-due d) g refl)).leaves)
+      ap board (sym (checked d.whole (ends_doomed h route pushes (passes_due d) g refl)).leaves)
       ∙ board_makes d.whole.shaped (then_on b xs)
       ∙ changes_then xs (passes_on (changes b xs)) b
 

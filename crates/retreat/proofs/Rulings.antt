@@ -31,18 +31,18 @@ use Rattle.retreat.proofs.Fates.{Falls, Goes, doomed_pushed, doomed_vacant, spar
 
 module _ {p : List ℕ} (h : ℕ) (route pushes : List ℕ) where
   -- refused before its route is asked for
-  pub stops-group :
+  pub stops_group :
       {n k : ℕ} → Stops p (group_checks (board p) h route pushes) n k → Met p [] (retreat_rule (board p) h route pushes) (refused n k) p []
   unfolding retreat_rule
-  stops-group s = s [] _
+  stops_group s = s [] _
 
   module _ (o : Passes p (group_checks (board p) h route pushes)) where
     -- destroyed with its part route
-    pub ends-doomed :
+    pub ends_doomed :
         {q : List ℕ} → Falls (board p) h route pushes → q ≡ makes p (then_on (board p) (doom_changes (board p) h route))
         → Met p [] (retreat_rule (board p) h route pushes) (accepted eliminated) q []
     unfolding retreat_rule retreat_values leave_changes
-    ends-doomed g f =
+    ends_doomed g f =
         o [] _ _ _ _
         (pass g.part
         (pass (doomed_vacant (board p) h route pushes g.lost)
@@ -61,19 +61,19 @@ module _ {p : List ℕ} (h : ℕ) (route pushes : List ℕ) where
         (λ e. pass e (stop (simp e at g))))
 
     -- "17 in place of 14 where only pushes serve and route or pushes are not legal"
-    pub stops-pushes :
+    pub stops_pushes :
         doomed (board p) h ≡ false → not_vacant (board p) h route pushes ≡ false → not_pushed (board p) h route pushes ≡ true
         → Met p [] (retreat_rule (board p) h route pushes) (refused 17 0) p []
     unfolding retreat_rule
-    stops-pushes e g k = o [] _ _ _ _ (pass (spared_part (board p) h route pushes e) (pass g (stop k)))
+    stops_pushes e g k = o [] _ _ _ _ (pass (spared_part (board p) h route pushes e) (pass g (stop k)))
 
     -- retreated with its end, along a vacant route or by pushes
-    pub ends-going :
+    pub ends_going :
         {r : Bool} {q : List ℕ} {end : ℕ} → Goes (board p) h route pushes r → end ≡ end_of (board p) route
         → q ≡ makes p (then_on (board p) (cond r (retreat_changes (board p) h route) (push_changes (board p) h route pushes)))
         → Met p [] (retreat_rule (board p) h route pushes) (accepted (retreated_to end)) q []
     unfolding retreat_rule retreat_values leave_changes
-    ends-going g i f =
+    ends_going g i f =
         o [] _ _ _ _
         (pass (spared_part (board p) h route pushes g.spared)
         (pass g.vacant (pass g.pushed (rw (i, g.spared, g.way) (ruled f)))))

@@ -44,12 +44,12 @@ use Rattle.retreat.proofs.Dealt.{
 use Rattle.retreat.proofs.Fates.{Goes}
 use Rattle.retreat.proofs.KeepGroup.{Owes, group_own}
 use Rattle.retreat.proofs.KeepRetreat.{far_start, is_legal, is_pushed, noted_own, noted_stand, pushed_since, real}
-use Rattle.retreat.proofs.KeepRoute.{refuge_stands, run-refuge}
+use Rattle.retreat.proofs.KeepRoute.{refuge_stands, run_refuge}
 use Rattle.retreat.proofs.Leaving.{gather_leaves, own_leaves}
-use Rattle.retreat.proofs.Marched.{Marched, series-marched}
-use Rattle.retreat.proofs.Noted.{brought_none, brought-noted}
-use Rattle.retreat.proofs.Rulings.{ends-going}
-use Rattle.retreat.proofs.Words.{goes_by, passes-due}
+use Rattle.retreat.proofs.Marched.{Marched, series_marched}
+use Rattle.retreat.proofs.Noted.{brought_none, brought_noted}
+use Rattle.retreat.proofs.Rulings.{ends_going}
+use Rattle.retreat.proofs.Words.{goes_by, passes_due}
 use Rattle.retreat.proofs.UnitsLost.{not_member, noted, noted_count, noted_map, noted_same, passed_same}
 
 -- the group goes along a vacant route to hex `end`
@@ -62,29 +62,29 @@ module _ (b : Board) (h : ℕ) (route : List ℕ) (end : ℕ) (i : end ≡ end_o
   strolls_all = ap (changes (noted b h route)) (ap (λ (x : ℕ). goes_off b x (group b h)) (sym i) ∙ sym (gather_leaves b end (group b h)))
 
   -- what becomes of each of them by what becomes of one
-  strolls-by :
+  strolls_by :
       {R : Board → Board → Type 0} (u : ℕ) → Lasts u R → u < b.units.count → owes_at b h u ≡ true
       → ((c : Board) → Fixed (noted b h route) c → R c (changes c (leaves b end u))) → R (noted b h route) strolled
   unfolding group
-  strolls-by u l n e one =
+  strolls_by u l n e one =
       rw strolls_all
       (dealt (leaves b end) (own_leaves b end) u l one (group b h) (noted b h route) (fixed_refl (noted b h route))
       (sieve_names (owes_at b h) b.units.count u n e))
 
-  leaves-walks :
+  leaves_walks :
       (c : Board) (u : ℕ) → (b.units.counter.kind u ≡ supply_kind → ⊥) → u < c.units.count → end < c.map.hexes
       → Arrived (changes c (leaves b end u)) u end
   unfolding leaves changes
-  leaves-walks c u k l m =
+  leaves_walks c u k l m =
       let d = change c (placed u end) in
       let y = assigned_none d u (omega (arith, (fixed_change c (placed u end)).count)) in
       simp (ne_eqb (b.units.counter.kind u) supply_kind k)
       (record { there = y.hex ∙ (placed_put c u end l m).0; role = y.role })
 
-  leaves-supply :
+  leaves_supply :
       (c : Board) (u : ℕ) → b.units.counter.kind u ≡ supply_kind → u < c.units.count → Eliminated c (changes c (leaves b end u)) u
   unfolding leaves changes
-  leaves-supply c u k l = simp (eq-eqb (b.units.counter.kind u) supply_kind k) (destroyed_eliminated c u l)
+  leaves_supply c u k l = simp (eq-eqb (b.units.counter.kind u) supply_kind k) (destroyed_eliminated c u l)
 
   strolls_others : (w : ℕ) → owes_at b h w ≡ false → Same (noted b h route).units strolled.units w
   unfolding group
@@ -105,13 +105,13 @@ module _ (p : List ℕ) (h end : ℕ) (route : List ℕ) (i : end ≡ end_of (bo
       record {
         walkers =
             λ u x k.
-            strolls-by b h route end i u (lasts_arrived u end) x.counted x.owes
-            (λ c f. leaves-walks b h route end i c u k (on c u f x.counted) (far c f));
+            strolls_by b h route end i u (lasts_arrived u end) x.counted x.owes
+            (λ c f. leaves_walks b h route end i c u k (on c u f x.counted) (far c f));
         supplies =
             λ u x k.
             same_eliminated (noted_same b h route u)
-            (strolls-by b h route end i u (lasts_eliminated u) x.counted x.owes
-            (λ c f. leaves-supply b h route end i c u k (on c u f x.counted)));
+            (strolls_by b h route end i u (lasts_eliminated u) x.counted x.owes
+            (λ c f. leaves_supply b h route end i c u k (on c u f x.counted)));
         others =
             λ w l k.
             (strolls_others b h route end i w (not_member b h w l k)).hex
@@ -120,34 +120,34 @@ module _ (p : List ℕ) (h end : ℕ) (route : List ℕ) (i : end ≡ end_of (bo
       }
 
 -- the last hex of a route that is not empty
-last-hex :
+last_hex :
     (h : ℕ) (route : List ℕ) (n : ℕ) → length route ≡ n → 1 ≤ n → get_or (h ∷ route) (length route) nowhere ≡ get_or route (n - 1) nowhere
-last-hex h [] n e l = absurd (omega arith)
-last-hex h (x ∷ xs) n e l = let z : length xs ≡ n - 1 = omega arith in ap (λ (k : ℕ). get_or (x ∷ xs) k nowhere) z
+last_hex h [] n e l = absurd (omega arith)
+last_hex h (x ∷ xs) n e l = let z : length xs ≡ n - 1 = omega arith in ap (λ (k : ℕ). get_or (x ∷ xs) k nowhere) z
 
 -- the group pushes
 module _ (p : List ℕ) (h : ℕ) (route pushes : List ℕ) where
   abbrev shoved : Board
   shoved = changes (board p) (push_changes (board p) h route pushes)
 
-  pushes-gone :
+  pushes_gone :
       (end : ℕ) → end ≡ get_or (h ∷ route) (length route) nowhere → 1 ≤ length route → Marched (noted (board p) h route) h route pushes shoved
       → AllGone p h end route pushes shoved
   unfolding change note_of owes_at
-  pushes-gone end i m x =
+  pushes_gone end i m x =
       record {
         walkers = λ u y k. rw i (x.walkers u y.counted y.owes k);
         supplies = λ u y k. same_eliminated (noted_same (board p) h route u) (x.supplies u y.counted y.owes k m);
         others =
             λ w l k.
-            x.others w l (not_member (board p) h w l k) ∙ brought-noted (board p) h route route pushes ((board p).units.state.hex w);
+            x.others w l (not_member (board p) h w l k) ∙ brought_noted (board p) h route route pushes ((board p).units.state.hex w);
       }
 
 -- and then the stage passes on
-passed-gone :
+passed_gone :
     (p : List ℕ) (h end : ℕ) (route pushes : List ℕ) (c : Board) → AllGone p h end route pushes c
     → AllGone p h end route pushes (changes c (passes_on c))
-passed-gone p h end route pushes c x =
+passed_gone p h end route pushes c x =
     record {
       walkers = λ u y k. arrived_same (x.walkers u y k) (passed_same c u);
       supplies = λ u y k. eliminated_same (x.supplies u y k) (passed_same c u);
@@ -170,7 +170,7 @@ module _ {p : List ℕ} {h : ℕ} {route pushes : List ℕ} (d : Due p h route p
   end_on r =
       let b = board p in
       let i = b.desk.battle.owed - 1 in
-      let v = run-refuge most r.run i (omega (arith, r.long, owed.low)) in
+      let v = run_refuge most r.run i (omega (arith, r.long, owed.low)) in
       standable_on b (get_or route i nowhere) (refuge_stands b (group_force b h) (get_or route i nowhere) v)
 
   -- the march of a legal series, from the board on which its route is noted
@@ -186,7 +186,7 @@ module _ {p : List ℕ} {h : ℕ} {route pushes : List ℕ} (d : Due p h route p
       let y = get_or route 1 nowhere in
       let z = get_or route 2 nowhere in
       let own = group_own l h in
-      series-marched f most (pushed_since l most d.stage h d.unit here f own route pushes r)
+      series_marched f most (pushed_since l most d.stage h d.unit here f own route pushes r)
       (real l most d.stage h d.unit here) (noted_own b h x y z f own) (far_start b h) r.series (noted_stand b h x y z f)
 
   -- however the group goes
@@ -205,20 +205,20 @@ module _ {p : List ℕ} {h : ℕ} {route pushes : List ℕ} (d : Due p h route p
       let b = board p in
       let n = b.desk.battle.owed in
       let r = is_pushed d.whole.lawful most d.stage h d.unit here route pushes g.pushed g.spared g.way in
-      pushes-gone p h route pushes (end_of b route) (sym (last-hex h route n r.long owed.low)) (omega (arith, r.long, owed.low))
+      pushes_gone p h route pushes (end_of b route) (sym (last_hex h route n r.long owed.low)) (omega (arith, r.long, owed.low))
       (marched r)
 
   -- the board that an accepted retreat leaves
-  after-gone :
+  after_gone :
       (r : Bool) → Goes (board p) h route pushes r
       → board_after p h route pushes
       ≡ (let c = changes (board p) (cond r (retreat_changes (board p) h route) (push_changes (board p) h route pushes)) in
       changes c (passes_on c))
   unfolding then_on
-  after-gone r g =
+  after_gone r g =
       let b = board p in
       let xs = cond r (retreat_changes b h route) (push_changes b h route pushes) in
-      ap board (sym (checked d.whole (ends-going h route pushes (passes-due d) g refl refl)).leaves)
+      ap board (sym (checked d.whole (ends_going h route pushes (passes_due d) g refl refl)).leaves)
       ∙ board_makes d.whole.shaped (then_on b xs)
       ∙ changes_then xs (passes_on (changes b xs)) b
 
@@ -229,7 +229,7 @@ gone_right p h end route pushes d a =
     let r = w.0.0 in
     let g = w.0.1 in
     subst (λ (x : ℕ). AllGone p h x route pushes (board_after p h route pushes)) (sym w.1)
-    (rw (after-gone d r g)
-    (passed-gone p h (end_of b route) route pushes
+    (rw (after_gone d r g)
+    (passed_gone p h (end_of b route) route pushes
     (changes b (cond r (retreat_changes b h route) (push_changes b h route pushes)))
     (gone d r g)))

@@ -73,22 +73,22 @@ use Rattle.retreat.proofs.Fates.{
   fits,
   none_nil,
   part_supply,
-  part-walks,
+  part_walks,
   parts,
   fits_pushed,
   spared_route,
   spared_series,
 }
-use Rattle.retreat.proofs.Groups.{passes-group, walks_kind, walks_not}
+use Rattle.retreat.proofs.Groups.{passes_group, walks_kind, walks_not}
 use Rattle.retreat.proofs.KeepGroup.{group_own}
-use Rattle.retreat.proofs.Rulings.{ends-doomed, ends-going, stops-pushes, stops_route}
+use Rattle.retreat.proofs.Rulings.{ends_doomed, ends_going, stops_pushes, stops_route}
 
 -- the group is asked for, and it is there
-pub passes-due :
+pub passes_due :
     {p : List ℕ} {h : ℕ} {route pushes : List ℕ} → Due p h route pushes → Passes p (group_checks (board p) h route pushes)
 unfolding on_map_all on_map_from
-passes-due {p} {h} {route} {pushes} d =
-    (passes-group p (board p) h route pushes d.short d.few d.there (map_all 1 p route d.charted)
+passes_due {p} {h} {route} {pushes} d =
+    (passes_group p (board p) h route pushes d.short d.few d.there (map_all 1 p route d.charted)
     (map_all _ p pushes d.pushed) d.stage
     (any_true (owes_at (board p) h) (board p).units.count d.unit d.counted d.owes)
     ).0
@@ -191,11 +191,11 @@ answer_of end F.Pushing = accepted (retreated_to end)
 
 module _ {p : List ℕ} {h : ℕ} {route pushes : List ℕ} (d : Due p h route pushes) where
   answers : (f : Fate) → FateSays (board p) h route pushes f → answer_to p h route pushes ≡ answer_of (end_of (board p) route) f
-  answers F.Lost e = sym (checked d.whole (ends-doomed h route pushes (passes-due d) e refl)).answers
-  answers F.WrongRoute e = sym (checked d.whole (stops_route h route pushes (passes-due d) e)).answers
-  answers F.WrongPushes e = sym (checked d.whole (stops-pushes h route pushes (passes-due d) e.0 e.1 e.2)).answers
-  answers F.Walking g = sym (checked d.whole (ends-going h route pushes (passes-due d) g refl refl)).answers
-  answers F.Pushing g = sym (checked d.whole (ends-going h route pushes (passes-due d) g refl refl)).answers
+  answers F.Lost e = sym (checked d.whole (ends_doomed h route pushes (passes_due d) e refl)).answers
+  answers F.WrongRoute e = sym (checked d.whole (stops_route h route pushes (passes_due d) e)).answers
+  answers F.WrongPushes e = sym (checked d.whole (stops_pushes h route pushes (passes_due d) e.0 e.1 e.2)).answers
+  answers F.Walking g = sym (checked d.whole (ends_going h route pushes (passes_due d) g refl refl)).answers
+  answers F.Pushing g = sym (checked d.whole (ends_going h route pushes (passes_due d) g refl refl)).answers
 
   answered : {f : Fate} → fate_of (board p) h route pushes ≡ f → answer_to p h route pushes ≡ answer_of (end_of (board p) route) f
   answered e =
@@ -269,13 +269,13 @@ module _ (b : Board) (h : ℕ) (o : On b.map.width b.map.height h) (route : List
       let r = via (part_right b (group_force b h) h route) (part_worded b (group_force b h) h o route) in (
         λ e.
             record {
-              others = λ n. r.0 (sym (part-walks b h route (walks b h n)) ∙ e);
+              others = λ n. r.0 (sym (part_walks b h route (walks b h n)) ∙ e);
               supply = λ s. none_nil route (sym (part_supply b h route (none_walks b h s)) ∙ e);
             },
         λ k.
             let w = any (walks_from b h) b.units.count in
             either w
-            (λ y. part-walks b h route y ∙ r.1 (k.others (λ s. not_both w y (none_walks b h s))))
+            (λ y. part_walks b h route y ∙ r.1 (k.others (λ s. not_both w y (none_walks b h s))))
             (λ n. part_supply b h route n ∙ ap none (k.supply (only_supply b h n))),
       )
 

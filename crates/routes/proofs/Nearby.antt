@@ -23,7 +23,7 @@ use Rattle.paint.proofs.Bytes.{byte_other}
 use Rattle.paint.proofs.Units.{marked_depot, marked_own, marked_zone}
 use Rattle.routes.specs.Window.{Window}
 use Rattle.routes.specs.Outlook.{Nobody, friendly, friendly_at, friends}
-use Rattle.routes.proofs.Windows.{window-marked}
+use Rattle.routes.proofs.Windows.{window_marked}
 
 -- the test of the marks, case by case
 module _ (m : ℕ) where
@@ -50,18 +50,18 @@ module _ {p : List ℕ} {v : View} {f start : ℕ} {at : Region} {l : List ℕ} 
   pub start_inside : start < v.hexes → Inside v.width v.height at start
   start_inside s = k.round.near start (on_view d start s) (omega (arith, same_zero v.width start))
 
-  pub nobody-near :
+  pub nobody_near :
       start < v.hexes → length l ≡ 56 → {home : ℕ} → home ≡ place_of v.width at start → any (friendly_at (set l home 0)) 56 ≡ false
       → Nobody (board p) f start
   unfolding friendly_at
-  nobody-near s n {home} h e =
+  nobody_near s n {home} h e =
       record {
         near = λ x o q other.
             let w = d.view.width in
             let i = k.round.near x (rw w (rw d.view.height o)) (rw w q) in
             let z : place_of v.width at x < 56 = omega (arith, place-in i, k.room.long, n) in
             let y = byte_other l home 0 (place_of v.width at x) (λ j. other (place_one i (start_inside s) (j ∙ h))) in
-            sym (friendly_marked (board p) f x (window-marked d k x i refl refl))
+            sym (friendly_marked (board p) f x (window_marked d k x i refl refl))
             ∙ ap friendly (sym y)
             ∙ any_false (friendly_at (set l home 0)) 56 (place_of v.width at x) e z;
       }

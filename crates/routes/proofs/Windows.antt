@@ -41,18 +41,18 @@ module _ (b : Board) (f h : ℕ) where
   refuge_free k e = simp (e, marked_held k, marked_zone k, not-not)
 
 -- painted round the start's spot it is the window
-pub window-is :
+pub window_is :
     {p : List ℕ} {v : View} {f start x : ℕ} {at : Region} {l : List ℕ} → Round v.width v.height x farthest at → x ≡ start → length l ≡ 56
     → Shows (scene (board p)) f at l → Window p v f start at l
-window-is {v = v} {at = at} a e n s =
+window_is {v = v} {at = at} a e n s =
     let k = subst (λ (y : ℕ). Round v.width v.height y farthest at) e a in
     record { round = k; room = round_room k (omega (arith, n)); shows = s }
 
 -- the byte at a hex's place has the hex's marks
-pub window-marked :
+pub window_marked :
     {p : List ℕ} {v : View} {f start : ℕ} {at : Region} {l : List ℕ} → Laid p v → Window p v f start at l → (x : ℕ) → Inside v.width v.height at x
     → {i m : ℕ} → i ≡ place_of v.width at x → m ≡ byte l i → Marked (scene (board p)) f x m
-window-marked {p} {v} {f} {start} {at} {l} d k x j {i} {m} e q =
+window_marked {p} {v} {f} {start} {at} {l} d k x j {i} {m} e q =
     let w = d.view.width in
     let o = k.shows.each x (rw (w, d.view.height) at j) in
     let z : m ≡ byte l (place_of (width p) at x) = q ∙ ap (λ (n : ℕ). byte l n) (e ∙ ap (λ (n : ℕ). place_of n at x) w) in

@@ -73,7 +73,7 @@ unfolding searching
 cornered_there = refl
 
 -- from hex 7 the longest runs have two steps, and there are several: one step is too short, and hex 2, again beside hex 7, curls
-pub as-far-as-it-can :
+pub as_far_as_it_can :
     map (part_route watched 0 7) ((3 ∷ 9 ∷ []) ∷ (8 ∷ 14 ∷ []) ∷ (3 ∷ []) ∷ (3 ∷ 2 ∷ []) ∷ []) ≡ true ∷ true ∷ false ∷ false ∷ []
 unfolding searching
-as-far-as-it-can = refl
+as_far_as_it_can = refl

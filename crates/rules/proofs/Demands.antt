@@ -38,7 +38,7 @@ use Rattle.battle.proofs.KeepAttack.{attack_keeps}
 use Rattle.aftermath.proofs.Bounds.{losses_bounded, advance_bounded, close_bounded}
 use Rattle.aftermath.proofs.KeepLosses.{losses_keeps}
 use Rattle.aftermath.proofs.KeepAdvance.{advance_keeps, close_keeps}
-use Rattle.retreat.proofs.Bounds.{retreat-bounded}
+use Rattle.retreat.proofs.Bounds.{retreat_bounded}
 use Rattle.retreat.proofs.KeepRetreat.{retreat_keeps}
 use Rattle.rules.specs.Order.{Order, rule_of, replies_of, verdict, step}
 use Rattle.rules.specs.Order.Order.{supply, move, end_phase, attack, retreat, losses, advance, close}
@@ -48,11 +48,11 @@ pub total : Total
 total p c = (step p c, record { answers = refl; leaves = refl; lends = refl })
 
 -- what an accepted supply call hands back
-supply-lends :
+supply_lends :
     (p l : List ℕ) (n : ℕ) → Accepted p → length l ≡ (board p).map.hexes → n ≤ 4
     → Met p l (verdict p (supply n) l) (accepted accepting) p (supply_map (scene (board p)) n)
 unfolding rule_of supply_rule makes
-supply-lends p l n a e le =
+supply_lends p l n a e le =
     checked a
     (pass (ap not (eq-eqb (length l) (board p).map.hexes e)) (pass (le-ltb 4 n le) (ruled refl)))
 
@@ -64,7 +64,7 @@ one_if false i = inr (refl, λ x. let z : ◌≡◌ {A = ℕ} 0 1 = let y = i.1 
 pub supply_right : SupplyRight
 unfolding supply_map
 supply_right p l n h a e le there =
-    rw (sym (supply-lends p l n a e le).lends, tab_at (board p).map.hexes (λ k. cond (supplied (scene (board p)) n k) 1 0) h there)
+    rw (sym (supply_lends p l n a e le).lends, tab_at (board p).map.hexes (λ k. cond (supplied (scene (board p)) n k) 1 0) h there)
     (one_if (supplied (scene (board p)) n h) (supplied_right (scene (board p)) n h))
 
 -- the supply call leaves the position as it was
@@ -94,7 +94,7 @@ order_bounded p l (supply n) a = supply_bounded (board p) n (length l)
 order_bounded p l (move u path) a = move_bounded (board p) u path
 order_bounded p l end_phase a = end_bounded (board p) (length l)
 order_bounded p l (attack target units die) a = attack_bounded a target units die (length l)
-order_bounded p l (retreat hex route pushes) a = retreat-bounded a hex route pushes
+order_bounded p l (retreat hex route pushes) a = retreat_bounded a hex route pushes
 order_bounded p l (losses units) a = losses_bounded (board p) units
 order_bounded p l (advance unit hex) a = advance_bounded (board p) unit hex
 order_bounded p l close a = close_bounded (board p)

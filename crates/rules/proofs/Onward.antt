@@ -63,27 +63,27 @@ module _ (b : Board) where
   unfolding over
   not_last o e = simp (eq-eqb b.desk.battle.stage Stage.quiet e) at o
 
-goes-as :
+goes_as :
     {p : List ℕ} {o : Order} {l : List ℕ} → (onward (board p) ≡ o) × (lent_onward (board p) ≡ l)
     → Goes p (record { order = o; lent = l }) → Goes p (onward_call p)
 unfolding onward_call
-goes-as {p} e g = subst (Goes p) (sym (ap₂ (λ (o : Order) (l : List ℕ). record { order = o; lent = l }) e.0 e.1)) g
+goes_as {p} e g = subst (Goes p) (sym (ap₂ (λ (o : Order) (l : List ℕ). record { order = o; lent = l }) e.0 e.1)) g
 
 goes : (p : List ℕ) → Accepted p → over (board p) ≡ false → Goes p (onward_call p)
 goes p a o =
     let b = board p in
     let k = a.lawful.clock.stage in
     same_or b.desk.battle.stage Stage.quiet
-    (λ e. goes-as (order_quiet b e) (end_goes a e (not_last b o e)))
+    (λ e. goes_as (order_quiet b e) (end_goes a e (not_last b o e)))
     (λ n.
     same_or b.desk.battle.stage Stage.retreats
-    (λ e. goes-as (order_retreats b e) (retreat_goes a e))
+    (λ e. goes_as (order_retreats b e) (retreat_goes a e))
     (λ m.
     same_or b.desk.battle.stage Stage.losses
-    (λ e. goes-as (order_losses b e) (losses_go a e))
+    (λ e. goes_as (order_losses b e) (losses_go a e))
     (λ i.
     let e : b.desk.battle.stage ≡ Stage.advances = omega arith in
-    goes-as (order_advances b e) (close_goes a e))))
+    goes_as (order_advances b e) (close_goes a e))))
 
 is_accepted : {a : Ruling} {vs : Values} → a ≡ accepted vs → IsAccepted a
 is_accepted e = subst IsAccepted (sym e) tt

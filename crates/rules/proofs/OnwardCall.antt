@@ -23,11 +23,11 @@ pub record Goes (p : List ℕ) (c : Sent Order) : Type 0 where
   pub falls : left (board (step p c).position) < left (board p)
 
 -- a rule that is met with an acceptance on an accepted position, where its changes leave less
-pub goes-met :
+pub goes_met :
     {p m : List ℕ} {vs : Values} → Accepted p → (c : Sent Order) (xs : List Change)
     → Met p c.lent (rule_of (board p) c.order (length c.lent)) (accepted vs) (makes p xs) m
     → left (changes (board p) xs) < left (board p) → Goes p c
-goes-met {p} {vs = vs} a c xs r f =
+goes_met {p} {vs = vs} a c xs r f =
     let g = checked a r in
     record {
       values = vs;

@@ -20,14 +20,14 @@ use Rattle.aftermath.proofs.KeepStage.{lessened_owing}
 use Rattle.rules.specs.Order.{rule_of}
 use Rattle.rules.specs.Order.Order.{close}
 use Rattle.rules.specs.Onward.{left}
-use Rattle.rules.proofs.OnwardCall.{Goes, goes-met}
-use Rattle.rules.proofs.OnwardStage.{falls-then-on, left_advances}
+use Rattle.rules.proofs.OnwardCall.{Goes, goes_met}
+use Rattle.rules.proofs.OnwardStage.{falls_then_on, left_advances}
 
-close-falls :
+close_falls :
     {b : Board} → Lawful b → b.map.hexes ≤ nowhere → b.desk.battle.stage ≡ Stage.advances → left (changes b (then_on b (close_changes b))) < left b
-close-falls {b} l most e =
+close_falls {b} l most e =
     let o = closed l most in
-    falls-then-on (close_changes b) o.since (omega (arith, left_advances b e))
+    falls_then_on (close_changes b) o.since (omega (arith, left_advances b e))
     (λ n. absurd (n (closed_none b l most)))
     (λ n. absurd (n (lessened_owing o (l.stage.during.advances e).owing)))
 
@@ -35,6 +35,6 @@ pub close_goes : {p : List ℕ} → Accepted p → (board p).desk.battle.stage �
 unfolding rule_of close_rule
 close_goes {p} a e =
     let b = board p in
-    goes-met a (record { order = close; lent = [] }) (then_on b (close_changes b))
+    goes_met a (record { order = close; lent = [] }) (then_on b (close_changes b))
     (pass (ap not (eq-eqb b.desk.battle.stage Stage.advances e)) (ruled refl))
-    (close-falls a.lawful (omega (arith, hexes_most a.shaped)) e)
+    (close_falls a.lawful (omega (arith, hexes_most a.shaped)) e)

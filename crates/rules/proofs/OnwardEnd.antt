@@ -20,7 +20,7 @@ use Rattle.march.proofs.EndDesk.{end_desk}
 use Rattle.rules.specs.Order.{rule_of}
 use Rattle.rules.specs.Order.Order.{end_phase}
 use Rattle.rules.specs.Onward.{battle_left, left, phases_of}
-use Rattle.rules.proofs.OnwardCall.{Goes, goes-met}
+use Rattle.rules.proofs.OnwardCall.{Goes, goes_met}
 use Rattle.rules.proofs.OnwardStage.{left_quiet}
 
 module _ {b : Board} (l : Lawful b) (e : b.desk.battle.stage ≡ Stage.quiet) (more : is_last b.desk.clock b.desk.last_turn ≡ false) where
@@ -44,7 +44,7 @@ end_goes {p} a e more =
     let b = board p in
     let n = b.map.hexes in
     let l : List ℕ = replicate n 0 in
-    goes-met a (record { order = end_phase; lent = l }) (end_changes b)
+    goes_met a (record { order = end_phase; lent = l }) (end_changes b)
     (pass (ap not (eq-eqb (length l) n (length-replicate {A = ℕ} n 0)))
     (pass (ap not (eq-eqb b.desk.battle.stage Stage.quiet e)) (pass more (ruled refl))))
     (end_falls a.lawful e more)

@@ -17,14 +17,14 @@ use Rattle.aftermath.proofs.KeepLosses.{losses_owing, since_losses}
 use Rattle.rules.specs.Order.{rule_of}
 use Rattle.rules.specs.Order.Order.{losses}
 use Rattle.rules.specs.Onward.{all_owing, left}
-use Rattle.rules.proofs.OnwardCall.{Goes, goes-met}
-use Rattle.rules.proofs.OnwardStage.{falls-then-on, left_losses}
+use Rattle.rules.proofs.OnwardCall.{Goes, goes_met}
+use Rattle.rules.proofs.OnwardStage.{falls_then_on, left_losses}
 
-losses-fall :
+losses_fall :
     {b : Board} → Lawful b → b.map.hexes ≤ nowhere → b.desk.battle.stage ≡ Stage.losses → (units : List ℕ)
     → left (changes b (then_on b (loss_changes b units))) < left b
-losses-fall {b} l most e units =
-    falls-then-on (loss_changes b units) (since_losses l most e units) (omega (arith, left_losses b e))
+losses_fall {b} l most e units =
+    falls_then_on (loss_changes b units) (since_losses l most e units) (omega (arith, left_losses b e))
     (λ _. omega (arith, left_losses b e))
     (λ n. absurd (n (losses_owing l most e units)))
 
@@ -34,6 +34,6 @@ losses_go {p} a e =
     let b = board p in
     let k = (a.lawful.stage.during.losses e).owing in
     let units = all_owing b in
-    goes-met a (record { order = losses units; lent = [] }) (then_on b (loss_changes b units))
+    goes_met a (record { order = losses units; lent = [] }) (then_on b (loss_changes b units))
     (all_pass b p e k.low k.high [] _ _ _ _ (ruled refl))
-    (losses-fall a.lawful (omega (arith, hexes_most a.shaped)) e units)
+    (losses_fall a.lawful (omega (arith, hexes_most a.shaped)) e units)

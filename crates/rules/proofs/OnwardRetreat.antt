@@ -33,23 +33,23 @@ use Rattle.routes.proofs.Legal.{legal_right}
 use Rattle.routes.proofs.Part.{none_shorter, part_right, farthest_here, farthest_right}
 use Rattle.chains.specs.Series.{LegalSeries}
 use Rattle.chains.specs.Serves.{pushes_serve}
-use Rattle.chains.proofs.Find.{find_right, series-charted, series_few}
+use Rattle.chains.proofs.Find.{find_right, series_charted, series_few}
 use Rattle.chains.proofs.Follows.{legal_pushes_right}
 use Rattle.shoves.specs.Group.{group_force}
 use Rattle.aftermath.specs.Losses as Losses
 use Rattle.aftermath.specs.Stage.{then_on}
 use Rattle.retreat.specs.Retreat.{doomed, has_route, has_series, is_part, leave_changes, not_part, not_pushed, not_vacant, retreat_rule, walks_from}
 use Rattle.retreat.specs.Words.{Due}
-use Rattle.retreat.proofs.Fates.{part_supply, part-walks}
+use Rattle.retreat.proofs.Fates.{part_supply, part_walks}
 use Rattle.retreat.proofs.KeepGroup.{Owes, start_stands}
 use Rattle.retreat.proofs.KeepRetreat.{retreat_lightens}
 use Rattle.retreat.proofs.KeepRoute.{run_charted}
-use Rattle.retreat.proofs.Words.{passes-due}
+use Rattle.retreat.proofs.Words.{passes_due}
 use Rattle.rules.specs.Order.{rule_of}
 use Rattle.rules.specs.Order.Order.{retreat}
 use Rattle.rules.specs.Onward.{all_owing, first_owing, last_road, left, pushed_for, pushes_for, retreat_onward, route_for, run_for, sent_route}
-use Rattle.rules.proofs.OnwardCall.{Goes, goes-met}
-use Rattle.rules.proofs.OnwardStage.{falls-then-on, left_retreats}
+use Rattle.rules.proofs.OnwardCall.{Goes, goes_met}
+use Rattle.rules.proofs.OnwardStage.{falls_then_on, left_retreats}
 
 -- what the two questions ask
 module _ (b : Board) (h : ℕ) where
@@ -152,7 +152,7 @@ module _ {b : Board} (h : ℕ) (l : b.desk.battle.owed ≤ 3) {route pushes : Li
   given_charted : Given b h route pushes → Charted b route × Charted b pushes
   given_charted (lastly d e k s q) = (run_charted k, rw q (λ j i. absurd (omega arith)))
   given_charted (vacantly d e k q) = (run_charted k.run, rw q (λ j i. absurd (omega arith)))
-  given_charted (pushing d e k) = series-charted k
+  given_charted (pushing d e k) = series_charted k
 
   -- it is refused neither by 14 nor by 17
   given_part : Given b h route pushes → not_part b h route pushes ≡ false
@@ -192,7 +192,7 @@ module _ {b : Board} (l : Lawful b) (most : b.map.hexes ≤ nowhere) (e : b.desk
       let r = part_legally b h owed.high z in
       let s = none_shorter b (group_force b h) h r.steps b.desk.battle.owed z r.longest.some in
       simp w
-      (lastly d (part-walks b h (run_for b h) w ∙ (part_right b (group_force b h) h (run_for b h)).1 r) r.run.run
+      (lastly d (part_walks b h (run_for b h) w ∙ (part_right b (group_force b h) h (run_for b h)).1 r) r.run.run
       (omega (arith, owed.high, r.run.long))
       refl))
       (λ w. simp w (lastly d (part_supply b h [] w) stay (omega arith) refl))
@@ -216,7 +216,7 @@ module _ {b : Board} (l : Lawful b) (most : b.map.hexes ≤ nowhere) (e : b.desk
       let g = is_given in
       let o = retreat_lightens l most e h u m sent shoved (given_part h owed.high g) (given_vacant h owed.high g) (given_pushed h owed.high g) in
       let k = left_retreats b e in
-      falls-then-on xs o.since (omega arith) (λ _. omega arith)
+      falls_then_on xs o.since (omega arith) (λ _. omega arith)
       (λ _. omega (arith, left_retreats (changes b xs) o.stage, o.fewer))
 
 module _ {p : List ℕ} (a : Accepted p) (e : (board p).desk.battle.stage ≡ Stage.retreats) where
@@ -256,8 +256,8 @@ module _ {p : List ℕ} (a : Accepted p) (e : (board p).desk.battle.stage ≡ St
       let pushes = pushes_for b start in
       let g = is_given a.lawful most e start (leader b some) m in
       let l = (owed a.lawful most e start (leader b some) m).high in
-      goes-met a (record { order = retreat start route pushes; lent = [] })
+      goes_met a (record { order = retreat start route pushes; lent = [] })
       (then_on b (leave_changes b start route pushes))
-      (passes-due due [] _ _ _ _
+      (passes_due due [] _ _ _ _
       (pass (given_part start l g) (pass (given_vacant start l g) (pass (given_pushed start l g) (ruled refl)))))
       (retreat_falls a.lawful most e start (leader b some) m)

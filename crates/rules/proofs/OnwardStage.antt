@@ -71,10 +71,10 @@ module _
       (λ n. omega (arith, later n, phases_since))
 
 -- a call's own changes, and then the stage that follows
-pub falls-then-on :
+pub falls_then_on :
     {b : Board} (xs : List Change) → Since b (changes b xs) → 1 ≤ battle_left b
     → ((holders (changes b xs) Role.advances ≡ 0 → ⊥) → 2 ≤ battle_left b)
     → ((holders (changes b xs) Role.owes ≡ 0 → ⊥) → battle_left (changes b xs) < battle_left b) → left (changes b (then_on b xs)) < left b
 unfolding then_on
-falls-then-on {b} xs s some more later =
+falls_then_on {b} xs s some more later =
     rw (changes_then xs (passes_on (changes b xs)) b) (falls_passed s some more later)

@@ -71,11 +71,11 @@ module _ {b : Board} {u : ℕ} (there : Mapped b u) where
   still_there d xs n = omega (arith, (fixed_changes xs d).count)
 
   -- after a unit is judged: it is unit u, or the mark told before
-  tells-unit :
+  tells_unit :
       (d : Board) (w : ℕ) → u < d.units.count → ((u ≡ w → ⊥) → MarkTells b u d)
       → MarkTells b u (changes d (marked w (judged_marks b w) ∷ []))
   unfolding changes change judged_marks
-  tells-unit d w n told =
+  tells_unit d w n told =
       let s = d.units.state.marks in
       let m = judged_marks b w in
       same_or u w
@@ -91,25 +91,25 @@ module _ {b : Board} {u : ℕ} (there : Mapped b u) where
   unfolding mapped_of
   own_mapped n e = simp (eq-eqb (b.units.counter.nationality u) n e, ne_eqb (b.units.state.hex u) nowhere there.stands)
 
-  tells-cond :
+  tells_cond :
       (d : Board) (t : Bool) (w : ℕ) → u < d.units.count → ((t ≡ true → u ≡ w → ⊥) → MarkTells b u d)
       → MarkTells b u (changes d (cond t (marked w (judged_marks b w) ∷ []) []))
   unfolding changes
-  tells-cond d true w n told = tells-unit d w n (λ h. told (λ _. h))
-  tells-cond d false w n told = told (λ e. not_both false e refl)
+  tells_cond d true w n told = tells_unit d w n (λ h. told (λ _. h))
+  tells_cond d false w n told = told (λ e. not_both false e refl)
 
   -- after the mapped units of a nationality below k are judged: unit u is one of them, or the mark told before
-  tells-nation :
+  tells_nation :
       (d : Board) (n k : ℕ) → u < d.units.count → ((u < k → b.units.counter.nationality u ≡ n → ⊥) → MarkTells b u d)
       → MarkTells b u (changes d (judge_all b n k))
   unfolding judge_all changes
-  tells-nation d n zero c told = told (λ l. absurd (omega arith))
-  tells-nation d n (suc k) c told =
+  tells_nation d n zero c told = told (λ l. absurd (omega arith))
+  tells_nation d n (suc k) c told =
       let xs = judge_all b n k in
       rw (changes_then xs (cond (mapped_of b n k) (marked k (judged_marks b k) ∷ []) []) d)
-      (tells-cond (changes d xs) (mapped_of b n k) k (still_there d xs c)
+      (tells_cond (changes d xs) (mapped_of b n k) k (still_there d xs c)
       (λ h.
-      tells-nation d n k c
+      tells_nation d n k c
       (λ g.
       told
       (λ l e.
@@ -128,21 +128,21 @@ module _ {b : Board} {u : ℕ} (there : Mapped b u) where
       (λ z.
       simp (eq-eqb f home z)
       (rw (changes_then first (judge_all b canada k) d)
-      (tells-nation (changes d first) canada k (still_there d first n)
+      (tells_nation (changes d first) canada k (still_there d first n)
       (λ h.
-      tells-nation d us k n
+      tells_nation d us k n
       (λ g. absurd (g there.counted (sym (own_force nation (h there.counted)) ∙ e ∙ z)))))))
       (λ z.
       simp (ne_eqb f home z)
-      (tells-nation d f k n
+      (tells_nation d f k n
       (λ h. absurd (h there.counted (sym (own_force nation (λ c. z (sym e ∙ canada_home nation c))) ∙ e)))))
 
   -- and so after the end of a phase
-  tells-end :
+  tells_end :
       judges_supply (next_clock b.desk.clock) ≡ true → force_of b u ≡ (next_clock b.desk.clock).force
       → MarkTells b u (changes b (end_changes b))
   unfolding end_changes supply_changes changes
-  tells-end j e =
+  tells_end j e =
       let c = next_clock b.desk.clock in
       let rest = rest_all b b.units.count in
       let x = timed c.turn c.force c.phase in
@@ -173,7 +173,7 @@ marked_right p l u a i j there e =
     let t : MarkTells b u (board (step p (record { order = end_phase; lent = l })).position) =
     ap (λ (d : Board). has supplied (d.units.state.marks u))
     (ap board ((end_leaves p l).leaves i) ∙ board_makes a.shaped (end_changes b))
-    ∙ tells-end there j e
+    ∙ tells_end there j e
     in
     let r = unit_right b u in
     (λ x. r.0 (sym t ∙ x), λ x. t ∙ r.1 x)

@@ -109,10 +109,10 @@ turning (judge j) l s = turning_judged j s
 
 -- the units us have one strength in two positions that look the same, if those that are turned over have: the others were seen in both, or
 -- are not there
-one-strength :
+one_strength :
     {r s r' us : List ℕ} → Same r s → Turning r r' us → ((u : ℕ) → TurnsOver r r' u → strength r u ≡ strength s u)
     → Each (λ u. strength r u ≡ strength s u) us
-one-strength {r} {s} {r'} {us} same t h = each_by (λ u up. at u up (dec_lt u (count r)) (has tried (marks r u)) refl) us t.seen
+one_strength {r} {s} {r'} {us} same t h = each_by (λ u up. at u up (dec_lt u (count r)) (has tried (marks r u)) refl) us t.seen
   where
     at :
         (u : ℕ) → (u < count r → Up (board r') u) → Dec (u < count r) → (t : Bool) → has tried (marks r u) ≡ t
@@ -130,7 +130,7 @@ module _ (p q : List ℕ) where
   runs_on r s (c ∷ cs) a e f h =
       let t = turning (verdict_on rule_of r c) c.lent a.first.shaped in
       let t' = turning (verdict_on rule_of s c) c.lent a.second.shaped in
-      let o = secrecy r s (c ∷ []) a (one-strength a.same t (λ u v. e u ∙ h.0 u v ∙ sym (f u)), tt) in (
+      let o = secrecy r s (c ∷ []) a (one_strength a.same t (λ u v. e u ∙ h.0 u v ∙ sym (f u)), tt) in (
         o.0,
         o.1,
         o.2,

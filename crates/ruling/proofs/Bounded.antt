@@ -44,16 +44,16 @@ module _ {k : Replies} {p l : List ℕ} where
   bounded_past t e f = bounded_at t e (omega arith) f
 
   -- along a list whose places fit; what the tests of each place leave is known of all places at the end
-  pub bounded-each :
+  pub bounded_each :
       (Q : ℕ → Type 0) {S : Type 0} {test : S → ℕ → ℕ → Verdict → Verdict} (next : S → ℕ → S)
       → ((s : S) (x place : ℕ) (v : Verdict) → place < 65536 → (Q x → Bounded k p l v) → Bounded k p l (test s x place v))
       → (s : S) (xs : List ℕ) (place : ℕ) (v : S → Verdict) → place + length xs ≤ 65536
       → (Each Q xs → (s : S) → Bounded k p l (v s)) → Bounded k p l (along test next s xs place v)
   unfolding along
-  bounded-each Q next f s [] place v i g = g tt s
-  bounded-each Q next f s (x ∷ xs) place v i g =
+  bounded_each Q next f s [] place v i g = g tt s
+  bounded_each Q next f s (x ∷ xs) place v i g =
       f s x place _ (omega arith)
-      (λ q. bounded-each Q next f (next s x) xs (place + 1) v (omega arith) (λ h. g (q, h)))
+      (λ q. bounded_each Q next f (next s x) xs (place + 1) v (omega arith) (λ h. g (q, h)))
 
   -- at the end
   pub bounded_ruled : {vs : Values} {xs : List Change} {m : List ℕ} → Roomy k vs → Bounded k p l (judge (rule vs xs m))
@@ -70,16 +70,16 @@ module _ {k : Replies} {p l : List ℕ} where
       at (no n) = rw (broken_true n) (record { ok = (omega arith, omega arith, omega arith) })
 
 -- through units that are turned over, whatever their strengths
-shown-bounded :
+shown_bounded :
     (k : Replies) (us : List ℕ) (f : List ℕ → Judge) → ((p ss : List ℕ) → Packable k (judged p (f ss)).answer) → (p : List ℕ)
     → Packable k (judged p (reveal_all us f)).answer
 unfolding judged reveal_all
-shown-bounded k [] f h p = h p []
-shown-bounded k (u ∷ us) f h p =
-    shown-bounded k us (λ ss. f (strength p u ∷ ss)) (λ q ss. h q (strength p u ∷ ss)) (turned p u)
+shown_bounded k [] f h p = h p []
+shown_bounded k (u ∷ us) f h p =
+    shown_bounded k us (λ ss. f (strength p u ∷ ss)) (λ q ss. h q (strength p u ∷ ss)) (turned p u)
 
-pub bounded-seen :
+pub bounded_seen :
     {k : Replies} {p l : List ℕ} (us : List ℕ) (f : List ℕ → Judge) → ((p ss : List ℕ) → Packable k (judged p (f ss)).answer)
     → Bounded k p l (judge (reveal_all us f))
 unfolding outcome
-bounded-seen {k} {p} us f h = record { ok = shown-bounded k us f h p }
+bounded_seen {k} {p} us f h = record { ok = shown_bounded k us f h p }

@@ -10,7 +10,7 @@ use Rattle.ruling.specs.Verdict.Ruling.{refused}
 use Rattle.ruling.specs.Judged.{Passes, Stops, TestedOf}
 use Rattle.ruling.specs.declared.Tested.{Tested}
 use Rattle.ruling.specs.declared.Tested.TheVariants as T
-use Rattle.ruling.proofs.Meets.{along-at}
+use Rattle.ruling.proofs.Meets.{along_at}
 
 -- The tests along a path whose places are counted from k on are passed before element i, where they have come to s: what meets the tests
 -- from there on meets them all.
@@ -36,10 +36,10 @@ module _ {S : Type 0} {k : ℕ} {p : List ℕ} {test : S → ℕ → ℕ → Ver
 
   module _ {i : ℕ} {s : S} (o : GoneFrom k p test next first path i s) where
     -- past the next element, at a refusal there, and at the end
-    pub gone-more :
+    pub gone_more :
         i < length path → Passes p (test s (get_or path i 0) (i + k))
         → GoneFrom k p test next first path (i + 1) (next s (get_or path i 0))
-    gone-more b t =
+    gone_more b t =
         let x = get_or path i 0 in
         let e : i + 1 + k ≡ i + k + 1 = omega arith in
         record {
@@ -47,25 +47,25 @@ module _ {S : Type 0} {k : ℕ} {p : List ℕ} {test : S → ℕ → ℕ → Ver
           ahead =
               λ l v a q m g.
               o.ahead l v a q m
-              (rw (along-at test next s path i (i + k) v b)
+              (rw (along_at test next s path i (i + k) v b)
               (t l _ a q m (subst (λ (j : ℕ). Met p l (along test next (next s x) (drop (i + 1) path) j v) a q m) e g)));
         }
 
-    pub gone-stop :
+    pub gone_stop :
         {n j : ℕ} → i < length path → Stops p (test s (get_or path i 0) (i + k)) n j
         → Stops p (along test next first path k) n j
-    gone-stop {n} {j} b t l v = o.ahead l v (refused n j) p l (rw (along-at test next s path i (i + k) v b) (t l _))
+    gone_stop {n} {j} b t l v = o.ahead l v (refused n j) p l (rw (along_at test next s path i (i + k) v b) (t l _))
 
-    pub gone-end :
+    pub gone_end :
         length path ≤ i → (l : List ℕ) (v : S → Verdict) (a : Ruling) (q m : List ℕ) → Met p l (v s) a q m
         → Met p l (along test next first path k v) a q m
     unfolding along
-    gone-end b l v a q m g = o.ahead l v a q m (rw (drop_of_length-le path {i = i} b) g)
+    gone_end b l v a q m g = o.ahead l v a q m (rw (drop_of_length-le path {i = i} b) g)
 
 -- the answer of a row of tests, handed on past tests before them
-pub tested-through :
+pub tested_through :
     {p : List ℕ} {f g : Verdict → Verdict} {P Q : Type 0}
     → ((l : List ℕ) (v : Verdict) (a : Ruling) (q m : List ℕ) → Met p l (f v) a q m → Met p l (g v) a q m) → (P → Q)
     → (r : Tested) → TestedOf p f P r → TestedOf p g Q r
-tested-through t h T.Passed o = (λ l v a q m w. t l v a q m (o.0 l v a q m w), h o.1)
-tested-through {p} t h (T.Stopped n k) o = λ l v. t l v (refused n k) p l (o l v)
+tested_through t h T.Passed o = (λ l v a q m w. t l v a q m (o.0 l v a q m w), h o.1)
+tested_through {p} t h (T.Stopped n k) o = λ l v. t l v (refused n k) p l (o l v)

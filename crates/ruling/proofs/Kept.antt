@@ -32,14 +32,14 @@ module _ {p l : List ℕ} (a : Accepted p) where
   kept_checked k = kept_past (broken p) (λ _. k)
 
   -- what holds of the state before a place holds after it, where the place's tests do not refuse
-  pub kept-along :
+  pub kept_along :
       {S : Type 0} (P : S → Type 0) {test : S → ℕ → ℕ → Verdict → Verdict} {next : S → ℕ → S}
       → ((s : S) (x k : ℕ) (v : Verdict) → P s → (P (next s x) → Kept p l v) → Kept p l (test s x k v))
       → (s : S) → P s → (xs : List ℕ) (k : ℕ) (v : S → Verdict) → ((s : S) → P s → Kept p l (v s))
       → Kept p l (along test next s xs k v)
   unfolding along
-  kept-along P f s h [] k v g = g s h
-  kept-along P {next = next} f s h (x ∷ xs) k v g = f s x k _ h (λ i. kept-along P f (next s x) i xs (k + 1) v g)
+  kept_along P f s h [] k v g = g s h
+  kept_along P {next = next} f s h (x ∷ xs) k v g = f s x k _ h (λ i. kept_along P f (next s x) i xs (k + 1) v g)
 
   pub kept_ruled : {vs : Values} {m : List ℕ} (xs : List Change) → Lawful (changes (board p) xs) → Kept p l (judge (rule vs xs m))
   unfolding outcome judged

@@ -37,13 +37,13 @@ stop {t = true} e = record { answers = refl; leaves = refl; lends = refl }
 stop {t = false} e = absurd (let z : ◌≡◌ {A = ℕ} 0 1 = cc in omega arith)
 
 -- the tests of the list's element i, and then those from i + 1 on
-pub along-at :
+pub along_at :
     {S : Type 0} (test : S → ℕ → ℕ → Verdict → Verdict) (next : S → ℕ → S) (s : S) (xs : List ℕ) (i k : ℕ) (v : S → Verdict)
     → i < length xs
     → along test next s (drop i xs) k v
     ≡ test s (get_or xs i 0) k (along test next (next s (get_or xs i 0)) (drop (i + 1) xs) (k + 1) v)
 unfolding along
-along-at test next s xs i k v l = rw (add-one, drop-cons xs i 0 l)
+along_at test next s xs i k v l = rw (add-one, drop-cons xs i 0 l)
 
 -- at the end of the judgement
 pub ruled : {p l : List ℕ} {vs : Values} {xs : List Change} {m q : List ℕ} → q ≡ makes p xs → Met p l (judge (rule vs xs m)) (accepted vs) q m

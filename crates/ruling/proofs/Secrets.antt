@@ -24,24 +24,24 @@ each_by f [] h = tt
 each_by f (u ∷ us) h = (f u h.0, each_by f us h.1)
 
 -- one judgement of two positions that look the same
-secret-judge :
+secret_judge :
     (j : Judge) (p q : List ℕ) → Shaped p → Same p q → Each (λ u. strength p u ≡ strength q u) (revealed_by p j)
     → SameOutcome (judged p j) (judged q j)
 unfolding judged revealed_by
-secret-judge (reveal u k) p q a s h =
+secret_judge (reveal u k) p q a s h =
     let up = turned_made a u in
     let uq = turned_made (shaped_kept (front_same s) a) u in
     rw (sym h.0)
-    (secret-judge (k (strength p u)) (turned p u) (turned q u) (shaped_kept up.front a) (same_turned a s u (sym h.0))
+    (secret_judge (k (strength p u)) (turned p u) (turned q u) (shaped_kept up.front a) (same_turned a s u (sym h.0))
     (each_by (λ w e. up.strengths w ∙ e ∙ sym (uq.strengths w)) (revealed_by (turned p u) (k (strength p u))) h.1))
-secret-judge (rule vs xs l) p q a s h = record { answers = refl; lent = refl; positions = same_makes a s xs }
+secret_judge (rule vs xs l) p q a s h = record { answers = refl; lent = refl; positions = same_makes a s xs }
 
 -- one verdict
 pub secret : (v : Verdict) (p q l : List ℕ) → Shaped p → Same p q → OneStrength p q v → SameOutcome (outcome p l v) (outcome q l v)
 unfolding outcome revealed
 secret (refuse_if true n k v) p q l a s h = record { answers = refl; lent = refl; positions = s }
 secret (refuse_if false n k v) p q l a s h = secret v p q l a s h
-secret (judge j) p q l a s h = secret-judge j p q a s h
+secret (judge j) p q l a s h = secret_judge j p q a s h
 
 -- one call, and a run of calls, of any referee
 module _ {Order : Type 0} (rules : Rules Order) where

@@ -54,11 +54,11 @@ module _ {p l : List ℕ} (a : Accepted p) where
   kept_seen us k h = record { ok = rw (seen_all a.shaped us k) h.ok }
 
 -- what the tests of each place leave is known of all places at the end
-pub kept-each :
+pub kept_each :
     {p l : List ℕ} (Q : ℕ → Type 0) {S : Type 0} {test : S → ℕ → ℕ → Verdict → Verdict} (next : S → ℕ → S)
     → ((s : S) (x k : ℕ) (v : Verdict) → (Q x → Kept p l v) → Kept p l (test s x k v))
     → (s : S) (xs : List ℕ) (k : ℕ) (v : S → Verdict) → (Each Q xs → (s : S) → Kept p l (v s))
     → Kept p l (along test next s xs k v)
 unfolding along
-kept-each Q next f s [] k v g = g tt s
-kept-each Q next f s (x ∷ xs) k v g = f s x k _ (λ q. kept-each Q next f (next s x) xs (k + 1) v (λ h. g (q, h)))
+kept_each Q next f s [] k v g = g tt s
+kept_each Q next f s (x ∷ xs) k v g = f s x k _ (λ q. kept_each Q next f (next s x) xs (k + 1) v (λ h. g (q, h)))

@@ -72,10 +72,10 @@ module _ (p : List ℕ) (h : ℕ) (pushes : List ℕ) (k : ℕ) where
   clear_vacant l e = done_still l (clears_vacant (board p) h (drop k pushes) e)
 
   -- a push is left, and somebody stands there
-  pub clear-held :
+  pub clear_held :
       Shaped p → k < length pushes → vacant (scene (board p)) h ≡ false → {r : ℕ} {q m : List ℕ}
       → Clear p (get_or pushes k 0) pushes (k + 1) r q → m ≡ makes q (stack_to (board q) h (get_or pushes k 0)) → Clear p h pushes k r m
-  clear-held s l e {r} {q} c f =
+  clear_held s l e {r} {q} c f =
       let b = board p in
       let z = get_or pushes k 0 in
       let xs = (clears b z (drop (k + 1) pushes)).done in
@@ -139,7 +139,7 @@ module _ {p₀ : List ℕ} {v : View} {h : ℕ} {ps : List ℕ} {k e : ℕ} wher
         most = omega (arith, u.most);
         laid = laid_makes _ u.laid f;
         cleared =
-            clear-held p₀ (out_of h ps k (j - 1)) ps (j - 1) l.shaped (omega (arith, u.most, c.chained.few))
+            clear_held p₀ (out_of h ps k (j - 1)) ps (j - 1) l.shaped (omega (arith, u.most, c.chained.few))
             (c.chained.held (j - 1) (omega arith) (omega (arith, u.most)))
             (subst (λ (m : ℕ). Clear p₀ (get_or ps (j - 1) 0) ps m e p) x (subst (λ (m : ℕ). Clear p₀ m ps j e p) (out_later h ps k j i) u.cleared))
             f;

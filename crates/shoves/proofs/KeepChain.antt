@@ -29,9 +29,9 @@ use Rattle.chains.specs.Stand.{apart, stand, is_free, is_loose}
 use Rattle.chains.specs.Chain.{Ways, Stands, Chain, rest, push, rests, yields, after}
 use Rattle.shoves.specs.Group.{stack}
 use Rattle.shoves.specs.Shoves.{Cleared, clears, shifts, stack_to}
-use Rattle.shoves.proofs.KeepZone.{bears-same}
-use Rattle.shoves.proofs.KeepMove.{Going, Goes, all-gone, vacant_none}
-use Rattle.shoves.proofs.Standing.{Light, IsLoose, apart_here, apart_off, apart-same, apart_stands, firm_same, free_is, free_vacant, is_free_lem, is_loose_lem, light_is, loose_held, loose_is, stand-same}
+use Rattle.shoves.proofs.KeepZone.{bears_same}
+use Rattle.shoves.proofs.KeepMove.{Going, Goes, all_gone, vacant_none}
+use Rattle.shoves.proofs.Standing.{Light, IsLoose, apart_here, apart_off, apart_same, apart_stands, firm_same, free_is, free_vacant, is_free_lem, is_loose_lem, light_is, loose_held, loose_is, stand_same}
 
 -- board c, since board b, after pushes: nobody's role has changed, and who owes stands where it stood, as does whoever is of another force
 pub record Pushes (o b : Board) (f : ℕ) (c : Board) : Type 0 where
@@ -81,7 +81,7 @@ module _ {o b : Board} (s : Since o b) (most : o.map.hexes ≤ nowhere) (f a : �
     unfolding stack_to stack
     going =
         let t = stands_on (scene b) h in
-        all-gone s most h z t (λ u. false) false on_hex (real_hex h (bears_stands b f h i.bear)) (bears_stands b f z q) v (shifts z) goes (stack b h)
+        all_gone s most h z t (λ u. false) false on_hex (real_hex h (bears_stands b f h i.bear)) (bears_stands b f z q) v (shifts z) goes (stack b h)
         (sieve_each t b.units.count)
         (sieve_names t b.units.count)
 
@@ -121,7 +121,7 @@ module _ {o b : Board} (s : Since o b) (most : o.map.hexes ≤ nowhere) (f a : �
     apart_hex e = vacant_none b z i.unit v i.counted (apart_stands b a h i.unit i.there ∙ e)
 
     bear : (y : ℕ) → bears moved f y ≡ bears b f y
-    bear = bears-same f pushed.fixed pushed.others
+    bear = bears_same f pushed.fixed pushed.others
 
     count : moved.units.count ≡ b.units.count
     count = pushed.fixed.count
@@ -165,11 +165,11 @@ module _ {o b : Board} (s : Since o b) (most : o.map.hexes ≤ nowhere) (f a : �
 
     beyond : (y : ℕ) → (y ≡ h → ⊥) → (y ≡ z → ⊥) → stand moved f a y ≡ stand b f a y
     beyond y j k =
-        stand-same f a a y pushed.fixed (bear y)
+        stand_same f a a y pushed.fixed (bear y)
         (λ w l.
         fate w l
         (λ r m. apart_off moved a y w (λ e. k (sym e ∙ m)) ∙ sym (apart_off b a y w (λ e. j (sym e ∙ r))))
-        (λ _ r. apart-same b moved a y w r (role_same w l)))
+        (λ _ r. apart_same b moved a y w r (role_same w l)))
         (λ w l _. role_same w l)
 
     stood : (y : ℕ) → stand moved f a y ≡ after (stand b f a) h z y
@@ -236,9 +236,9 @@ free_loose : (s : Stands) (x y : ℕ) → s x ≡ Loose → s y ≡ Free → x �
 free_loose s x y p q e = not_both (is_loose (s x)) (ap is_loose p) (ap is_loose (ap s e ∙ q))
 
 -- and so none that holds a stack
-pub chain-other :
+pub chain_other :
     {next : Ways} {s : Stands} {used zs : List ℕ} {left h last x : ℕ} → Chain next s used left h zs last → s x ≡ Loose → x ≡ last → ⊥
-chain-other {s = s} {last = last} {x = x} c e = free_loose s x last e (chain_last c)
+chain_other {s = s} {last = last} {x = x} c e = free_loose s x last e (chain_last c)
 
 -- a vacant hex takes no push, and a held one the first
 module _ (b : Board) where
@@ -272,11 +272,11 @@ pub record ClearedBy (o b : Board) (f a h last : ℕ) (left : List ℕ) (r : Cle
   pub shifted : Shifted o b f a h last (changes b r.done)
 
 module _ {o b : Board} (s : Since o b) (most : o.map.hexes ≤ nowhere) (f a : ℕ) where
-  two-shifts :
+  two_shifts :
       (h z last : ℕ) {c d : Board} → stand b f a h ≡ Loose → stand b f a z ≡ Loose → stand b f a last ≡ Free → (h ≡ z → ⊥)
       → Shifted o b f a z last c → Shifted o c f a h z d → Shifted o b f a h last d
   unfolding after
-  two-shifts h z last i j k n x y =
+  two_shifts h z last i j k n x y =
       record {
         pushes = pushes_trans x.pushes y.pushes;
         stands =
@@ -302,11 +302,11 @@ module _ {o b : Board} (s : Since o b) (most : o.map.hexes ≤ nowhere) (f a : �
           (λ q. simp (ne_eqb w last e, eq-eqb w z q, ne_eqb w h (λ r. n (sym r ∙ q))) (sym j ∙ ap (stand b f a) (sym q)))
           (λ q. simp (ne_eqb w last e, ne_eqb w z q)))
 
-  pub chain-clears :
+  pub chain_clears :
       {next : Ways} {used zs : List ℕ} {left h last : ℕ} → Chain next (stand b f a) used left h zs last → named used a ≡ true → (h ≡ a → ⊥)
       → stand b f a h ≡ Loose → (others : List ℕ) → ClearedBy o b f a h last others (clears b h (zs ++ others))
   unfolding changes
-  chain-clears (rest {used} {left} {h} {z} d l e r) u n i others =
+  chain_clears (rest {used} {left} {h} {z} d l e r) u n i others =
       let k = rests_free (stand b f a) (h ∷ used) z r in
       let off : z ≡ a → ⊥ = λ q. not_both (named (h ∷ used) z) (ap (named (h ∷ used)) q ∙ named_more h used a u) k.1 in
       let free = free_is b f a z k.0 in
@@ -314,12 +314,12 @@ module _ {o b : Board} (s : Since o b) (most : o.map.hexes ≤ nowhere) (f a : �
       let loose = loose_is b f a h i in
       rw (clears_held b h z others (loose_held b f a h loose), clears_vacant b z v others)
       (record { left_over = refl; shifted = shifted s most f a h z loose n v free.bear })
-  chain-clears (push {used} {left} {h} {z} {last} {zs} d l e m r c) u n i others =
+  chain_clears (push {used} {left} {h} {z} {last} {zs} d l e m r c) u n i others =
       let k = yields_loose (stand b f a) (h ∷ used) z r in
       let off : z ≡ a → ⊥ = λ q. not_both (named (h ∷ used) z) (ap (named (h ∷ used)) q ∙ named_more h used a u) k.1 in
       let apart : h ≡ z → ⊥ = (unnamed_parts h used z k.1).0 in
       let free = chain_last c in
-      let x = chain-clears c (named_more h used a u) off k.0 others in
+      let x = chain_clears c (named_more h used a u) off k.0 others in
       let q = clears b z (zs ++ others) in
       let c' = changes b q.done in
       let loose : stand c' f a h ≡ Loose = still_loose (stand b f a) (stand c' f a) h z last x.shifted.stands i k.0 free apart in
@@ -329,6 +329,6 @@ module _ {o b : Board} (s : Since o b) (most : o.map.hexes ≤ nowhere) (f a : �
         left_over = x.left_over;
         shifted =
             rw (changes_then q.done (stack_to c' h z) b)
-            (two-shifts h z last i k.0 free apart x.shifted
+            (two_shifts h z last i k.0 free apart x.shifted
             (shifted x.shifted.pushes.since most f a h z (loose_is c' f a h loose) n x.shifted.empty (free_is c' f a z clear).bear));
       })

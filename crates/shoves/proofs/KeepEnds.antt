@@ -68,10 +68,10 @@ record Leaving (o b : Board) (a : ℕ) (us : List ℕ) (c : Board) : Type 0 wher
 
 module _ {o b : Board} (most : o.map.hexes ≤ nowhere) (a : ℕ) where
   module _ (g : ℕ → Change) (y : Ending g) where
-    leaving-one :
+    leaving_one :
         {us : List ℕ} {c : Board} (u : ℕ) → u < b.units.count → owes_at b a u ≡ true → Leaving o b a (u ∷ us) c
         → Leaving o b a us (change c (g u))
-    leaving-one {us} {c} u m e x =
+    leaving_one {us} {c} u m e x =
         record {
           since = y.since most x.since u;
           fixed = fixed_trans x.fixed (fixed_change c (g u));
@@ -84,19 +84,19 @@ module _ {o b : Board} (most : o.map.hexes ≤ nowhere) (a : ℕ) where
           kept = λ w q. same_trans (x.kept w q) (y.else c u w (λ z. not_both (owes_at b a u) e (ap (owes_at b a) (sym z) ∙ q)));
         }
 
-    leaving-all :
+    leaving_all :
         (us : List ℕ) {c : Board} → Each (λ u. (u < b.units.count) × (owes_at b a u ≡ true)) us → Leaving o b a us c
         → Leaving o b a [] (changes c (gather (λ u. g u ∷ []) us))
     unfolding gather changes
-    leaving-all [] m x = x
-    leaving-all (u ∷ us) m x = leaving-all us m.1 (leaving-one u m.0.0 m.0.1 x)
+    leaving_all [] m x = x
+    leaving_all (u ∷ us) m x = leaving_all us m.1 (leaving_one u m.0.0 m.0.1 x)
 
     all_left : Since o b → Left o b a (changes b (gather (λ u. g u ∷ []) (group b a)))
     unfolding group
     all_left s =
         let t = owes_at b a in
         let x =
-        leaving-all (group b a) (sieve_each t b.units.count)
+        leaving_all (group b a) (sieve_each t b.units.count)
         (record {
           since = s;
           fixed = fixed_refl b;

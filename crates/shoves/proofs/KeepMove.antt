@@ -207,10 +207,10 @@ module _
         then_same : role_then freed (c.units.state.role u) ≡ role_then freed (b.units.state.role u)
         then_same = either freed (λ z. simp z) (λ z. simp z (o.held u m e f z))
 
-  going-destroyed :
+  going_destroyed :
       {us : List ℕ} {c : Board} (u : ℕ) → u < b.units.count → t u ≡ true → k u ≡ true → Going a b x t k freed (u ∷ us) c
       → Going a b x t k freed us (change c (destroyed u))
-  going-destroyed {us} {c} u m e f o =
+  going_destroyed {us} {c} u m e f o =
       let n : u < c.units.count = omega (arith, o.fixed.count) in
       let off : (w : ℕ) → (w ≡ u → ⊥) → Same c.units (change c (destroyed u)).units w = destroyed_else c u in
       let y = destroyed_here c u n in
@@ -232,14 +232,14 @@ module _
             (λ z. let r = o.lost w l q i (named_past u us w (λ r. z (sym r)) ∙ j) in ((off w z).hex ∙ r.0, (off w z).role ∙ r.1));
       }
 
-  going-one :
+  going_one :
       {us : List ℕ} {c : Board} (g : ℕ → List Change) → Goes x k freed g → (u : ℕ) → u < b.units.count → t u ≡ true
       → Going a b x t k freed (u ∷ us) c → Going a b x t k freed us (changes c (g u))
   unfolding changes
-  going-one {us} {c} g y u m e o =
+  going_one {us} {c} g y u m e o =
       rw (y.is u)
       (either (k u)
-      (λ f. simp f (going-destroyed u m e f o))
+      (λ f. simp f (going_destroyed u m e f o))
       (λ f.
       simp f
       (either freed
@@ -259,13 +259,13 @@ module _
   unfolding gather changes
   all_go g y [] m o = o
   all_go g y (u ∷ us) {c} m o =
-      rw (changes_then (g u) (gather g us) c) (all_go g y us m.1 (going-one g y u m.0.0 m.0.1 o))
+      rw (changes_then (g u) (gather g us) c) (all_go g y us m.1 (going_one g y u m.0.0 m.0.1 o))
 
   -- all that pass are in the list
-  pub all-gone :
+  pub all_gone :
       (g : ℕ → List Change) → Goes x k freed g → (us : List ℕ) → Each (λ u. (u < b.units.count) × (t u ≡ true)) us
       → ((w : ℕ) → w < b.units.count → t w ≡ true → named us w ≡ true) → Going a b x t k freed [] (changes b (gather g us))
-  all-gone g y us m all =
+  all_gone g y us m all =
       all_go g y us m
       (record {
         since = s;

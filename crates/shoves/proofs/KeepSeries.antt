@@ -19,7 +19,7 @@ use Rattle.chains.specs.Stand.{stand}
 use Rattle.chains.specs.Chain.{Stands, Chain, most, after}
 use Rattle.chains.specs.Series.{Land, Series, stay, walk, shove}
 use Rattle.shoves.specs.Shoves.{clears, group_to, marches}
-use Rattle.shoves.proofs.KeepChain.{Pushes, bears_stands, chain-clears, chain-other, clears_vacant, real_hex}
+use Rattle.shoves.proofs.KeepChain.{Pushes, bears_stands, chain_clears, chain_other, clears_vacant, real_hex}
 use Rattle.shoves.proofs.KeepEnds.{Left, all_freed}
 use Rattle.shoves.proofs.KeepStep.{OwnGroup, Stepped, stepped}
 use Rattle.shoves.proofs.Standing.{free_is, free_vacant}
@@ -78,7 +78,7 @@ unfolding after
 emptied s x y n = simp (ne_eqb x y n, eq-eqb x x refl)
 
 -- the changes of a step, one part after another
-pub march-on :
+pub march_on :
     (b : Board) (a x : ℕ) (route ps : List ℕ)
     → changes b (marches b a (x ∷ route) ps)
     ≡ (let r = clears b x ps in
@@ -86,39 +86,39 @@ pub march-on :
     let d = changes c (group_to c a x) in
     changes d (marches d x route r.left))
 unfolding marches
-march-on b a x route ps =
+march_on b a x route ps =
     let r = clears b x ps in
     let c = changes b r.done in
     let xs = group_to c a x in
     changes_then r.done (xs ++ marches (changes c xs) x route r.left) b
     ∙ changes_then xs (marches (changes c xs) x route r.left) c
 
-pub series-left :
+pub series_left :
     {o b : Board} {g : Land} {s : Stands} {i a : ℕ} {route pushes : List ℕ} (f : ℕ) → o.map.hexes ≤ nowhere → Since o b
     → (a ≡ nowhere → ⊥) → OwnGroup b f a → g.far a ≡ i → Series g s i a route pushes → stand b f a ≡ s
     → Left o b a (changes b (marches b a route pushes))
 unfolding marches changes
-series-left {a = a} f small k real mine z stay e = all_freed small a k
-series-left {o} {b} {g} {s} {i} {a} f small k real mine z (walk {x = x} {route = route} {pushes = ps} d t y n) e =
+series_left {a = a} f small k real mine z stay e = all_freed small a k
+series_left {o} {b} {g} {s} {i} {a} f small k real mine z (walk {x = x} {route = route} {pushes = ps} d t y n) e =
     let here : stand b f a x ≡ Free = ap (λ (q : Stands). q x) e ∙ y in
     let free = free_is b f a x here in
     let v = free_vacant b f a x (λ q. omega (arith, t.away, z, ap g.far q)) free in
     let c = stepped k small f a x real mine v free.bear in
-    rw (march-on b a x route ps, clears_vacant b x v ps)
+    rw (march_on b a x route ps, clears_vacant b x v ps)
     (after_step_lem c
-    (series-left f small c.since (real_hex k small f a x (bears_stands b f x free.bear)) c.own t.away n (c.stands ∙ e)))
-series-left {o} {b} {g} {s} {i} {a} f small k real mine z (shove {x = x} {y = y} {route = route} {chain = zs} {pushes = ps} d t l h n) e =
+    (series_left f small c.since (real_hex k small f a x (bears_stands b f x free.bear)) c.own t.away n (c.stands ∙ e)))
+series_left {o} {b} {g} {s} {i} {a} f small k real mine z (shove {x = x} {y = y} {route = route} {chain = zs} {pushes = ps} d t l h n) e =
     let here : stand b f a x ≡ Loose = ap (λ (q : Stands). q x) e ∙ l in
     let off : x ≡ a → ⊥ = λ q. omega (arith, t.away, z, ap g.far q) in
     let r = clears b x (zs ++ ps) in
     let h' = subst (λ (p : Stands). Chain g.next p (a ∷ []) most x zs y) (sym e) h in
-    let q = chain-clears k small f a h' (named_here a [] a refl) off here ps in
+    let q = chain_clears k small f a h' (named_here a [] a refl) off here ps in
     let u = q.shifted.pushes in
     let b' = changes b r.done in
-    let free : stand b' f a x ≡ Free = ap (λ (p : Stands). p x) q.shifted.stands ∙ emptied (stand b f a) x y (chain-other h' here) in
+    let free : stand b' f a x ≡ Free = ap (λ (p : Stands). p x) q.shifted.stands ∙ emptied (stand b f a) x y (chain_other h' here) in
     let c = stepped u.since small f a x real (pushes_own a u mine) q.shifted.empty (free_is b' f a x free).bear in
-    rw (march-on b a x route (zs ++ ps), q.left_over)
+    rw (march_on b a x route (zs ++ ps), q.left_over)
     (after_pushes u
     (after_step_lem c
-    (series-left f small c.since (real_hex u.since small f a x (bears_stands b' f x (free_is b' f a x free).bear)) c.own t.away n
+    (series_left f small c.since (real_hex u.since small f a x (bears_stands b' f x (free_is b' f a x free).bear)) c.own t.away n
     (c.stands ∙ q.shifted.stands ∙ ap (λ (p : Stands). after p x y) e))))

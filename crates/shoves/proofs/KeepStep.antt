@@ -24,10 +24,10 @@ use Rattle.routes.specs.Bears.{bears}
 use Rattle.chains.specs.Stand.{apart, stand}
 use Rattle.shoves.specs.Group.{group}
 use Rattle.shoves.specs.Shoves.{goes_to, group_to}
-use Rattle.shoves.proofs.KeepZone.{bears-same}
-use Rattle.shoves.proofs.KeepMove.{Going, Goes, all-gone, vacant_none}
+use Rattle.shoves.proofs.KeepZone.{bears_same}
+use Rattle.shoves.proofs.KeepMove.{Going, Goes, all_gone, vacant_none}
 use Rattle.shoves.proofs.KeepChain.{bears_stands, real_hex}
-use Rattle.shoves.proofs.Standing.{apart_else, apart_off, apart_owes, stand-same, stand_shut}
+use Rattle.shoves.proofs.Standing.{apart_else, apart_off, apart_owes, stand_same, stand_shut}
 
 -- all that owe in hex a are of force f
 abbrev pub OwnGroup : Board → ℕ → ℕ → Type 0
@@ -71,7 +71,7 @@ module _
   unfolding group_to group
   going =
       let t = owes_at b a in
-      all-gone s most a x t supply false (λ w l e. owes_hex b w a e) real (bears_stands b f x q) v (goes_to b x) goes (group b a)
+      all_gone s most a x t supply false (λ w l e. owes_hex b w a e) real (bears_stands b f x q) v (goes_to b x) goes (group b a)
       (sieve_each t b.units.count)
       (sieve_names t b.units.count)
 
@@ -97,7 +97,7 @@ module _
   hexes w l n = either (owes_at b a w) (λ e. absurd (n (mine w l e))) (λ e. (going.kept w e).hex)
 
   bear : (y : ℕ) → bears moved f y ≡ bears b f y
-  bear = bears-same f going.fixed hexes
+  bear = bears_same f going.fixed hexes
 
   apart_at : (y w : ℕ) → w < b.units.count → (y ≡ nowhere → ⊥) → apart moved x y w ≡ apart b a y w
   apart_at y w l n =
@@ -116,7 +116,7 @@ module _
   stood y =
       either (bears b f y)
       (λ e.
-      stand-same f a x y going.fixed (bear y) (λ w l. apart_at y w l (real_hex s most f a y (bears_stands b f y e)))
+      stand_same f a x y going.fixed (bear y) (λ w l. apart_at y w l (real_hex s most f a y (bears_stands b f y e)))
       (λ w l i.
       either (owes_at b a w)
       (λ z. not_both (apart b a y w) i (apart_owes b a y w z))

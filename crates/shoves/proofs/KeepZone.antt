@@ -74,11 +74,11 @@ module _ {f : ℕ} {s t : Scene} (k : Beyond f s t) where
       (λ e. simp (k.foe g, e)))
 
 -- a hex bears as before once units of force f have moved
-pub bears-same :
+pub bears_same :
     {b c : Board} (f : ℕ) → Fixed b c → ((w : ℕ) → w < b.units.count → (force_of b w ≡ f → ⊥) → c.units.state.hex w ≡ b.units.state.hex w)
     → (h : ℕ) → bears c f h ≡ bears b f h
 unfolding bears enemy
-bears-same {b} {c} f x o h =
+bears_same {b} {c} f x o h =
     ap₂ (λ (p q : Bool). p && not q) (standable_by x h)
     (zone_same
     (record {

@@ -17,12 +17,12 @@ use Rattle.shoves.specs.Shoves.{clears, frees, group_to, marches}
 use Rattle.shoves.proofs.Clearing.{Clear, drop_next}
 
 -- a step: hex x is cleared, the group goes there from hex a, and the march goes on from hex x
-march-step :
+march_step :
     {p q r : List ℕ} → Shaped p → Shaped q → (a x : ℕ) (route ps : List ℕ) → q ≡ makes p (clears (board p) x ps).done
     → r ≡ makes q (group_to (board q) a x)
     → makes p (marches (board p) a (x ∷ route) ps) ≡ makes r (marches (board r) x route (clears (board p) x ps).left)
 unfolding marches
-march-step {p} {q} {r} s t a x route ps e f =
+march_step {p} {q} {r} s t a x route ps e f =
     let b = board p in
     let xs = (clears b x ps).done in
     let c = changes b xs in
@@ -50,10 +50,10 @@ module _ {p₀ : List ℕ} {v : View} {h : ℕ} {route pushes : List ℕ} where
 
   module _ {p : List ℕ} {a k i : ℕ} (o : March p₀ v h route pushes p a k i) where
     -- one step more
-    pub march-more :
+    pub march_more :
         i < length route → {n : ℕ} {q r : List ℕ} → Clear p (get_or route i 0) pushes k n q
         → r ≡ makes q (group_to (board q) a (get_or route i 0)) → March p₀ v h route pushes r (get_or route i 0) n (i + 1)
-    march-more l {n} {q} {r} c f =
+    march_more l {n} {q} {r} c f =
         let x = get_or route i 0 in
         let y = laid_makes _ o.laid c.2 in
         record {
@@ -63,14 +63,14 @@ module _ {p₀ : List ℕ} {v : View} {h : ℕ} {route pushes : List ℕ} where
           ahead =
               o.ahead
               ∙ ap (λ (xs : List ℕ). makes p (marches (board p) a xs (drop k pushes))) (drop_next route i l)
-              ∙ march-step o.laid.shaped y.shaped a x (drop (i + 1) route) (drop k pushes) c.2 f
+              ∙ march_step o.laid.shaped y.shaped a x (drop (i + 1) route) (drop k pushes) c.2 f
               ∙ ap (λ (xs : List ℕ). makes r (marches (board r) x (drop (i + 1) route) xs)) (sym c.1);
         }
 
     -- no step is left
-    pub march-all :
+    pub march_all :
         length route ≤ i → {q : List ℕ} → q ≡ makes p (gather frees (group (board p) a))
         → q ≡ makes p₀ (marches (board p₀) h route pushes)
     unfolding marches
-    march-all l f =
+    march_all l f =
         f ∙ sym (o.ahead ∙ ap (λ (xs : List ℕ). makes p (marches (board p) a xs (drop k pushes))) (drop_of_length-le route {i = i} l))

@@ -39,17 +39,17 @@ use Rattle.shoves.specs.Played.{
   once_cleared,
   once_entered,
 }
-use Rattle.shoves.proofs.KeepChain.{chain-clears, chain-other}
+use Rattle.shoves.proofs.KeepChain.{chain_clears, chain_other}
 use Rattle.shoves.proofs.KeepSeries.{emptied, pushes_owes}
 use Rattle.shoves.proofs.KeepStep.{OwnGroup, stepped, went}
 use Rattle.shoves.proofs.PlayedChain.{
   can_loose,
-  chain-played,
+  chain_played,
   free_refuge,
   held_by,
   held_more,
   loose_can,
-  played-chain,
+  played_chain,
   refuge_free,
   refuge_parts,
 }
@@ -110,15 +110,15 @@ module _ {o b : Board} {f a u : ℕ} (small : o.map.hexes ≤ nowhere) (k : Sinc
       }
 
 -- or into one that a chain has cleared
-shoved-in :
+shoved_in :
     {o b : Board} {f a u : ℕ} → o.map.hexes ≤ nowhere → Since o b → Retreats b f a u → (x y : ℕ) (zs ps : List ℕ) → (x ≡ a → ⊥)
     → stand b f a x ≡ Loose → Chain (next b.map) (stand b f a) (a ∷ []) most x zs y
     → Come o f x u (after (stand b f a) x y) (once_entered (once_cleared b x (zs ++ ps)) a x)
-shoved-in {o} {b} {f} {a} {u} small k r x y zs ps n e h =
-    let q = chain-clears k small f a h (named_here a [] a refl) n e ps in
+shoved_in {o} {b} {f} {a} {u} small k r x y zs ps n e h =
+    let q = chain_clears k small f a h (named_here a [] a refl) n e ps in
     let p = q.shifted.pushes in
     let c = once_cleared b x (zs ++ ps) in
-    let free : stand c f a x ≡ Free = ap (λ (s : Stands). s x) q.shifted.stands ∙ emptied (stand b f a) x y (chain-other h e) in
+    let free : stand c f a x ≡ Free = ap (λ (s : Stands). s x) q.shifted.stands ∙ emptied (stand b f a) x y (chain_other h e) in
     let r' = retreats_by p.fixed r (pushes_owes p a u r.counted ∙ r.owes) in
     let i = stepped_in small p.since r' x (free_refuge c f a x n free) in
     record { since = i.since; retreats = i.retreats; stands = i.stands ∙ q.shifted.stands }
@@ -134,50 +134,50 @@ module _ {o : Board} (small : o.map.hexes ≤ nowhere) (f start u : ℕ) where
   ways k = ap next (sym k.fixed.map)
 
   -- step by step, from the overlay to the board and back
-  series-played :
+  series_played :
       {b : Board} {s : Stands} {i a : ℕ} {route pushes : List ℕ} → Since o b → Retreats b f a u → (land_of o start).far a ≡ i
       → Series (land_of o start) s i a route pushes → stand b f a ≡ s → Played f start b i a route pushes
-  series-played k r z stay e = halts
-  series-played {b} {s} {i} {a} k r z (walk {x = x} d t y n) e =
+  series_played k r z stay e = halts
+  series_played {b} {s} {i} {a} k r z (walk {x = x} d t y n) e =
       let v = free_refuge b f a x (not_back t z) (ap (λ (q : Stands). q x) e ∙ y) in
       let c = stepped_in small k r x v in
       enters d (subst (λ (g : Land). Onto g (suc i) a d x) (sym (land_same k start)) t) v
-      (series-played c.since c.retreats t.away n (c.stands ∙ e))
-  series-played {b} {s} {i} {a} k r z (shove {x = x} {y = y} {chain = zs} {pushes = ps} d t l h n) e =
+      (series_played c.since c.retreats t.away n (c.stands ∙ e))
+  series_played {b} {s} {i} {a} k r z (shove {x = x} {y = y} {chain = zs} {pushes = ps} d t l h n) e =
       let here : stand b f a x ≡ Loose = ap (λ (q : Stands). q x) e ∙ l in
       let h₁ = subst (λ (p : Stands). Chain (land_of o start).next p (a ∷ []) most x zs y) (sym e) h in
       let h₂ = subst (λ (p : Ways). Chain p (stand b f a) (a ∷ []) most x zs y) (ways k) h₁ in
       let can = loose_can b f a x (not_back t z) here in
-      let c = shoved-in small k r x y zs ps (not_back t z) here h₂ in
+      let c = shoved_in small k r x y zs ps (not_back t z) here h₂ in
       let held = held_more b a [] (λ w q. not_both (named [] w) q (named_nil w)) (own_held k.units r) in
       clears_in d (subst (λ (g : Land). Onto g (suc i) a d x) (sym (land_same k start)) t) can
-      (chain-played b f a h₂ (named_here a [] a refl) held (held_by b x can.unit can.counted can.there))
-      (series-played c.since c.retreats t.away n (c.stands ∙ ap (λ (p : Stands). after p x y) e))
+      (chain_played b f a h₂ (named_here a [] a refl) held (held_by b x can.unit can.counted can.there))
+      (series_played c.since c.retreats t.away n (c.stands ∙ ap (λ (p : Stands). after p x y) e))
 
-  played-series :
+  played_series :
       {b : Board} {i a : ℕ} {route pushes : List ℕ} → Since o b → Retreats b f a u → (land_of o start).far a ≡ i
       → Played f start b i a route pushes → Series (land_of o start) (stand b f a) i a route pushes
-  played-series k r z halts = stay
-  played-series {b} {i} {a} k r z (enters {x = x} {route = route} {pushes = ps} d t v n) =
+  played_series k r z halts = stay
+  played_series {b} {i} {a} k r z (enters {x = x} {route = route} {pushes = ps} d t v n) =
       let t' = subst (λ (g : Land). Onto g (suc i) a d x) (land_same k start) t in
       let c = stepped_in small k r x v in
       walk d t' (refuge_free b f a x v)
       (subst (λ (s : Stands). Series (land_of o start) s (suc i) x route ps) c.stands
-      (played-series c.since c.retreats t'.away n))
-  played-series {b} {i} {a} k r z (clears_in {x = x} {y = y} {route = route} {zs = zs} {pushes = ps} d t can h n) =
+      (played_series c.since c.retreats t'.away n))
+  played_series {b} {i} {a} k r z (clears_in {x = x} {y = y} {route = route} {zs = zs} {pushes = ps} d t can h n) =
       let t' = subst (λ (g : Land). Onto g (suc i) a d x) (land_same k start) t in
       let here = can_loose b f a x (not_back t' z) can in
-      let h' = played-chain b f a h (named_here a [] a refl) in
-      let c = shoved-in small k r x y zs ps (not_back t' z) here h' in
+      let h' = played_chain b f a h (named_here a [] a refl) in
+      let c = shoved_in small k r x y zs ps (not_back t' z) here h' in
       shove d t' here (subst (λ (p : Ways). Chain p (stand b f a) (a ∷ []) most x zs y) (sym (ways k)) h')
       (subst (λ (s : Stands). Series (land_of o start) s (suc i) x route ps) c.stands
-      (played-series c.since c.retreats t'.away n))
+      (played_series c.since c.retreats t'.away n))
 
 -- both directions, from the first board on
 pub played_right : PlayedRight
 played_right b units routes small f start i a u r z route pushes =
     let k : Since b b = record { fixed = fixed_refl b; clock = refl; units = units; routes = routes } in
-    (λ s. series-played small f start u k r z s refl, λ p. played-series small f start u k r z p)
+    (λ s. series_played small f start u k r z s refl, λ p. played_series small f start u k r z p)
 
 -- and from the start of a retreat
 pub legal_played_right : LegalPlayedRight

@@ -151,27 +151,27 @@ module _ (b : Board) (f a : ℕ) where
         (any_false places 6 d m l)
 
   -- a chain over the stands is one on the board, and the other way round
-  pub chain-played :
+  pub chain_played :
       {used zs : List ℕ} {left h last : ℕ} → Chain (next b.map) (stand b f a) used left h zs last → named used a ≡ true → AllHeld b used
       → vacant (scene b) h ≡ false → ChainOn b f used left h zs last
-  chain-played (rest {used} {left} {h} {z} d l e r) u k v =
+  chain_played (rest {used} {left} {h} {z} d l e r) u k v =
       let i = rests_free (stand b f a) (h ∷ used) z r in
       settles d l e (free_refuge b f a z (off (h ∷ used) z (named_more h used a u) i.1) i.0) i.1
-  chain-played (push {used} {left} {h} {z} {last} {zs} d l e m r c) u k v =
+  chain_played (push {used} {left} {h} {z} {last} {zs} d l e m r c) u k v =
       let i = yields_loose (stand b f a) (h ∷ used) z r in
       let u' = named_more h used a u in
       let k' = held_more b h used k v in
       let can = loose_can b f a z (off (h ∷ used) z u' i.1) i.0 in
       displaces d l e (rests_none (h ∷ used) h k' m) can i.1
-      (chain-played c u' k' (held_by b z can.unit can.counted can.there))
+      (chain_played c u' k' (held_by b z can.unit can.counted can.there))
 
-  pub played-chain :
+  pub played_chain :
       {used zs : List ℕ} {left h last : ℕ} → ChainOn b f used left h zs last → named used a ≡ true
       → Chain (next b.map) (stand b f a) used left h zs last
-  played-chain (settles {used} {left} {h} {z} d l e r n) u =
+  played_chain (settles {used} {left} {h} {z} d l e r n) u =
       rest d l e (free_rests (stand b f a) (h ∷ used) z n (refuge_free b f a z r))
-  played-chain (displaces {used} {left} {h} {z} {last} {zs} d l e m c n k) u =
+  played_chain (displaces {used} {left} {h} {z} {last} {zs} d l e m c n k) u =
       let u' = named_more h used a u in
       push d l e (none_rests (h ∷ used) h u' m)
       (loose_yields (stand b f a) (h ∷ used) z n (can_loose b f a z (off (h ∷ used) z u' n) c))
-      (played-chain k u')
+      (played_chain k u')

@@ -74,10 +74,10 @@ module _ (b : Board) (a h w : ℕ) where
   apart_stands e = eqb-true (b.units.state.hex w) h (both_yes (eqb (b.units.state.hex w) h) (not (owes_at b a w)) e).0
 
 -- a unit that stands where it stood, with the role that it had
-pub apart-same :
+pub apart_same :
     (b c : Board) (a h w : ℕ) → c.units.state.hex w ≡ b.units.state.hex w → c.units.state.role w ≡ b.units.state.role w → apart c a h w ≡ apart b a h w
 unfolding apart owes_at stands_on
-apart-same b c a h w e r = simp (e, r)
+apart_same b c a h w e r = simp (e, r)
 
 -- a hex that holds a stack which can be pushed
 pub record IsLoose (b : Board) (f a h : ℕ) : Type 0 where
@@ -178,13 +178,13 @@ pub not_shut : (b : Board) (f a h : ℕ) → (stand b f a h ≡ Shut → ⊥) �
 not_shut b f a h n = either (bears b f h) (λ e. e) (λ e. absurd (n (stand_shut b f a h e)))
 
 -- two boards on which a hex is the same to two groups
-pub stand-same :
+pub stand_same :
     {b c : Board} (f a e h : ℕ) → Fixed b c → bears c f h ≡ bears b f h
     → ((w : ℕ) → w < b.units.count → apart c e h w ≡ apart b a h w)
     → ((w : ℕ) → w < b.units.count → apart b a h w ≡ true → c.units.state.role w ≡ b.units.state.role w)
     → stand c f e h ≡ stand b f a h
 unfolding stand bars
-stand-same {b} {c} f a e h x q s r =
+stand_same {b} {c} f a e h x q s r =
     let n = b.units.count in
     let i =
     ap (any (apart c e h)) x.count ∙ any_same (apart c e h) (apart b a h) n s

@@ -97,10 +97,10 @@ module _ {t : Board → ℕ → Bool} {g : ℕ → List Change} {p : List ℕ} {
         (λ e. miss e (simp (z ∙ e) at f))
 
   -- at its end
-  pub sweep-all :
+  pub sweep_all :
       {u : ℕ} {q : List ℕ} → Sweep t g p v u q → v.count ≤ u → v.count ≡ (board p).units.count
       → q ≡ makes p (gather g (sieve (t (board p)) (board p).units.count))
-  sweep-all {u} o l e =
+  sweep_all {u} o l e =
       let z : u ≡ (board p).units.count = omega (arith, o.most) in
       o.made ∙ ap (λ (n : ℕ). makes p (gather g (sieve (t (board p)) n))) z
 

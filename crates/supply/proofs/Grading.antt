@@ -115,11 +115,11 @@ module _ (s : Scene) (h : ℕ) where
     landing_supply q u = simp (e, q, u)
 
 -- the region of the whole map shows each hex at its own number
-pub map-shows :
+pub map_shows :
     {s : Scene} {f : ℕ} {at : Region} {l : List ℕ} → Whole s.map.width s.map.height at
     → ((h : ℕ) → h < s.map.hexes → On s.map.width s.map.height h) → length l ≡ s.map.hexes → Shows s f at l → MapShows s f l
 unfolding mark
-map-shows {s} {f} {at} {l} whole on long k =
+map_shows {s} {f} {at} {l} whole on long k =
     record {
       long = long;
       each = λ h e.

@@ -76,12 +76,12 @@ placed {w} {h} {at} {x} {i} k e =
     (omega (arith, c, k.left), omega (arith, r, k.top))
 
 -- so a place whose column and row lie on the map has the hex there
-pub hex-there :
+pub hex_there :
     {w h : ℕ} {at : Region} {i : ℕ} → On w h 0 → i < places_of at → 8 ≤ i % at.wide + at.left → i % at.wide + at.left < w + 8
     → 8 ≤ i / at.wide + at.top → i / at.wide + at.top < h + 8
     → HexOf w h at i (At ((i / at.wide + at.top - 8) * w + (i % at.wide + at.left - 8)))
 unfolding place_of
-hex-there {w} {h} {at} {i} o l a b c d =
+hex_there {w} {h} {at} {i} o l a b c d =
     let n = at.wide in
     let q = i % n + at.left - 8 in
     let r = i / n + at.top - 8 in
@@ -222,10 +222,10 @@ module _ {w h : ℕ} {at : Region} (even : at.left % 2 ≡ 0) where
       (gap_same (a % n) (b % n) (x % w) (z % w) at.left 8 (over i) (over j))
       (gap_same (depth (a % n) (a / n)) (depth (b % n) (b / n)) (depth (x % w) (x / w)) (depth (z % w) (z / w)) (2 * at.top) 16 (deep i) (deep j))
 
-  as-steps :
+  as_steps :
       RegionOk at → (x d z : ℕ) → Inside w h at x → Inside w h at z → neighbour_of w h x d ≡ At z
       → neighbour_of at.wide at.high (place_of w at x) d ≡ At (place_of w at z)
-  as-steps k x d z i j e =
+  as_steps k x d z i j e =
       let a = place_of w at x in
       let b = place_of w at z in
       let n = at.wide in
@@ -246,7 +246,7 @@ module _ {w h : ℕ} {at : Region} (even : at.left % 2 ≡ 0) where
       ∙ ap At (number n b)
 
   pub alike : RegionOk at → Alike w h at
-  alike k = record { steps = as-steps k; far = λ x z i j. as_far i j }
+  alike k = record { steps = as_steps k; far = λ x z i j. as_far i j }
 
 -- hexes more than a row or a column outside the region, and numbers that are no hex, are away from it
 module _ {w h : ℕ} {at : Region} (x : ℕ) where

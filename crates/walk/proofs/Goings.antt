@@ -19,14 +19,14 @@ use Rattle.walk.specs.Trail.Step.{down, back}
 use Rattle.walk.proofs.Steps.{at_at, TwoWay}
 
 -- home, in direction d, which is k
-pub goes-home :
+pub goes_home :
     (w h a d k c : ℕ) (b : Nearby) (r : Going)
     → d ≡ k
     → NearOf w h a k b
     → r ≡ arriving b c
     → c ≡ after_home k
     → HomeOf w h a d r
-goes-home w h a d k c b r e n q z = subst (λ (d : ℕ). HomeOf w h a d r) (sym e) (subst (HomeOf w h a k) (sym q) (go b n))
+goes_home w h a d k c b r e n q z = subst (λ (d : ℕ). HomeOf w h a d r) (sym e) (subst (HomeOf w h a k) (sym q) (go b n))
   where
     go : (b : Nearby) → NearOf w h a k b → HomeOf w h a k (arriving b c)
     go (N.At t) n = (n.0, n.1, z)
@@ -37,9 +37,9 @@ module _
     (l : List ℕ) (a c d : ℕ) (o : First next (mark l) 1 a c 0 d) (out : List ℕ)
   where
     -- a step that finds no hex to enter leaves
-    pub steps-home :
+    pub steps_home :
         (r : Going) → 6 ≤ d → HomeOf w h a (mark l a / 8 - 1) r → out ≡ set l a (mark l a + 7) → StepOf w h next home l a c out r
-    steps-home r p y e = go r y
+    steps_home r p y e = go r y
       where
         none : First next (mark l) 1 a c 0 6
         none = subst (First next (mark l) 1 a c 0) (omega (arith, o.most)) o

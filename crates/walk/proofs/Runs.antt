@@ -22,7 +22,7 @@ use Rattle.walk.proofs.Marks.{le_or, mark_set, mark_in_lem, weigh, weigh_less}
 use Rattle.position.proofs.Sides.{off_at}
 use Rattle.walk.proofs.Steps.{TwoWay}
 use Rattle.walk.proofs.Joins.{swept_grades, swept_kept, swept_on, swept_back}
-use Rattle.walk.proofs.Trails.{all-shut, faith_upd, Way, way_start, way_down, way_back, way_over, complete}
+use Rattle.walk.proofs.Trails.{all_shut, faith_upd, Way, way_start, way_down, way_back, way_over, complete}
 
 -- what is left to do at a hex, by its mark: to enter it, and to leave it
 unfoldable pub work : ℕ → ℕ
@@ -95,13 +95,13 @@ module _ {next home : ℕ → ℕ → Beside} (g : TwoWay next home) (l : List �
       under_six b d e = le_or 6 d (λ q. off_at (g.six a d q) e) (λ q. q)
   step_way {out} {b} (back p h z e) =
       subst (Way next home (mark out) b) (sym z)
-      (way_back next home y (mark_set l a (mark l a + 7) e way_in) (all-shut g y.below p) b h)
+      (way_back next home y (mark_set l a (mark l a + 7) e way_in) (all_shut g y.below p) b h)
 
   pub last_kept : {out : List ℕ} → Last next home l a c out → Kept next l out
   last_kept s = left_kept s.left
 
   pub last_rest : {out : List ℕ} → Last next home l a c out → Rest next (mark out)
-  last_rest s = way_over next home y (mark_set l a (mark l a + 7) s.left way_in) (all-shut g y.below s.none) s.nowhere
+  last_rest s = way_over next home y (mark_set l a (mark l a + 7) s.left way_in) (all_shut g y.below s.none) s.nowhere
 
   pub step_falls : {out : List ℕ} {b e : ℕ} → Step next home l a c out b e → weigh work out < weigh work l
   step_falls {b = b} (down d p w z e) =
@@ -167,14 +167,14 @@ module _ {next : ℕ → ℕ → Beside} where
         none = λ k p q e. let z : k ≡ a = omega arith in absurd (omega (arith, ap (mark out) z, f.start));
       }
 
-  pub sown-on :
+  pub sown_on :
       {l buf out : List ℕ} {a b b' c c' : ℕ}
       → b' ≤ b
       → c ≤ c'
       → Sown next l a b buf
       → Sown next buf b' c' out
       → Sown next l a c out
-  sown-on {b = b} p q s t =
+  sown_on {b = b} p q s t =
       record {
         kept = kept_trans s.kept t.kept;
         rest = t.rest;
@@ -219,14 +219,14 @@ pub record Settling (l : List ℕ) (i : ℕ) (out : List ℕ) : Type 0 where
 pub settle_none : (l : List ℕ) → Settling l 0 l
 settle_none l = record { same = refl; done = λ k p. absurd (omega arith); left = λ k p. refl; most = omega arith }
 
-pub settle-turn :
+pub settle_turn :
     {l out out' : List ℕ} {i : ℕ} (v : ℕ)
     → out' ≡ set out i v
     → i < length out
     → Settling l i out
     → Done (mark out i) v
     → Settling l (i + 1) out'
-settle-turn {l} {out} {out'} {i} v e p s d =
+settle_turn {l} {out} {out'} {i} v e p s d =
     let u = mark_set out i v e p in
     let z : length out' ≡ length out = ap length e ∙ length-set out i v in
     record {

@@ -28,13 +28,13 @@ abbrev pub Below : (ℕ → ℕ → Beside) → (ℕ → ℕ) → ℕ → ℕ �
 Below next f a c = (d : ℕ) → d < c → Shut next f 1 a d
 
 -- with those below c and with those from c on it is done with all of them
-pub all-shut :
+pub all_shut :
     {next home : ℕ → ℕ → Beside} {f : ℕ → ℕ} {m a c : ℕ}
     → TwoWay next home
     → ((d : ℕ) → d < c → Shut next f m a d)
     → First next f m a c 0 6
     → (d : ℕ) → Shut next f m a d
-all-shut {a = a} {c = c} g y o d =
+all_shut {a = a} {c = c} g y o d =
     le_or (d + 1) c
     (λ p. y d (omega arith))
     (λ p. le_or 6 d (λ q n e. off_at (g.six a d q) e) (λ q. o.past d (omega arith) (omega arith) q))
@@ -91,19 +91,19 @@ module _ (next home : ℕ → ℕ → Beside) where
     pub trail : Trail f a homeward
     pub under : (k : ℕ) → 8 ≤ f k → f k % 8 < 7 → Mem k (a ∷ homeward)
 
-  trail-kept :
+  trail_kept :
       {f f' : ℕ → ℕ} {a : ℕ} {s : List ℕ}
       → Trail f a s
       → f' a / 8 ≡ f a / 8
       → ((k : ℕ) → Mem k s → f' k ≡ f k)
       → ((k d : ℕ) → Shut next f 1 k d → Shut next f' 1 k d)
       → Trail f' a s
-  trail-kept (first {a = a} e) q m t = first (ap (λ (n : ℕ). home a (n - 1)) q ∙ e)
-  trail-kept {f' = f'} (from {a = a} {b = b} e n p o w r) q m t =
+  trail_kept (first {a = a} e) q m t = first (ap (λ (n : ℕ). home a (n - 1)) q ∙ e)
+  trail_kept {f' = f'} (from {a = a} {b = b} e n p o w r) q m t =
       let z = m b (here refl) in
       from (ap (λ (n : ℕ). home a (n - 1)) q ∙ e) n (omega arith) (omega arith)
       (subst (λ (n : ℕ). Below next f' b (after_home (n - 1))) (sym q) (λ d l. t b d (w d l)))
-      (trail-kept r (ap (λ (n : ℕ). n / 8) z) (λ k x. m k (there x)) t)
+      (trail_kept r (ap (λ (n : ℕ). n / 8) z) (λ k x. m k (there x)) t)
 
   trail_in : {f : ℕ → ℕ} {a : ℕ} {s : List ℕ} → Trail f a s → (k : ℕ) → Mem k s → 8 ≤ f k
   trail_in {f} (from e n p o w r) k (here q) = subst (λ (x : ℕ). 8 ≤ f x) (sym q) p
@@ -151,7 +151,7 @@ module _ (next home : ℕ → ℕ → Beside) where
               still = omega arith;
               below = λ d p. shut_upd next u big b' d (w d p);
               homeward = s;
-              trail = trail-kept r (ap (λ (n : ℕ). n / 8) z) (λ k m. keep k (there m)) (shut_upd next u big);
+              trail = trail_kept r (ap (λ (n : ℕ). n / 8) z) (λ k m. keep k (there m)) (shut_upd next u big);
               under = un;
             })
 
@@ -196,7 +196,7 @@ module _ (next home : ℕ → ℕ → Beside) where
             (omega arith)
             (omega arith)
             done
-            (trail-kept y.trail (ap (λ (n : ℕ). n / 8) m) (λ k m. u.off k (t k m)) (shut_upd next u big));
+            (trail_kept y.trail (ap (λ (n : ℕ). n / 8) m) (λ k m. u.off k (t k m)) (shut_upd next u big));
         under = λ k q r. same_or k v here (λ n. let z = u.off k n in there (y.under k (omega arith) (omega arith)));
       }
     where

@@ -5,7 +5,7 @@ use borrow.Author.Rules.{rules}
 use borrow.Author.Tests.{not-false, not-true}
 use Rattle.position.specs.Board.{board}
 use Rattle.position.specs.Ground.{joined}
-use Rattle.aftermath.proofs.Advancing.{follow_apart, follow-beside}
+use Rattle.aftermath.proofs.Advancing.{follow_apart, follow_beside}
 use Rattle.advance.proofs.can_follow.Statement.{statement}
 use Rattle.advance.proofs.can_follow.Tie as tie
 
@@ -34,7 +34,7 @@ leads-to-requires : tie.Need-leads-to-requires
 leads-to-requires c κs = search rules
 
 returns-2 : tie.Need-returns-2
-returns-2 c = c.leads-to.ensures ∙ sym (follow-beside _ _ _ _ (beside c.before.before ∙ not-false _ c.before.if1.false))
+returns-2 c = c.leads-to.ensures ∙ sym (follow_beside _ _ _ _ (beside c.before.before ∙ not-false _ c.before.if1.false))
 
 pub can-follow-spec : {M : Type 1} → statement M
 can-follow-spec =

@@ -12,7 +12,7 @@ use Rattle.position.specs.Role as Role
 use Rattle.position.proofs.Changes.{laid_makes}
 use Rattle.ruling.proofs.Meets.{pass, ruled, stop}
 use Rattle.aftermath.proofs.Advancing.{closed_is}
-use Rattle.aftermath.proofs.Stages.{then-on}
+use Rattle.aftermath.proofs.Stages.{then_on_lem}
 use Rattle.aftermath.specs.Advance.{close_changes, close_rule}
 use Rattle.aftermath.specs.Stage.{reassigned}
 use Rattle.advance.proofs.close.Statement.{statement}
@@ -46,7 +46,7 @@ returns-2 c =
     let p = c.before.before.before.before.before.before.before.before.before.before.before.before.args.p.now in
     pass (ap not (eq-eqb (board p).desk.battle.stage Stage.advances (sym c.before.before.before.before.before.before.before.before.before.stage.ensures.is ∙ c.before.before.before.before.before.before.before.before.if1.false)))
     (ruled
-    (then-on c.before.before.before.before.before.before.before.before.before.before.before.before.requires.shaped (close_changes (board p)) (c.before.before.before.before.before.before.reassign.ensures ∙ ap (makes p) (closed_is (board p)))
+    (then_on_lem c.before.before.before.before.before.before.before.before.before.before.before.before.requires.shaped (close_changes (board p)) (c.before.before.before.before.before.before.reassign.ensures ∙ ap (makes p) (closed_is (board p)))
     c.before.before.pass_on.ensures))
 
 pub close_spec : {M : Type 1} → statement M

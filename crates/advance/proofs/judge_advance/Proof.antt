@@ -8,7 +8,7 @@ use borrow.Author.Tests.{eq-eqb, le-leb, lt-leb, ne_eqb}
 use lib.Dec.{leb}
 use Rattle.position.specs.Board.{board}
 use Rattle.position.specs.Stage as Stage
-use Rattle.ruling.proofs.Going.{tested-through}
+use Rattle.ruling.proofs.Going.{tested_through}
 use Rattle.ruling.proofs.Meets.{pass, stop}
 use Rattle.aftermath.specs.Advance.{advance_checks}
 use Rattle.advance.proofs.judge_advance.Statement.{statement}
@@ -60,7 +60,7 @@ returns-4 : tie.Need-returns-4
 unfolding advance_checks
 returns-4 c =
     let a = c.before.before.before.before.before.before.args in
-    tested-through
+    tested_through
     (λ l v r q m w.
     pass (there c.before.before.before)
     (pass (mapped c.before.before.before)

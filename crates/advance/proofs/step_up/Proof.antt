@@ -7,8 +7,8 @@ use Rattle.position.specs.Board.{board}
 use Rattle.position.specs.Change.Change.{assigned, placed}
 use Rattle.position.specs.Laid.{Laid}
 use Rattle.position.specs.Role as Role
-use Rattle.aftermath.proofs.Advancing.{both-made}
-use Rattle.aftermath.proofs.Stages.{then-on}
+use Rattle.aftermath.proofs.Advancing.{both_made}
+use Rattle.aftermath.proofs.Stages.{then_on_lem}
 use Rattle.aftermath.specs.Advance.{advance_changes}
 use Rattle.advance.proofs.step_up.Statement.{statement}
 use Rattle.advance.proofs.step_up.Tie as tie
@@ -37,8 +37,8 @@ same_length c = search rules
 returns : tie.Need-returns
 returns c =
     let a = c.before.before.before.before.before.before.before.before.before.before.before.before.before.args in
-    then-on c.before.before.before.before.before.before.before.before.before.before.before.before.before.requires.shaped (advance_changes (board a.p.now) a.u a.hex)
-    (both-made a.p.now a.u a.hex
+    then_on_lem c.before.before.before.before.before.before.before.before.before.before.before.before.before.requires.shaped (advance_changes (board a.p.now) a.u a.hex)
+    (both_made a.p.now a.u a.hex
     c.before.before.before.before.before.before.before.before.before.before.place.ensures
     c.before.before.before.before.before.before.assign.ensures)
     c.before.before.pass_on.ensures

@@ -13,7 +13,7 @@ use Rattle.position.proofs.Cells.{all_clear}
 use Rattle.ruling.specs.Verdict.{turned_all}
 use Rattle.line.specs.Line.{fighting_total, printed_total}
 use Rattle.battle.proofs.Asks.{all_adjacent}
-use Rattle.battle.proofs.Fights.{all-standing, battled, decides, defence_fits, few_defend, lent-all, need_fits, sides}
+use Rattle.battle.proofs.Fights.{all_standing, battled, decides, defence_fits, few_defend, lent_all, need_fits, sides}
 use Rattle.results.proofs.Upshots.{upshot_fits}
 use Rattle.results.specs.Participants.{participants}
 use Rattle.results.specs.Results.{battle_changes, need_of}
@@ -32,7 +32,7 @@ strengths-requires : tie.Need-strengths-requires
 strengths-requires c κs = search rules
 
 arm-all-requires : tie.Need-arm-all-requires
-arm-all-requires c κs = (c.before.before.before.before.before.before.before.before.before.before.before.before.before.before.before.requires.0, c.before.before.before.before.before.before.before.before.before.muster.ensures.most, all-standing c.before.before.before.before.before.before.before.before.before.before.before.before.before.before.before.requires.1.lawful (small c.before.before.before.before.before.before.before.before.before.before.before.before.before.before.before) c.before.before.before.before.before.before.before.before.before.before.before.before.before.before.before.requires.2 c.before.before.before.before.before.before.before.before.before.muster.ensures, refl, c.before.before.before.before.before.before.before.before.before.before.before.before.before.before.before.requires.2.range.scratch ∙ sym c.before.before.before.before.before.before.before.before.before.before.before.before.before.before.before.requires.0.view.hexes)
+arm-all-requires c κs = (c.before.before.before.before.before.before.before.before.before.before.before.before.before.before.before.requires.0, c.before.before.before.before.before.before.before.before.before.muster.ensures.most, all_standing c.before.before.before.before.before.before.before.before.before.before.before.before.before.before.before.requires.1.lawful (small c.before.before.before.before.before.before.before.before.before.before.before.before.before.before.before) c.before.before.before.before.before.before.before.before.before.before.before.before.before.before.before.requires.2 c.before.before.before.before.before.before.before.before.before.muster.ensures, refl, c.before.before.before.before.before.before.before.before.before.before.before.before.before.before.before.requires.2.range.scratch ∙ sym c.before.before.before.before.before.before.before.before.before.before.before.before.before.before.before.requires.0.view.hexes)
 
 draw-up-requires : tie.Need-draw-up-requires
 draw-up-requires c κs = search rules
@@ -78,7 +78,7 @@ settle-requires c κs = (
   c.before.before.before.before.before.before.before.before.before.before.before.before.before.before.before.before.before.before.before.before.before.before.before.before.before.before.before.before.before.before.before.before.before.before.before.before.before.before.requires.0,
   c.before.before.before.before.before.before.before.before.before.before.before.before.before.before.before.before.before.before.before.before.before.before.before.before.before.before.before.before.before.before.before.before.before.before.before.before.before.before.requires.2.range.most,
   omega (arith, small c.before.before.before.before.before.before.before.before.before.before.before.before.before.before.before.before.before.before.before.before.before.before.before.before.before.before.before.before.before.before.before.before.before.before.before.before.before.before, c.before.before.before.before.before.before.before.before.before.before.before.before.before.before.before.before.before.before.before.before.before.before.before.before.before.before.before.before.before.before.before.before.before.before.before.before.before.before.requires.2.range.aimed),
-  lent-all _ _ c.before.before.before.before.before.before.before.before.before.before.before.before.before.before.before.before.before.before.before.before.before.before.before.before.before.before.before.before.before.before.before.before.muster.ensures c.before.before.before.before.before.before.before.before.before.before.before.before.before.before.before.before.draw-up.ensures c.before.before.before.units_of.ensures,
+  lent_all _ _ c.before.before.before.before.before.before.before.before.before.before.before.before.before.before.before.before.before.before.before.before.before.before.before.before.before.before.before.before.before.before.before.before.muster.ensures c.before.before.before.before.before.before.before.before.before.before.before.before.before.before.before.before.draw-up.ensures c.before.before.before.units_of.ensures,
   rw c.before.before.before.before.before.before.upshot.ensures (upshot_fits c.before.before.before.before.before.before.before.code.result c.before.before.before.before.before.before.before.code.ensures.small),
   rw c.before.before.before.before.before.need-of.ensures (need_fits c.before.before.before.before.before.before.upshot.result c.before.before.before.before.before.before.before.before.before.before.before.before.before.before.before.sum-up.result.printed c.before.before.before.before.before.before.before.before.before.before.before.before.before.before.sum-up2.result.printed c.before.before.before.before.before.before.before.before.before.before.before.before.before.before.before.sum-up.ensures.printed.small c.before.before.before.before.before.before.before.before.before.before.before.before.before.before.sum-up2.ensures.printed.small),
 )
@@ -109,7 +109,7 @@ returns c =
     (f.printed.is ∙ ap printed_total s.attackers) (g.printed.is ∙ ap printed_total s.defenders)
     (c.before.before.before.before.before.before.before.before.before.before.before.before.need-of.ensures ∙ ap (λ (o : Upshot). need_of o c.before.before.before.before.before.before.before.before.before.before.before.before.before.before.before.before.before.before.before.before.before.before.sum-up.result.printed c.before.before.before.before.before.before.before.before.before.before.before.before.before.before.before.before.before.before.before.before.before.sum-up2.result.printed) c.before.before.before.before.before.before.before.before.before.before.before.before.before.upshot.ensures))
     (c.before.before.before.before.before.before.settle.ensures
-    ∙ ap₂ (λ (x : List ℕ) (o : Upshot). makes (turned_all p x) (battle_changes b a.target a.units.now o c.before.before.before.before.before.before.before.before.before.before.before.before.need-of.result)) (lent-all _ _ c.before.before.before.before.before.before.before.before.before.before.before.before.before.before.before.before.before.before.before.before.before.before.before.before.before.before.before.before.before.before.before.before.before.before.before.before.before.before.before.muster.ensures c.before.before.before.before.before.before.before.before.before.before.before.before.before.before.before.before.before.before.before.before.before.before.before.draw-up.ensures c.before.before.before.before.before.before.before.before.before.before.units_of.ensures) c.before.before.before.before.before.before.before.before.before.before.before.before.before.upshot.ensures)
+    ∙ ap₂ (λ (x : List ℕ) (o : Upshot). makes (turned_all p x) (battle_changes b a.target a.units.now o c.before.before.before.before.before.before.before.before.before.before.before.before.need-of.result)) (lent_all _ _ c.before.before.before.before.before.before.before.before.before.before.before.before.before.before.before.before.before.before.before.before.before.before.before.before.before.before.before.before.before.before.before.before.before.before.before.before.before.before.before.muster.ensures c.before.before.before.before.before.before.before.before.before.before.before.before.before.before.before.before.before.before.before.before.before.before.before.draw-up.ensures c.before.before.before.before.before.before.before.before.before.before.units_of.ensures) c.before.before.before.before.before.before.before.before.before.before.before.before.before.upshot.ensures)
     (all_clear c.before.before.before.before.before.before.before.before.before.before.before.before.before.before.before.before.before.before.before.before.before.before.before.before.before.before.before.before.before.arm-all.new.1.1.1.1.1.1.0 b.map.hexes c.before.before.clear.ensures (omega (arith, c.before.before.before.before.before.before.before.before.before.before.before.before.before.before.before.before.before.before.before.before.before.before.before.before.before.before.before.before.before.before.before.before.before.before.before.before.before.before.before.before.before.before.before.before.before.requires.2.range.scratch, c.before.before.before.before.before.before.before.before.before.before.before.before.before.before.before.before.before.before.before.before.before.before.before.before.before.before.before.before.before.arm-all.auto.1.1.1.1.1.1.0)))
 
 pub fight-spec : {M : Type 1} → statement M

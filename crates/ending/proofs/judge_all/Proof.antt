@@ -6,7 +6,7 @@ use native.Mathlib.Omega.{arith}
 use borrow.Author.Rules.{rules}
 use Rattle.position.specs.Laid.{Laid}
 use Rattle.march.specs.Ending.{JudgesAll}
-use Rattle.march.proofs.Ends.{judges_none, judges-next}
+use Rattle.march.proofs.Ends.{judges_none, judges_next}
 use Rattle.ending.proofs.judge_all.Statement.{statement}
 use Rattle.ending.proofs.judge_all.Tie as tie
 
@@ -32,7 +32,7 @@ loop-again : tie.Need-loop-preserved invariant-loop decreases-loop
 loop-again c =
     let s = c.before.before.before.before.before.before.before.before.requires in
     let g = c.before.before.judge-unit.ensures in
-    (omega arith, g.0, judges-next s.0.shaped (omega (arith, s.0.view.count)) s.1 c.before.before.before.before.before.loop.invariant.2 g.1)
+    (omega arith, g.0, judges_next s.0.shaped (omega (arith, s.0.view.count)) s.1 c.before.before.before.before.before.loop.invariant.2 g.1)
 
 same_length : tie.Need-same-length invariant-loop decreases-loop
 same_length c = omega (arith, c.before.loop.invariant.1.fits.whole, c.before.before.before.before.requires.0.fits.whole)

@@ -8,7 +8,7 @@ use Rattle.position.specs.Board.{board}
 use Rattle.position.proofs.Changes.{laid_make, laid_makes}
 use Rattle.position.proofs.Cells.{all_clear}
 use Rattle.clock.specs.Clock.{next_clock}
-use Rattle.march.proofs.Ends.{next_bytes, all-ended}
+use Rattle.march.proofs.Ends.{next_bytes, all_ended}
 use Rattle.ending.proofs.pass_on.Statement.{statement}
 use Rattle.ending.proofs.pass_on.Tie as tie
 
@@ -53,7 +53,7 @@ returns c =
     let g = c.before.before.before.before.before.before.before.before.enter in
     let v = s.requires.0.view in
     record {
-      made = all-ended s.requires.1 v.count (upcoming n) c.before.before.before.before.before.before.before.before.before.before.before.before.before.before.before.before.before.rest_all.ensures c.before.before.before.before.before.before.before.before.before.before.before.before.before.set-clock.ensures g.ensures;
+      made = all_ended s.requires.1 v.count (upcoming n) c.before.before.before.before.before.before.before.before.before.before.before.before.before.before.before.before.before.rest_all.ensures c.before.before.before.before.before.before.before.before.before.before.before.before.before.set-clock.ensures g.ensures;
       clear = all_clear g.new.1.1.1.0 (hexes s.args.p.now) c.before.before.clear.ensures (omega (arith, s.requires.2, v.hexes));
     }
 

@@ -8,7 +8,7 @@ use Rattle.position.specs.Change.{makes}
 use Rattle.position.specs.Laid.{Laid}
 use Rattle.position.proofs.Changes.{laid_make}
 use Rattle.march.specs.EndPhase.{rest_all}
-use Rattle.march.proofs.Ends.{rests-next}
+use Rattle.march.proofs.Ends.{rests_next}
 use Rattle.ending.proofs.rest_all.Statement.{statement}
 use Rattle.ending.proofs.rest_all.Tie as tie
 
@@ -40,7 +40,7 @@ loop-less c = omega arith
 loop-again : tie.Need-loop-preserved invariant-loop decreases-loop
 loop-again c = (
   omega arith,
-  rests-next _ c.before.before.before.before.before.before.before.before.before.before.requires.shaped c.before.before.before.before.before.before.before.before.loop.invariant.1 c.before.before.before.before.before.marks.ensures.is c.before.before.before.rested.ensures.is c.before.before.mark.ensures,
+  rests_next _ c.before.before.before.before.before.before.before.before.before.before.requires.shaped c.before.before.before.before.before.before.before.before.loop.invariant.1 c.before.before.before.before.before.marks.ensures.is c.before.before.before.rested.ensures.is c.before.before.mark.ensures,
   rw c.before.before.mark.ensures (laid_make c.before.before.before.before.before.before.before.before.loop.invariant.2 _),
 )
 

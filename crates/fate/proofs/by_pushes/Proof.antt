@@ -8,7 +8,7 @@ use Rattle.routes.specs.Part.{part_route}
 use Rattle.pushes.specs.Pushes.{served}
 use Rattle.shoves.specs.Group.{group_force}
 use Rattle.retreat.specs.Fate.{lost_fate, served_fate}
-use Rattle.retreat.proofs.Groups.{served-as}
+use Rattle.retreat.proofs.Groups.{served_as}
 use Rattle.fate.proofs.by_pushes.Statement.{statement}
 use Rattle.fate.proofs.by_pushes.Tie as tie
 
@@ -20,7 +20,7 @@ known :
     c.judge.result ≡ served b (group_force b s.h) s.h b.desk.battle.owed s.route.now s.pushes.now
 known c =
     let s = c.before.before.before.before.before.before.args in
-    served-as (board s.p.now) s.h s.route.now s.pushes.now c.before.before.group-force.ensures
+    served_as (board s.p.now) s.h s.route.now s.pushes.now c.before.before.group-force.ensures
     c.before.owed.ensures.is
     c.judge.ensures
 

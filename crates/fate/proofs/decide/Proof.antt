@@ -11,9 +11,9 @@ use Rattle.routes.specs.declared.Outlook.{Outlook}
 use Rattle.shoves.specs.Group.{group_force}
 use Rattle.retreat.specs.Fate.{lost_fate}
 use Rattle.retreat.specs.Retreat.{walks_from}
-use Rattle.retreat.proofs.Alone.{alone-series}
-use Rattle.retreat.proofs.Fates.{fate_illegal, fate-legal, fate-served, fate-supply, fate-trapped}
-use Rattle.retreat.proofs.Groups.{outlook-as, told-alone, told_friends, told_illegal, told_legal}
+use Rattle.retreat.proofs.Alone.{alone_series}
+use Rattle.retreat.proofs.Fates.{fate_illegal, fate_legal, fate_served, fate_supply, fate_trapped}
+use Rattle.retreat.proofs.Groups.{outlook_as, told_alone, told_friends, told_illegal, told_legal}
 use Rattle.fate.proofs.decide.Statement.{statement}
 use Rattle.fate.proofs.decide.Tie as tie
 
@@ -35,7 +35,7 @@ returns c =
     let i = c.before in
     let s = i.before.before.before.before.before.args in
     let e = sym i.before.any-walks.ensures ∙ not-true _ i.if1.true in
-    c.by_part.ensures ∙ fate-supply (board s.p.now) s.h s.route.now s.pushes.now e
+    c.by_part.ensures ∙ fate_supply (board s.p.now) s.h s.route.now s.pushes.now e
 
 owed-requires : tie.Need-owed-requires
 owed-requires c κs = search rules
@@ -50,7 +50,7 @@ seen :
     let b = board s.p.now in
     OutlookOf b (group_force b s.h) s.h b.desk.battle.owed s.route.now r
 seen c {r} e =
-    outlook-as _ _ _ r refl c.before.owed.ensures.is (subst (OutlookOf _ _ _ _ _) e c.judge.ensures)
+    outlook_as _ _ _ r refl c.before.owed.ensures.is (subst (OutlookOf _ _ _ _ _) e c.judge.ensures)
 
 enum_told : tie.Need-enum-told
 enum_told c = search rules
@@ -80,7 +80,7 @@ is-part-requires c κs =
     let k = c.before in
     let j = k.before.before in
     let o = j.before.before.before.before.before.before.before in
-    let e = told-alone (board o.args.p.now) o.args.h o.args.route.now (seen j k.run2.given.1) in
+    let e = told_alone (board o.args.p.now) o.args.h o.args.route.now (seen j k.run2.given.1) in
     (o.requires.0, o.requires.1, o.requires.3, e.0, e.1)
 
 by-part-requires-2 : tie.Need-by-part-requires-2
@@ -93,7 +93,7 @@ returns-2 c =
     let s = i.before.before.before.before.before.args in
     let e = told_legal (board s.p.now) s.h s.route.now (seen j c.before.enum_told.given.1) in
     c.by-route.ensures
-    ∙ fate-legal (board s.p.now) s.h s.route.now s.pushes.now (walks i) e.0 e.1
+    ∙ fate_legal (board s.p.now) s.h s.route.now s.pushes.now (walks i) e.0 e.1
 
 returns-3 : tie.Need-returns-3
 returns-3 c =
@@ -110,7 +110,7 @@ returns-4 c =
     let i = j.before.before in
     let s = i.before.before.before.before.before.args in
     let e = told_friends (board s.p.now) s.h s.route.now (seen j k.run.given.1) in
-    c.by-pushes.ensures ∙ fate-served (board s.p.now) s.h s.route.now s.pushes.now (walks i) e.0
+    c.by-pushes.ensures ∙ fate_served (board s.p.now) s.h s.route.now s.pushes.now (walks i) e.0
 
 returns-5 : tie.Need-returns-5
 returns-5 c =
@@ -121,10 +121,10 @@ returns-5 c =
     let o = i.before.before.before.before.before in
     let b = board o.args.p.now in
     let h = o.args.h in
-    let e = told-alone b h o.args.route.now (seen j k.run2.given.1) in
+    let e = told_alone b h o.args.route.now (seen j k.run2.given.1) in
     c.by-part2.ensures
     ∙ ap (λ (t : Bool). lost_fate t o.args.pushes.now) a.is-part.ensures
-    ∙ fate-trapped b h o.args.route.now o.args.pushes.now (walks i) e.0 (alone-series b h o.requires.3 e.2 e.0)
+    ∙ fate_trapped b h o.args.route.now o.args.pushes.now (walks i) e.0 (alone_series b h o.requires.3 e.2 e.0)
 
 pub decide-spec : {M : Type 1} → statement M
 decide-spec =

@@ -3,7 +3,7 @@
 use mathlib.Core.Path.{refl}
 use borrow.Author.Rules.{rules}
 use Rattle.position.specs.Board.{board}
-use Rattle.retreat.proofs.Groups.{outlook-as}
+use Rattle.retreat.proofs.Groups.{outlook_as}
 use Rattle.fate.proofs.judge.Statement.{statement}
 use Rattle.fate.proofs.judge.Tie as tie
 
@@ -16,7 +16,7 @@ judge-requires c κs = search rules
 returns : tie.Need-returns
 returns c =
     let s = c.before.before.before.before.args in
-    outlook-as (board s.p.now) s.h s.route.now c.judge.result c.before.group-force.ensures refl
+    outlook_as (board s.p.now) s.h s.route.now c.judge.result c.before.group-force.ensures refl
     c.judge.ensures
 
 pub judge-spec : {M : Type 1} → statement M

@@ -4,7 +4,7 @@ use Prim.Native.Nat.{◌-◌}
 use mathlib.Core.Path.{◌∙◌, ap, sym}
 use native.Mathlib.Omega.{arith}
 use borrow.Author.Rules.{rules}
-use Rattle.retreat.proofs.Groups.{first-owing, none_owing}
+use Rattle.retreat.proofs.Groups.{first_owing_lem, none_owing}
 use Rattle.position.specs.Board.{board}
 use Rattle.position.specs.Tally.{any}
 use Rattle.position.specs.Crowd.{owes_at}
@@ -27,7 +27,7 @@ owes-at-requires c κs = search rules
 returns : tie.Need-returns invariant-loop decreases-loop
 returns c =
     let l = c.before.before.before in
-    first-owing _ _ l.loop.u l.loop.invariant.none (omega arith) (sym c.before.owes_at.ensures ∙ c.if1.true)
+    first_owing_lem _ _ l.loop.u l.loop.invariant.none (omega arith) (sym c.before.owes_at.ensures ∙ c.if1.true)
 
 add-u : tie.Need-overflow-add-u invariant-loop decreases-loop
 add-u c = search rules

@@ -7,7 +7,7 @@ use Rattle.position.specs.Board.{board}
 use Rattle.routes.specs.Search.{first_route, found}
 use Rattle.routes.specs.declared.Outlook.{Outlook}
 use Rattle.shoves.specs.Group.{group_force}
-use Rattle.retreat.proofs.Groups.{opens, outlook-opens}
+use Rattle.retreat.proofs.Groups.{opens, outlook_opens}
 use Rattle.fate.proofs.no_run.Statement.{statement}
 use Rattle.fate.proofs.no_run.Tie as tie
 
@@ -18,7 +18,7 @@ told :
     let b = board s.p.now in
     not (opens r) ≡ not (found (first_route b (group_force b s.h) s.h s.n))
 told c e =
-    ap not (sym (ap opens e) ∙ sym (outlook-opens _ _ _ _ _ c.judge.result c.judge.ensures))
+    ap not (sym (ap opens e) ∙ sym (outlook_opens _ _ _ _ _ c.judge.result c.judge.ensures))
 
 judge-requires : tie.Need-judge-requires
 judge-requires c κs = search rules

@@ -9,8 +9,8 @@ use borrow.Author.Tests.{not-false, not-true}
 use borrow.Fn.Kinds.{In}
 use borrow.Fn.PlainCycle.{Measures, is, falls, and}
 use Rattle.plot.specs.Trail.{trail_of, unused}
-use Rattle.plot.proofs.Trails.{push-uses}
-use Rattle.plot.proofs.Taking.{led_below, took_apart, took-firm, took-last, took_none, took-on, took-rest, took-shy}
+use Rattle.plot.proofs.Trails.{push_uses}
+use Rattle.plot.proofs.Taking.{led_below, took_apart, took_firm, took_last, took_none, took_on, took_rest, took_shy}
 use Rattle.follow.proofs.take.Reads as take
 use Rattle.follow.proofs.take.Kinds as take-kinds
 use Rattle.follow.proofs.+take.Lts-take as take-lts
@@ -74,13 +74,13 @@ take-rests-requires t c κs = (
 )
 
 take-returns-3 : (t : ℕ) → take-lts.Need-returns-3 (take-claims t) (take_at t) take.Post
-take-returns-3 t c = took-rest (omega arith) c.before.before.before.before.place-in.ensures
+take-returns-3 t c = took_rest (omega arith) c.before.before.before.before.place-in.ensures
     c.before.before.before.before.before.before.before.before.requires.1.3
     (sym c.before.before.before.leads.ensures ∙ not-false _ c.before.before.if2.false) (sym c.before.rests.ensures
     ∙ c.if3.true)
 
 take-returns-4 : (t : ℕ) → take-lts.Need-returns-4 (take-claims t) (take_at t) take.Post
-take-returns-4 t c = took-last (omega arith) c.before.before.before.before.before.place-in.ensures
+take-returns-4 t c = took_last (omega arith) c.before.before.before.before.before.place-in.ensures
     c.before.before.before.before.before.before.before.before.before.requires.1.3 c.if4.true
     (sym c.before.before.before.before.leads.ensures ∙ not-false _ c.before.before.before.if2.false)
     (sym c.before.before.rests.ensures ∙ c.before.if3.false)
@@ -92,7 +92,7 @@ take-has-rest-requires t c κs = (
 )
 
 take-returns-5 : (t : ℕ) → take-lts.Need-returns-5 (take-claims t) (take_at t) take.Post
-take-returns-5 t c = took-shy (omega arith) c.before.before.before.before.before.before.before.place-in.ensures
+take-returns-5 t c = took_shy (omega arith) c.before.before.before.before.before.before.before.place-in.ensures
     (sym c.before.before.before.before.before.before.leads.ensures
     ∙ not-false _ c.before.before.before.before.before.if2.false) (sym c.before.before.before.before.rests.ensures
     ∙ c.before.before.before.if3.false) (sym c.before.has_rest.ensures ∙ c.if5.true)
@@ -105,7 +105,7 @@ take-yields-requires t c κs = (
 )
 
 take-returns-6 : (t : ℕ) → take-lts.Need-returns-6 (take-claims t) (take_at t) take.Post
-take-returns-6 t c = took-firm (omega arith) c.before.before.before.before.before.before.before.before.before.place-in.ensures (sym c.before.before.before.before.before.before.before.before.leads.ensures
+take-returns-6 t c = took_firm (omega arith) c.before.before.before.before.before.before.before.before.before.place-in.ensures (sym c.before.before.before.before.before.before.before.before.leads.ensures
     ∙ not-false _ c.before.before.before.before.before.before.before.if2.false)
     (sym c.before.before.before.before.before.before.rests.ensures
     ∙ c.before.before.before.before.before.if3.false) (sym c.before.before.before.has_rest.ensures
@@ -125,11 +125,11 @@ take-take-requires t c κs =
     let used = c.longer.ensures in
     let below = led_below _ _ _ (sym c.before.before.before.before.before.before.before.before.before.leads.ensures
     ∙ not-false _ c.before.before.before.before.before.before.before.before.if2.false) in
-    let pushed = push-uses _ _ used.0 below (sym c.before.before.yields.ensures ∙ not-false _ c.before.if6.false) in
+    let pushed = push_uses _ _ used.0 below (sym c.before.before.yields.ensures ∙ not-false _ c.before.if6.false) in
     (omega (arith, p.0, pushed), (q.0, q.1, used.1, omega arith, below, omega arith))
 
 take-returns-7 : (t : ℕ) → take-lts.Need-returns-7 (take-claims t) (take_at t) take.Post
-take-returns-7 t c = took-on (omega arith) c.before.before.before.before.before.before.before.before.before.before.before.place-in.ensures c.before.before.before.before.before.before.before.before.before.before.before.before.before.before.before.requires.1.3 (sym c.before.before.before.before.before.before.before.before.before.before.leads.ensures ∙ not-false _ c.before.before.before.before.before.before.before.before.before.if2.false)
+take-returns-7 t c = took_on (omega arith) c.before.before.before.before.before.before.before.before.before.before.before.place-in.ensures c.before.before.before.before.before.before.before.before.before.before.before.before.before.before.before.requires.1.3 (sym c.before.before.before.before.before.before.before.before.before.before.leads.ensures ∙ not-false _ c.before.before.before.before.before.before.before.before.before.if2.false)
     (sym c.before.before.before.before.before.before.before.before.rests.ensures
     ∙ c.before.before.before.before.before.before.before.if3.false) (sym
     c.before.before.before.before.before.has_rest.ensures

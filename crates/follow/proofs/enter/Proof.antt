@@ -6,7 +6,7 @@ use borrow.Author.Rules.{rules}
 use borrow.Author.Tests.{not-false, not-true}
 use Rattle.plot.proofs.Searching.{on_plot}
 use Rattle.plot.proofs.Taking.{led_below}
-use Rattle.plot.proofs.Following.{stepped_apart, stepped_far, stepped_free, stepped-loose, stepped_shut}
+use Rattle.plot.proofs.Following.{stepped_apart, stepped_far, stepped_free, stepped_loose, stepped_shut}
 use Rattle.follow.proofs.enter.Statement.{statement}
 use Rattle.follow.proofs.enter.Tie as tie
 
@@ -57,7 +57,7 @@ returns-5 c =
 
 returns-6 : tie.Need-returns-6
 returns-6 c =
-    stepped-loose (sym c.before.before.before.before.before.before.before.before.before.before.leads.ensures ∙ not-false _ c.before.before.before.before.before.before.before.before.before.if1.false) (sym c.before.before.before.before.before.before.before.before.distance.ensures ∙ omega arith) _
+    stepped_loose (sym c.before.before.before.before.before.before.before.before.before.before.leads.ensures ∙ not-false _ c.before.before.before.before.before.before.before.before.before.if1.false) (sym c.before.before.before.before.before.before.before.before.distance.ensures ∙ omega arith) _
     (sym c.before.before.before.before.stand-in.ensures ∙ c.before.before.enum-told3.given.1) c.before.before.before.before.before.before.before.before.before.before.before.before.before.requires.0 c.push-out.ensures
 
 pub enter_spec : {M : Type 1} → statement M

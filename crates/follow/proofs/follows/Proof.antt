@@ -6,7 +6,7 @@ use native.Mathlib.Omega.{arith}
 use borrow.Author.Rules.{rules}
 use lib.ListN.{length}
 use Rattle.survey.specs.Region.{place_in}
-use Rattle.plot.proofs.Following.{Followed, followed_all, followed_more, followed-none, followed_wrong}
+use Rattle.plot.proofs.Following.{Followed, followed_all, followed_more, followed_none, followed_wrong}
 use Rattle.follow.proofs.follows.Statement.{statement}
 use Rattle.follow.proofs.follows.Tie as tie
 
@@ -17,7 +17,7 @@ abbrev decreases-loop : tie.decreases-loop
 decreases-loop plot₀ w height at home route pushes a₀ k₀ i₀ i-end plot a k i = length route - i
 
 loop-holds : tie.Need-loop-init invariant-loop decreases-loop
-loop-holds c = followed-none c.before.before.requires.0 refl c.before.before.requires.2
+loop-holds c = followed_none c.before.before.requires.0 refl c.before.before.requires.2
 
 mul-place-in : tie.Need-overflow-mul-place-in invariant-loop decreases-loop
 mul-place-in c = search rules

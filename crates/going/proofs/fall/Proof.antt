@@ -3,7 +3,7 @@
 use borrow.Author.Rules.{rules}
 use Rattle.position.proofs.Changes.{laid_make, laid_makes}
 use Rattle.position.specs.Board.{board}
-use Rattle.aftermath.proofs.Stages.{then-on}
+use Rattle.aftermath.proofs.Stages.{then_on_lem}
 use Rattle.retreat.specs.Retreat.{doom_changes}
 use Rattle.retreat.proofs.Leaving.{fallen}
 use Rattle.going.proofs.fall.Statement.{statement}
@@ -30,7 +30,7 @@ returns : tie.Need-returns
 returns c =
     let n = c.before.before.before.before.before.before.before.before.before.before in
     let s = n.before.before.before.before in
-    then-on s.requires.0.shaped (doom_changes (board s.args.p.now) s.args.h s.args.route.now)
+    then_on_lem s.requires.0.shaped (doom_changes (board s.args.p.now) s.args.h s.args.route.now)
     (fallen s.requires.0.shaped s.args.h s.args.route.now n.note.ensures
     c.before.before.before.before.before.before.fall-all.ensures)
     c.before.before.pass_on.ensures

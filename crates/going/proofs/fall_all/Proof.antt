@@ -6,7 +6,7 @@ use mathlib.Core.Path.{◌∙◌, ap, refl}
 use native.Mathlib.Omega.{arith}
 use borrow.Author.Rules.{rules}
 use Rattle.position.specs.Change.{makes}
-use Rattle.shoves.proofs.Sweeps.{Sweep, alike_owing, owing, sweep-all, sweep_more, sweep_none}
+use Rattle.shoves.proofs.Sweeps.{Sweep, alike_owing, owing, sweep_all, sweep_more, sweep_none}
 use Rattle.shoves.specs.Group.{group}
 use Rattle.retreat.proofs.Leaving.{falls, gather_falls, own_falls}
 use Rattle.going.proofs.fall_all.Statement.{statement}
@@ -42,7 +42,7 @@ returns : tie.Need-returns invariant-loop decreases-loop
 unfolding group
 returns c =
     let s = c.before.before.before in
-    sweep-all c.before.loop.invariant (omega arith) s.requires.view.count ∙ ap (makes s.args.p.now) (gather_falls _)
+    sweep_all c.before.loop.invariant (omega arith) s.requires.view.count ∙ ap (makes s.args.p.now) (gather_falls _)
 
 pub fall-all-spec : {M : Type 1} → statement M
 fall-all-spec = tie.close (tie.spec invariant-loop decreases-loop loop-holds fall-one-requires add-u loop-less loop-again same_length returns)

@@ -3,9 +3,9 @@
 use borrow.Author.Rules.{rules}
 use Rattle.position.proofs.Changes.{laid_make, laid_makes}
 use Rattle.position.specs.Board.{board}
-use Rattle.aftermath.proofs.Stages.{then-on}
+use Rattle.aftermath.proofs.Stages.{then_on_lem}
 use Rattle.retreat.specs.Retreat.{retreat_changes}
-use Rattle.retreat.proofs.Leaving.{gone-off}
+use Rattle.retreat.proofs.Leaving.{gone_off}
 use Rattle.going.proofs.go_off.Statement.{statement}
 use Rattle.going.proofs.go_off.Tie as tie
 
@@ -35,8 +35,8 @@ returns c =
     let e = n.before.before in
     let s = e.before.before.before.before in (
       e.end_of_lem.ensures,
-      then-on s.requires.0.shaped (retreat_changes (board s.args.p.now) s.args.h s.args.route.now)
-          (gone-off s.requires.0.shaped s.args.h s.args.route.now e.end_of_lem.ensures n.note.ensures
+      then_on_lem s.requires.0.shaped (retreat_changes (board s.args.p.now) s.args.h s.args.route.now)
+          (gone_off s.requires.0.shaped s.args.h s.args.route.now e.end_of_lem.ensures n.note.ensures
           c.before.before.before.before.before.before.leave-all.ensures)
           c.before.before.pass_on.ensures,
     )

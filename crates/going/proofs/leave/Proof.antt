@@ -4,7 +4,7 @@ use mathlib.Core.Path.{sym, ◌∙◌}
 use native.Mathlib.Omega.{arith}
 use borrow.Author.Rules.{rules}
 use Rattle.position.proofs.Changes.{laid_make}
-use Rattle.retreat.proofs.Leaving.{leave_supply, leave-walks}
+use Rattle.retreat.proofs.Leaving.{leave_supply, leave_walks}
 use Rattle.going.proofs.leave.Statement.{statement}
 use Rattle.going.proofs.leave.Tie as tie
 
@@ -36,7 +36,7 @@ same-length-2 c = search rules
 returns-2 : tie.Need-returns-2
 returns-2 c =
     let o = c.before.before.before.before.before.before.before.before in
-    leave-walks _ _ _ (λ e. o.if1.false (o.before.kind.ensures.is ∙ e))
+    leave_walks _ _ _ (λ e. o.if1.false (o.before.kind.ensures.is ∙ e))
     c.before.before.before.before.before.before.place.ensures
     c.before.before.assign.ensures
 

@@ -8,7 +8,7 @@ use borrow.Author.Rules.{rules}
 use Rattle.position.specs.Board.{board}
 use Rattle.position.specs.Change.{makes}
 use Rattle.retreat.specs.Retreat.{leaves}
-use Rattle.shoves.proofs.Sweeps.{Sweep, alike_owing, owing, sweep-all, sweep_more, sweep_none}
+use Rattle.shoves.proofs.Sweeps.{Sweep, alike_owing, owing, sweep_all, sweep_more, sweep_none}
 use Rattle.shoves.specs.Group.{group}
 use Rattle.retreat.proofs.Leaving.{gather_leaves, leaves_same, own_leaves}
 use Rattle.going.proofs.leave_all.Statement.{statement}
@@ -45,7 +45,7 @@ returns : tie.Need-returns invariant-loop decreases-loop
 unfolding group
 returns c =
     let s = c.before.before.before in
-    sweep-all c.before.loop.invariant (omega arith) s.requires.view.count ∙ ap (makes s.args.p.now) (gather_leaves _ _ _)
+    sweep_all c.before.loop.invariant (omega arith) s.requires.view.count ∙ ap (makes s.args.p.now) (gather_leaves _ _ _)
 
 pub leave-all-spec : {M : Type 1} → statement M
 leave-all-spec = tie.close (tie.spec invariant-loop decreases-loop loop-holds leave-one-requires add-u loop-less loop-again same_length returns)

@@ -3,9 +3,9 @@
 use borrow.Author.Rules.{rules}
 use Rattle.position.proofs.Changes.{laid_make, laid_makes}
 use Rattle.position.specs.Board.{board}
-use Rattle.aftermath.proofs.Stages.{then-on}
+use Rattle.aftermath.proofs.Stages.{then_on_lem}
 use Rattle.retreat.specs.Retreat.{push_changes}
-use Rattle.retreat.proofs.Leaving.{pushed-off}
+use Rattle.retreat.proofs.Leaving.{pushed_off}
 use Rattle.going.proofs.push_off.Statement.{statement}
 use Rattle.going.proofs.push_off.Tie as tie
 
@@ -35,8 +35,8 @@ returns c =
     let e = n.before.before in
     let s = e.before.before.before.before.before in (
       e.end_of_lem.ensures,
-      then-on s.requires.0.shaped (push_changes (board s.args.p.now) s.args.h s.args.route.now s.args.pushes.now)
-          (pushed-off s.requires.0.shaped s.args.h s.args.route.now s.args.pushes.now n.note.ensures
+      then_on_lem s.requires.0.shaped (push_changes (board s.args.p.now) s.args.h s.args.route.now s.args.pushes.now)
+          (pushed_off s.requires.0.shaped s.args.h s.args.route.now s.args.pushes.now n.note.ensures
           c.before.before.before.before.before.before.march-off.ensures)
           c.before.before.pass_on.ensures,
     )

@@ -2,7 +2,7 @@
 -- Assumes nothing.
 use mathlib.Core.Path.{sym, ◌∙◌}
 use borrow.Author.Rules.{rules}
-use Rattle.position.proofs.Sides.{beside_view, next_blocked, next_off, next-at}
+use Rattle.position.proofs.Sides.{beside_view, next_blocked, next_off, next_at}
 use Rattle.ground.proofs.next.Statement.{statement}
 use Rattle.ground.proofs.next.Tie as tie
 
@@ -36,7 +36,7 @@ returns-3 c =
     let n = c.before.before.before.before.before in
     let o = n.before.before in
     let e = sym n.neighbour.ensures ∙ c.before.before.before.n.given.1 in
-    next-at o.requires.0.view o.args.h o.args.d e (λ z. c.if1.false (c.before.between.ensures.is ∙ z))
+    next_at o.requires.0.view o.args.h o.args.d e (λ z. c.if1.false (c.before.between.ensures.is ∙ z))
 
 pub next-spec : {M : Type 1} → statement M
 next-spec =

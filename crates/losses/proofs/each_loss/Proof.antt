@@ -8,10 +8,10 @@ use native.Mathlib.Omega.{arith}
 use borrow.Author.Rules.{rules}
 use lib.ListN.{take}
 use Rattle.position.specs.Board.{board}
-use Rattle.ruling.proofs.Going.{Gone, gone-end, gone_none, gone-stop}
+use Rattle.ruling.proofs.Going.{Gone, gone_end, gone_none, gone_stop}
 use Rattle.ruling.specs.Judged.{TestedOf}
 use Rattle.field.specs.Listed.{and_then}
-use Rattle.aftermath.proofs.Losing.{gone-behind}
+use Rattle.aftermath.proofs.Losing.{gone_behind}
 use Rattle.aftermath.specs.Losses.{loss, losses}
 use Rattle.losses.proofs.each_loss.Statement.{statement}
 use Rattle.losses.proofs.each_loss.Tie as tie
@@ -44,7 +44,7 @@ returns : tie.Need-returns invariant-loop decreases-loop
 unfolding losses
 returns c =
     λ l v.
-    gone-stop c.before.before.before.before.before.before.loop.invariant (omega arith)
+    gone_stop c.before.before.before.before.before.before.loop.invariant (omega arith)
     (subst (TestedOf _ _ _) c.before.n.given.1 c.before.before.before.loss.ensures) l (λ s. v)
 
 enum_told : tie.Need-enum-told invariant-loop decreases-loop
@@ -57,11 +57,11 @@ loop-less : tie.Need-loop-smaller invariant-loop decreases-loop
 loop-less c = search rules
 
 loop-again : tie.Need-loop-preserved invariant-loop decreases-loop
-loop-again c = gone-behind c.before.before.before.before.before.loop.invariant (omega arith) (subst (TestedOf _ _ _) c.enum_told.given.1 c.before.before.loss.ensures).0
+loop-again c = gone_behind c.before.before.before.before.before.loop.invariant (omega arith) (subst (TestedOf _ _ _) c.enum_told.given.1 c.before.before.loss.ensures).0
 
 returns-2 : tie.Need-returns-2 invariant-loop decreases-loop
 unfolding losses
-returns-2 c = (λ l v r q m w. gone-end c.before.loop.invariant (omega arith) l (λ s. v) r q m w, tt)
+returns-2 c = (λ l v r q m w. gone_end c.before.loop.invariant (omega arith) l (λ s. v) r q m w, tt)
 
 pub each-loss-spec : {M : Type 1} → statement M
 each-loss-spec =

@@ -6,8 +6,8 @@ use borrow.Author.Rules.{rules}
 use Rattle.position.specs.Change.Change.{destroyed}
 use Rattle.position.specs.Board.{board}
 use Rattle.position.proofs.Changes.{laid_makes}
-use Rattle.aftermath.proofs.Losing.{lost-then}
-use Rattle.aftermath.proofs.Stages.{then-on}
+use Rattle.aftermath.proofs.Losing.{lost_then}
+use Rattle.aftermath.proofs.Stages.{then_on_lem}
 use Rattle.aftermath.specs.Losses.{loss_changes}
 use Rattle.aftermath.specs.Stage.{reassigned}
 use Rattle.position.specs.Laid.{Laid}
@@ -38,8 +38,8 @@ same_length c = search rules
 returns : tie.Need-returns
 returns c =
     let a = c.before.before.before.before.before.before.before.before.before.before.before.before.before.before.args in
-    then-on c.before.before.before.before.before.before.before.before.before.before.before.before.before.before.requires.shaped (loss_changes (board a.p.now) a.units.now)
-    (lost-then c.before.before.before.before.before.before.before.before.before.before.before.before.before.before.requires.shaped a.units.now
+    then_on_lem c.before.before.before.before.before.before.before.before.before.before.before.before.before.before.requires.shaped (loss_changes (board a.p.now) a.units.now)
+    (lost_then c.before.before.before.before.before.before.before.before.before.before.before.before.before.before.requires.shaped a.units.now
     c.before.before.before.before.before.before.before.before.before.before.destroy-all.ensures
     c.before.before.before.before.before.before.reassign.ensures)
     c.before.before.pass_on.ensures

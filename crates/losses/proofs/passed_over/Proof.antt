@@ -3,7 +3,7 @@
 use mathlib.Core.Path.{sym, ◌∙◌}
 use borrow.Author.Rules.{rules}
 use borrow.Author.Tests.{not-false, not-true}
-use Rattle.aftermath.proofs.Losing.{passed_other_force, passed-special, passed_special_alone}
+use Rattle.aftermath.proofs.Losing.{passed_other_force, passed_special, passed_special_alone}
 use Rattle.losses.proofs.passed_over.Statement.{statement}
 use Rattle.losses.proofs.passed_over.Tie as tie
 
@@ -25,7 +25,7 @@ spares-special-requires c κs = search rules
 returns-3 : tie.Need-returns-3
 returns-3 c =
     c.spares-special.ensures
-    ∙ sym (passed-special _ _ (sym c.before.before.before.before.phasing-owes.ensures ∙ not-false _ c.before.before.before.if1.false) (sym c.before.before.names-other.ensures ∙ not-false _ c.before.if2.false))
+    ∙ sym (passed_special _ _ (sym c.before.before.before.before.phasing-owes.ensures ∙ not-false _ c.before.before.before.if1.false) (sym c.before.before.names-other.ensures ∙ not-false _ c.before.if2.false))
 
 pub passed-over-spec : {M : Type 1} → statement M
 passed-over-spec =

@@ -2,7 +2,7 @@
 -- Assumes nothing.
 use native.Mathlib.Omega.{arith}
 use Rattle.position.specs.Board.{board}
-use Rattle.aftermath.proofs.Losing.{listed-total}
+use Rattle.aftermath.proofs.Losing.{listed_total}
 use Rattle.losses.proofs.shown_total.Statement.{statement}
 use Rattle.losses.proofs.shown_total.Tie as tie
 
@@ -15,7 +15,7 @@ sum-up-requires c κs = (omega arith, omega (arith, c.before.before.before.requi
 returns : tie.Need-returns
 returns c =
     let s = c.before.before.before.before in
-    listed-total (board s.args.p.now) s.args.units.now s.requires.1 c.before.loss-line.ensures c.sum-up.ensures.printed.is
+    listed_total (board s.args.p.now) s.args.units.now s.requires.1 c.before.loss-line.ensures c.sum-up.ensures.printed.is
 
 pub shown-total-spec : {M : Type 1} → statement M
 shown-total-spec = tie.close (tie.spec loss-line-requires sum-up-requires returns)

@@ -11,7 +11,7 @@ use Rattle.position.specs.Change.Change.{placed}
 use Rattle.position.proofs.Changes.{laid_make}
 use Rattle.ruling.proofs.Meets.{pass, stop, ruled}
 use Rattle.march.specs.Move.{arrival}
-use Rattle.march.proofs.Moves.{moved_small, both-made}
+use Rattle.march.proofs.Moves.{moved_small, both_made}
 use Rattle.moving.proofs.arrive.Statement.{statement}
 use Rattle.moving.proofs.arrive.Tie as tie
 
@@ -52,7 +52,7 @@ returns-2 c =
     let p = a.p.now in
     pass (lt-leb 3 (others (board p) a.u a.h) (omega (arith, c.before.before.before.before.before.before.before.before.before.before.before.if1.false, c.before.before.before.before.before.before.before.before.before.before.before.before.others.ensures.is)))
     (ruled
-    (both-made p c.before.before.before.before.before.before.before.place.new.0 _ a.u a.h c.before.before.before.with.result (c.before.before.before.with.ensures ∙ ap (with moved) c.before.before.before.before.before.before.before.before.before.marks.ensures.is) c.before.before.before.before.before.before.before.place.ensures
+    (both_made p c.before.before.before.before.before.before.before.place.new.0 _ a.u a.h c.before.before.before.with.result (c.before.before.before.with.ensures ∙ ap (with moved) c.before.before.before.before.before.before.before.before.before.marks.ensures.is) c.before.before.before.before.before.before.before.place.ensures
     c.before.before.mark.ensures))
 
 pub arrive-spec : {M : Type 1} → statement M

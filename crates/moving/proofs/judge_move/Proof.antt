@@ -13,7 +13,7 @@ use Rattle.march.specs.Move.{path_length, may_move_now, move_checks}
 use Rattle.ruling.specs.Judged.{Passes, TestedOf}
 use Rattle.field.specs.Listed.{on_map_all}
 use Rattle.march.proofs.Moves.{path_short, path_long, path_fits}
-use Rattle.march.proofs.Judging.{path-through}
+use Rattle.march.proofs.Judging.{path_through}
 use Rattle.moving.proofs.judge_move.Statement.{statement}
 use Rattle.moving.proofs.judge_move.Tie as tie
 
@@ -108,7 +108,7 @@ steps-requires c κs = (c.before.before.before.before.before.before.before.befor
 returns-8 : tie.Need-returns-8
 unfolding move_checks
 returns-8 c =
-    path-through
+    path_through
     (λ l v a q m w.
     to-now c.before.before.before.before.before l _ a q m
     (pass (sym c.before.before.before.before.not-phasing.ensures ∙ c.before.before.before.if5.false) (pass (sym c.before.before.forbidden.ensures ∙ c.before.if6.false) w)))

@@ -12,9 +12,9 @@ use Rattle.field.specs.Scene.{scene}
 use Rattle.field.specs.Zone.{enemy_zone}
 use Rattle.march.specs.Move.{leg, leaves_zone, step, after_step, steps}
 use Rattle.march.specs.Judged.{Onward, WayOf}
-use Rattle.ruling.proofs.Going.{Gone, gone_none, gone-stop, gone-end}
+use Rattle.ruling.proofs.Going.{Gone, gone_none, gone_stop, gone_end}
 use Rattle.march.proofs.Steps.{leaves_first, leaves_later}
-use Rattle.march.proofs.Judging.{gone-step}
+use Rattle.march.proofs.Judging.{gone_step}
 use Rattle.moving.proofs.steps.Statement.{statement}
 use Rattle.moving.proofs.steps.Tie as tie
 
@@ -72,7 +72,7 @@ enum-known-n c = search rules
 returns : tie.Need-returns invariant-loop decreases-loop
 unfolding steps
 returns c =
-    gone-stop c.before.before.before.before.before.before.loop.invariant.0 (omega arith) (subst (WayOf _ _ _ _) c.before.n.given.1 c.before.before.before.one-step.ensures)
+    gone_stop c.before.before.before.before.before.before.loop.invariant.0 (omega arith) (subst (WayOf _ _ _ _) c.before.n.given.1 c.before.before.before.one-step.ensures)
 
 enum-known-total : tie.Need-enum-known-total invariant-loop decreases-loop
 enum-known-total c = search rules
@@ -89,14 +89,14 @@ loop-again c =
     let i = c.before.before.before.before.before.before.loop in
     let a = c.before.before.before.before.before.before.before.before.before.before.args in
     let b = board a.p.now in (
-      gone-step b a.u i.invariant.0 (omega arith) w,
+      gone_step b a.u i.invariant.0 (omega arith) w,
       w.small,
       w.enters ∙ sym (leaves_later b a.u (leg (get_or a.path.now i.i 0) c.before.total.given.0.0) (i.i + 1 + 1) (omega arith)),
     )
 
 returns-2 : tie.Need-returns-2 invariant-loop decreases-loop
 unfolding steps
-returns-2 c = record { leg = leg c.before.loop.at c.before.loop.spent; at = refl; passes = gone-end c.before.loop.invariant.0 (omega arith) }
+returns-2 c = record { leg = leg c.before.loop.at c.before.loop.spent; at = refl; passes = gone_end c.before.loop.invariant.0 (omega arith) }
 
 pub steps-spec : {M : Type 1} → statement M
 steps-spec =

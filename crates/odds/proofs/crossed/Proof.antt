@@ -8,7 +8,7 @@ use Rattle.grid.proofs.Arith.{small}
 use Rattle.position.specs.Board.{board, ground}
 use Rattle.position.specs.Ground.{joined}
 use Rattle.position.proofs.Bearings.{bearing_below}
-use Rattle.odds.proofs.Columns.{crossed-read}
+use Rattle.odds.proofs.Columns.{crossed_read}
 use Rattle.odds.proofs.crossed.Statement.{statement}
 use Rattle.odds.proofs.crossed.Tie as tie
 
@@ -30,7 +30,7 @@ side-multiple-requires c κs = search rules
 returns : tie.Need-returns
 returns c =
     record {
-      is = crossed-read (board c.before.before.before.before.before.args.p.now) c.before.before.before.before.before.args.target c.before.before.before.before.before.args.u c.before.before.before.hex.ensures.is c.before.before.bearing.ensures.is c.before.side.ensures.is c.side-multiple.ensures.is;
+      is = crossed_read (board c.before.before.before.before.before.args.p.now) c.before.before.before.before.before.args.target c.before.before.before.before.before.args.u c.before.before.before.hex.ensures.is c.before.before.bearing.ensures.is c.before.side.ensures.is c.side-multiple.ensures.is;
       small = c.side-multiple.ensures.small;
     }
 

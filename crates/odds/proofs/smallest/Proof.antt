@@ -6,7 +6,7 @@ use borrow.Author.Rules.{rules}
 use Rattle.grid.proofs.Arith.{small}
 use Rattle.position.proofs.BitLaws.{low}
 use Rattle.position.specs.Board.{board}
-use Rattle.odds.proofs.Columns.{Lowest, lowest_all, lowest_first, lowest-more}
+use Rattle.odds.proofs.Columns.{Lowest, lowest_all, lowest_first, lowest_more}
 use Rattle.odds.specs.Odds.{crossed}
 use Rattle.odds.proofs.smallest.Statement.{statement}
 use Rattle.odds.proofs.smallest.Tie as tie
@@ -51,7 +51,7 @@ loop-less : tie.Need-loop-smaller invariant-loop decreases-loop
 loop-less c = search rules
 
 loop-again : tie.Need-loop-preserved invariant-loop decreases-loop
-loop-again c = lowest-more c.before.before.before.before.loop.invariant (omega arith) c.before.crossed2.ensures.is c.before.crossed2.ensures.small c.smaller.ensures
+loop-again c = lowest_more c.before.before.before.before.loop.invariant (omega arith) c.before.crossed2.ensures.is c.before.crossed2.ensures.small c.smaller.ensures
 
 returns : tie.Need-returns invariant-loop decreases-loop
 returns c = record { is = lowest_all c.before.loop.invariant (omega arith); small = c.before.loop.invariant.small }

@@ -4,7 +4,7 @@ use native.Mathlib.Omega.{arith}
 use borrow.Author.Rules.{rules}
 use Rattle.position.proofs.Sides.{on_view}
 use Rattle.paint.proofs.Bytes.{round_room, blank_long, blank_all}
-use Rattle.routes.proofs.Windows.{window-is}
+use Rattle.routes.proofs.Windows.{window_is}
 use Rattle.outlook.proofs.judge_by.Statement.{statement}
 use Rattle.outlook.proofs.judge_by.Tie as tie
 
@@ -25,7 +25,7 @@ tell-requires c κs =
     let m = l.before.before in
     let k = m.before.before in
     let outset = k.before.before.before.before.before in
-    let w = window-is k.round.ensures k.before.spot.ensures.1 (omega (arith, blank_long 56 outset.requires.4, l.before.room.given)) m.paint-blank.ensures in
+    let w = window_is k.round.ensures k.before.spot.ensures.1 (omega (arith, blank_long 56 outset.requires.4, l.before.room.given)) m.paint-blank.ensures in
     (outset.requires.0, w, omega (arith, blank_long 56 outset.requires.4, l.before.room.given), outset.requires.1, outset.requires.2, outset.requires.3)
 
 same_length : tie.Need-same-length

@@ -13,7 +13,7 @@ use Rattle.routes.specs.Legal.{legal}
 use Rattle.routes.specs.Part.{is_run}
 use Rattle.routes.specs.Search.{first_route, found}
 use Rattle.routes.proofs.Part.{tested_most, tested_run}
-use Rattle.routes.proofs.Nearby.{nobody-near, start_inside}
+use Rattle.routes.proofs.Nearby.{nobody_near, start_inside}
 use Rattle.outlook.proofs.tell.Statement.{statement}
 use Rattle.outlook.proofs.tell.Tie as tie
 
@@ -98,7 +98,7 @@ returns-2 c =
     let home = i.place.ensures.0 ∙ ap (place_of o.args.v.width o.args.at) s.spot.ensures.1 in (
       e.0,
       e.1,
-      nobody-near o.requires.0 o.requires.1 o.requires.3 o.requires.2 home (sym c.before.before.before.near.ensures ∙ c.if2.false),
+      nobody_near o.requires.0 o.requires.1 o.requires.3 o.requires.2 home (sym c.before.before.before.near.ensures ∙ c.if2.false),
     )
 
 same-length-3 : tie.Need-same-length-3

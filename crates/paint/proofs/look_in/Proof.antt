@@ -3,7 +3,7 @@
 use native.Mathlib.Omega.{arith}
 use Rattle.position.proofs.Sides.{on_view}
 use Rattle.paint.proofs.Bytes.{blank_long, blank_all}
-use Rattle.paint.proofs.Units.{one-marked}
+use Rattle.paint.proofs.Units.{one_marked}
 use borrow.Author.Rules.{rules}
 use Rattle.paint.proofs.look_in.Statement.{statement}
 use Rattle.paint.proofs.look_in.Tie as tie
@@ -35,7 +35,7 @@ same_length c = search rules
 returns : tie.Need-returns
 returns c =
     let view = c.before.before.before.before.before.before.before.before.before.before.requires.0.view in
-    one-marked view.width view.height c.before.before.before.before.paint-blank.ensures c.before.before.before.before.before.before.one.ensures c.wide.ensures.is c.before.before.before.before.before.before.before.spot.ensures.1
+    one_marked view.width view.height c.before.before.before.before.paint-blank.ensures c.before.before.before.before.before.before.one.ensures c.wide.ensures.is c.before.before.before.before.before.before.before.spot.ensures.1
 
 pub look-in-spec : {M : Type 1} → statement M
 look-in-spec =

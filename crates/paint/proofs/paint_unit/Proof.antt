@@ -6,7 +6,7 @@ use Rattle.position.specs.Board.{board}
 use Rattle.field.specs.Scene.{scene}
 use Rattle.position.proofs.Sides.{on_view, area_view}
 use Rattle.paint.proofs.Adding.{room_kept, adds_none, adds_as, adds_also}
-use Rattle.paint.proofs.Units.{unit-away, says_parts}
+use Rattle.paint.proofs.Units.{unit_away, says_parts}
 use borrow.Author.Rules.{rules}
 use Rattle.paint.proofs.paint_unit.Statement.{statement}
 use Rattle.paint.proofs.paint_unit.Tie as tie
@@ -19,14 +19,14 @@ returns c =
     let outset = c.before.before.before.before in
     let a = outset.args in
     let x = c.before.hex in
-    adds_none (unit-away outset.requires.0 a.f a.u x.result x.ensures.is (outset.requires.3.each x.result (omega arith)))
+    adds_none (unit_away outset.requires.0 a.f a.u x.result x.ensures.is (outset.requires.3.each x.result (omega arith)))
 
 returns-2 : tie.Need-returns-2
 returns-2 c =
     let outset = c.before.before.before.before.before in
     let a = outset.args in
     let x = c.before.before.hex in
-    adds_none (unit-away outset.requires.0 a.f a.u x.result x.ensures.is (outset.requires.2.each x.result (omega arith)))
+    adds_none (unit_away outset.requires.0 a.f a.u x.result x.ensures.is (outset.requires.2.each x.result (omega arith)))
 
 spot-requires : tie.Need-spot-requires
 spot-requires c κs =
@@ -41,7 +41,7 @@ returns-3 c =
     let outset = c.before.before.before.before.before.before.before.before in
     let a = outset.args in
     let s = c.before.before.spot in
-    adds_none (unit-away outset.requires.0 a.f a.u s.result.hex (s.ensures.1 ∙ c.before.before.before.before.before.hex.ensures.is) (c.before.aside.ensures c.if3.true))
+    adds_none (unit_away outset.requires.0 a.f a.u s.result.hex (s.ensures.1 ∙ c.before.before.before.before.before.hex.ensures.is) (c.before.aside.ensures c.if3.true))
 
 stand-requires : tie.Need-stand-requires
 stand-requires c κs =

@@ -6,7 +6,7 @@ use borrow.Author.Rules.{rules}
 use Rattle.position.proofs.Changes.{laid_make}
 use Rattle.position.specs.Change.Change.{staged}
 use Rattle.position.specs.Stage as Stage
-use Rattle.aftermath.proofs.Stages.{on-advances, on_later, on_quiet}
+use Rattle.aftermath.proofs.Stages.{on_advances, on_later, on_quiet}
 use Rattle.passing.proofs.pass_on.Statement.{statement}
 use Rattle.passing.proofs.pass_on.Tie as tie
 
@@ -30,7 +30,7 @@ same-length-2 c = search rules
 
 returns-2 : tie.Need-returns-2
 returns-2 c =
-    on-advances _ (sym c.before.before.before.before.before.before.before.before.holders.ensures.is ∙ c.before.before.before.before.before.before.before.if1.false)
+    on_advances _ (sym c.before.before.before.before.before.before.before.before.holders.ensures.is ∙ c.before.before.before.before.before.before.before.if1.false)
     (λ e. c.before.before.before.before.if2.true (c.before.before.before.before.before.holders2.ensures.is ∙ e))
     c.before.before.set-stage.ensures
 

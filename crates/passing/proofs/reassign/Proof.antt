@@ -4,7 +4,7 @@
 use Prim.Native.Nat.{◌-◌}
 use native.Mathlib.Omega.{arith}
 use borrow.Author.Rules.{rules}
-use Rattle.aftermath.proofs.Stages.{Renewing, renewing-all, renewing-more, renewing_none}
+use Rattle.aftermath.proofs.Stages.{Renewing, renewing_all, renewing_more, renewing_none}
 use Rattle.passing.proofs.reassign.Statement.{statement}
 use Rattle.passing.proofs.reassign.Tie as tie
 
@@ -27,13 +27,13 @@ loop-less : tie.Need-loop-smaller invariant-loop decreases-loop
 loop-less c = search rules
 
 loop-again : tie.Need-loop-preserved invariant-loop decreases-loop
-loop-again c = renewing-more c.before.before.before.before.before.loop.invariant (omega arith) c.before.before.reassign-one.ensures
+loop-again c = renewing_more c.before.before.before.before.before.loop.invariant (omega arith) c.before.before.reassign-one.ensures
 
 same_length : tie.Need-same-length invariant-loop decreases-loop
 same_length c = omega (arith, c.before.loop.invariant.laid.fits.whole, c.before.before.before.requires.0.fits.whole)
 
 returns : tie.Need-returns invariant-loop decreases-loop
-returns c = renewing-all c.before.loop.invariant (omega arith) c.before.before.before.requires.0.view.count
+returns c = renewing_all c.before.loop.invariant (omega arith) c.before.before.before.requires.0.view.count
 
 pub reassign-spec : {M : Type 1} → statement M
 reassign-spec =

@@ -8,7 +8,7 @@ use lib.ListN.{length}
 use borrow.Author.Rules.{rules}
 use Rattle.position.specs.Board.{board}
 use Rattle.position.specs.Kind.{us}
-use Rattle.battle.proofs.Lines.{ArmedTo, armed_all, armed-home, armed_more, armed_none}
+use Rattle.battle.proofs.Lines.{ArmedTo, armed_all, armed_home, armed_more, armed_none}
 use Rattle.ranks.proofs.arm_all.Statement.{statement}
 use Rattle.ranks.proofs.arm_all.Tie as tie
 
@@ -41,7 +41,7 @@ same_length : tie.Need-same-length invariant-loop decreases-loop
 same_length c = omega (arith, c.before.before.before.before.before.before.loop.invariant.1)
 
 returns : tie.Need-returns invariant-loop decreases-loop
-returns c = let a = c.before.before.before.before.before.before.loop.invariant in armed_all c.before.before.before.before.before.before.before.before.before.requires.2 (armed-home (omega (arith, a.2)) a.0 c.before.before.arm-home.ensures) (omega arith)
+returns c = let a = c.before.before.before.before.before.before.loop.invariant in armed_all c.before.before.before.before.before.before.before.before.before.requires.2 (armed_home (omega (arith, a.2)) a.0 c.before.before.arm-home.ensures) (omega arith)
 
 pub arm-all-spec : {M : Type 1} → statement M
 arm-all-spec =

@@ -9,7 +9,7 @@ use native.Mathlib.Omega.{arith}
 use borrow.Author.Rules.{rules}
 use lib.ListN.{get_or}
 use Rattle.position.specs.Board.{board}
-use Rattle.battle.proofs.Lines.{Arming, arming_all, arming-hit, arming-miss, arming_none, traced_as}
+use Rattle.battle.proofs.Lines.{Arming, arming_all, arming_hit, arming_miss, arming_none, traced_as}
 use Rattle.battle.specs.Line.{strength_of}
 use Rattle.ranks.proofs.arm_by.Statement.{statement}
 use Rattle.ranks.proofs.arm_by.Tie as tie
@@ -67,8 +67,8 @@ loop-again c =
     let b = board c.before.before.before.before.before.before.before.before.args.p.now in
     let e : c.before.nationality.result ≡ b.units.counter.nationality (get_or c.before.before.before.before.before.before.before.before.args.who.now c.before.before.before.before.before.loop.i 0) = c.before.nationality.ensures.is ∙ ap b.units.counter.nationality c.before.before.word.ensures.is in
     ⊎_elim
-    (λ w. arming-hit c.before.before.before.before.before.before.before.before.requires.1 c.before.before.before.before.before.loop.invariant (omega arith) (sym e ∙ w.0.taken) (w.3.ensures.is ∙ ap₂ (strength_of b) c.before.before.word.ensures.is w.2.ensures.is) w.4)
-    (λ w. arming-miss c.before.before.before.before.before.before.before.before.requires.1 c.before.before.before.before.before.loop.invariant (omega arith) (λ z. w.0.left (e ∙ z)) w.1)
+    (λ w. arming_hit c.before.before.before.before.before.before.before.before.requires.1 c.before.before.before.before.before.loop.invariant (omega arith) (sym e ∙ w.0.taken) (w.3.ensures.is ∙ ap₂ (strength_of b) c.before.before.word.ensures.is w.2.ensures.is) w.4)
+    (λ w. arming_miss c.before.before.before.before.before.before.before.before.requires.1 c.before.before.before.before.before.loop.invariant (omega arith) (λ z. w.0.left (e ∙ z)) w.1)
     c.if1.branch
 
 returns : tie.Need-returns invariant-loop decreases-loop

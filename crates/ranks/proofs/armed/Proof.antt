@@ -8,7 +8,7 @@ use lib.Dec.{leb}
 use lib.ListN.{get_or}
 use Rattle.position.specs.Board.{board}
 use Rattle.field.proofs.Workings.{working_most}
-use Rattle.battle.proofs.Lines.{armed-is, traced_says}
+use Rattle.battle.proofs.Lines.{armed_is, traced_says}
 use Rattle.ranks.proofs.armed.Statement.{statement}
 use Rattle.ranks.proofs.armed.Tie as tie
 
@@ -28,7 +28,7 @@ returns c =
     let b = board a.p.now in
     let o = c.working.ensures in
     record {
-      is = armed-is b a.u a.printed (ap (λ (h : ℕ). leb 2 (get_or a.map.now h 0)) c.before.before.hex.ensures.is ∙ traced_says c.before.before.before.before.before.requires.3 (b.units.state.hex a.u) c.before.before.before.before.before.requires.2.mapped) o.is;
+      is = armed_is b a.u a.printed (ap (λ (h : ℕ). leb 2 (get_or a.map.now h 0)) c.before.before.hex.ensures.is ∙ traced_says c.before.before.before.before.before.requires.3 (b.units.state.hex a.u) c.before.before.before.before.before.requires.2.mapped) o.is;
       small = omega (arith, o.is, c.before.before.before.before.before.requires.1, working_most b a.u (leb 2 (get_or a.map.now c.before.before.hex.result 0)) a.printed);
     }
 

@@ -4,7 +4,7 @@ use Prim.Native.Nat.{◌-◌}
 use mathlib.Core.Path.{refl}
 use native.Mathlib.Omega.{arith}
 use borrow.Author.Rules.{rules}
-use Rattle.battle.proofs.Lines.{Enlisting, enlist_all, enlist-more}
+use Rattle.battle.proofs.Lines.{Enlisting, enlist_all, enlist_more}
 use Rattle.ranks.proofs.enlist.Statement.{statement}
 use Rattle.ranks.proofs.enlist.Tie as tie
 
@@ -36,7 +36,7 @@ loop-less : tie.Need-loop-smaller invariant-loop decreases-loop
 loop-less c = search rules
 
 loop-again : tie.Need-loop-preserved invariant-loop decreases-loop
-loop-again c = enlist-more c.before.before.before.requires.0 c.before.before.loop.invariant (omega arith)
+loop-again c = enlist_more c.before.before.before.requires.0 c.before.before.loop.invariant (omega arith)
 
 returns : tie.Need-returns invariant-loop decreases-loop
 returns c = enlist_all c.before.loop.invariant (omega arith)

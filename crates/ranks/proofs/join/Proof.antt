@@ -10,7 +10,7 @@ use Rattle.position.specs.Board.{board}
 use Rattle.field.proofs.Zones.{stands_here, stands_off}
 use Rattle.field.specs.Scene.{scene}
 use Rattle.field.specs.Zone.{stands_on}
-use Rattle.battle.proofs.Lines.{Joining, joining-hit, joining-miss, joining_none, joining_room, joins-all}
+use Rattle.battle.proofs.Lines.{Joining, joining_hit, joining_miss, joining_none, joining_room, joins_all}
 use Rattle.field.specs.Listed.{sieve}
 use Rattle.results.specs.Participants.{defenders}
 use Rattle.line.specs.Line.{places}
@@ -63,12 +63,12 @@ loop-less c = search rules
 loop-again : tie.Need-loop-preserved invariant-loop decreases-loop
 loop-again c =
     ⊎_elim
-    (λ w. joining-hit c.before.before.before.loop.invariant (omega arith) (room c.before.before.before.before.before) (stands_here _ _ _ (sym c.before.hex.ensures.is ∙ w.0.taken)) w.1 w.2)
-    (λ w. joining-miss c.before.before.before.loop.invariant (omega arith) (stands_off _ _ _ (λ e. w.0.left (c.before.hex.ensures.is ∙ e))) w.1 w.2)
+    (λ w. joining_hit c.before.before.before.loop.invariant (omega arith) (room c.before.before.before.before.before) (stands_here _ _ _ (sym c.before.hex.ensures.is ∙ w.0.taken)) w.1 w.2)
+    (λ w. joining_miss c.before.before.before.loop.invariant (omega arith) (stands_off _ _ _ (λ e. w.0.left (c.before.hex.ensures.is ∙ e))) w.1 w.2)
     c.if1.branch
 
 returns : tie.Need-returns invariant-loop decreases-loop
-returns c = joins-all c.before.loop.invariant (omega arith) c.before.before.before.requires.0.view.count
+returns c = joins_all c.before.loop.invariant (omega arith) c.before.before.before.requires.0.view.count
 
 pub join-spec : {M : Type 1} → statement M
 join-spec =

@@ -6,7 +6,7 @@ use mathlib.Core.Path.{◌∙◌, ap, refl}
 use native.Mathlib.Omega.{arith}
 use borrow.Author.Rules.{rules}
 use Rattle.position.specs.Layout.{strength}
-use Rattle.battle.proofs.Lines.{Printing, printing-more, prints_all}
+use Rattle.battle.proofs.Lines.{Printing, printing_more, prints_all}
 use Rattle.ranks.proofs.strengths.Statement.{statement}
 use Rattle.ranks.proofs.strengths.Tie as tie
 
@@ -44,7 +44,7 @@ loop-less : tie.Need-loop-smaller invariant-loop decreases-loop
 loop-less c = search rules
 
 loop-again : tie.Need-loop-preserved invariant-loop decreases-loop
-loop-again c = printing-more c.before.before.before.before.before.before.requires.2 c.before.before.before.before.before.before.requires.1 c.before.before.before.before.loop.invariant (omega arith) (c.strength.ensures.is ∙ ap (strength c.before.before.before.before.before.before.args.p.now) c.before.word.ensures.is)
+loop-again c = printing_more c.before.before.before.before.before.before.requires.2 c.before.before.before.before.before.before.requires.1 c.before.before.before.before.loop.invariant (omega arith) (c.strength.ensures.is ∙ ap (strength c.before.before.before.before.before.before.args.p.now) c.before.word.ensures.is)
 
 returns : tie.Need-returns invariant-loop decreases-loop
 returns c = prints_all c.before.loop.invariant (omega arith)

@@ -9,7 +9,7 @@ use Rattle.retreat.specs.declared.Fate.{Fate}
 use Rattle.retreat.specs.Retreat.{RetreatNow, group_checks}
 use Rattle.retreat.proofs.Fates.{FateSays, fate_says}
 use Rattle.retreat.proofs.Groups.{owed_of, small_hex}
-use Rattle.retreat.proofs.Rulings.{ends-doomed, ends-going, stops-group, stops-pushes, stops_route}
+use Rattle.retreat.proofs.Rulings.{ends_doomed, ends_going, stops_group, stops_pushes, stops_route}
 use Rattle.retreating.proofs.retreat.Statement.{statement}
 use Rattle.retreating.proofs.retreat.Tie as tie
 
@@ -37,7 +37,7 @@ same_length : tie.Need-same-length
 same_length c = search rules
 
 returns : tie.Need-returns
-returns c = stops-group _ _ _ (subst (TestedOf _ _ _) c.before.n.given.1 c.before.before.before.judge-group.ensures)
+returns c = stops_group _ _ _ (subst (TestedOf _ _ _) c.before.n.given.1 c.before.before.before.judge-group.ensures)
 
 enum_told : tie.Need-enum-told
 enum_told c = search rules
@@ -84,7 +84,7 @@ same-length-2 c = search rules
 
 returns-2 : tie.Need-returns-2
 returns-2 c =
-    ends-doomed _ _ _ (asked c.before.before.before.before.before.before.before.before).0 (said c.before.before.before.before.before.before c.before.before.before.before.enum-told2.given.1) c.before.before.fall.ensures
+    ends_doomed _ _ _ (asked c.before.before.before.before.before.before.before.before).0 (said c.before.before.before.before.before.before c.before.before.before.before.enum-told2.given.1) c.before.before.fall.ensures
 
 same-length-3 : tie.Need-same-length-3
 same-length-3 c = search rules
@@ -98,7 +98,7 @@ same-length-4 c = search rules
 returns-4 : tie.Need-returns-4
 returns-4 c =
     let f = said c.before.before c.enum-told4.given.1 in
-    stops-pushes _ _ _ (asked c.before.before.before.before).0 f.0 f.1 f.2
+    stops_pushes _ _ _ (asked c.before.before.before.before).0 f.0 f.1 f.2
 
 same-length-5 : tie.Need-same-length-5
 same-length-5 c = search rules
@@ -106,7 +106,7 @@ same-length-5 c = search rules
 returns-5 : tie.Need-returns-5
 returns-5 c =
     let g = c.before.before.go-off.ensures in
-    ends-going _ _ _ (asked c.before.before.before.before.before.before.before.before).0 (said c.before.before.before.before.before.before c.before.before.before.before.enum-told5.given.1) g.0 g.1
+    ends_going _ _ _ (asked c.before.before.before.before.before.before.before.before).0 (said c.before.before.before.before.before.before c.before.before.before.before.enum-told5.given.1) g.0 g.1
 
 same-length-6 : tie.Need-same-length-6
 same-length-6 c = search rules
@@ -114,7 +114,7 @@ same-length-6 c = search rules
 returns-6 : tie.Need-returns-6
 returns-6 c =
     let g = c.before.before.push-off.ensures in
-    ends-going _ _ _ (asked c.before.before.before.before.before.before.before.before).0 (said c.before.before.before.before.before.before c.before.before.before.before.enum-told6.given.1) g.0 g.1
+    ends_going _ _ _ (asked c.before.before.before.before.before.before.before.before).0 (said c.before.before.before.before.before.before c.before.before.before.before.enum-told6.given.1) g.0 g.1
 
 pub retreat-spec : {M : Type 1} → statement M
 retreat-spec =

@@ -14,7 +14,7 @@ use Rattle.plot.proofs.Plots.{next_below, shifted_long}
 use Rattle.plot.proofs.Ends.{close_self}
 use Rattle.plot.proofs.Searching.{Unserved, Unended, blank, gathered, on_plot}
 use Rattle.plot.proofs.Searching.{over_far, over_free, over_loose, over_shut, served, serves_done, serves_last, put_back, shoved}
-use Rattle.plot.proofs.Searching.{unended, unended_not, unended-with, unserved, unserved_off, unserved-over}
+use Rattle.plot.proofs.Searching.{unended, unended_not, unended_with, unserved, unserved_off, unserved_over}
 use Rattle.search.proofs.go_on.Reads as go_on
 use Rattle.search.proofs.go_on.Kinds as go-on-kinds
 use Rattle.search.proofs.+go_on_over_serves_shoves_with_end_with_ends.Lts-go_on as go-on-lts
@@ -214,7 +214,7 @@ serves-returns t c = (
 )
 
 serves-loop-again-2 : (t : ℕ) → serves-lts.Need-loop-preserved-2 (serves-claims t) (serves-at t) serves.Post serves-Inv-loop serves-μ-loop
-serves-loop-again-2 t c = unserved-over c.before.before.before.before.before.before.before.before.before.loop.invariant (omega arith) (sym c.before.before.before.before.before.before.next-in.ensures
+serves-loop-again-2 t c = unserved_over c.before.before.before.before.before.before.before.before.before.loop.invariant (omega arith) (sym c.before.before.before.before.before.before.next-in.ensures
     ∙ c.before.before.before.before.x.given.1) (sym c.before.over.ensures.0
     ∙ c.if1.false) c.before.over.ensures.1
 
@@ -325,7 +325,7 @@ with-ends-returns t c = (
 
 with-ends-loop-again-2 : (t : ℕ) → with-ends-lts.Need-loop-preserved-2 (with-ends-claims t)
     (with-ends-at t) with-ends.Post with-ends-Inv-loop with-ends-μ-loop
-with-ends-loop-again-2 t c = unended-with c.before.before.before.before.before.before.before.loop.invariant
+with-ends-loop-again-2 t c = unended_with c.before.before.before.before.before.before.before.loop.invariant
     (omega arith) (sym c.before.before.before.before.ends-in.ensures
     ∙ not-false _ c.before.before.before.if1.false) (sym c.before.with-end.ensures.0
     ∙ c.if2.false) c.before.with-end.ensures.1

@@ -6,7 +6,7 @@ use native.Mathlib.Omega.{arith}
 use borrow.Author.Rules.{rules}
 use Rattle.position.proofs.Tallies.{any_zero}
 use Rattle.plot.proofs.Plots.{next_below}
-use Rattle.plot.proofs.Searching.{Unserved, served, unserved, unserved_off, unserved-over}
+use Rattle.plot.proofs.Searching.{Unserved, served, unserved, unserved_off, unserved_over}
 use Rattle.search.proofs.last.Statement.{statement}
 use Rattle.search.proofs.last.Tie as tie
 
@@ -57,7 +57,7 @@ loop-less-2 : tie.Need-loop-smaller-2 invariant-loop decreases-loop
 loop-less-2 c = search rules
 
 loop-again-2 : tie.Need-loop-preserved-2 invariant-loop decreases-loop
-loop-again-2 c = unserved-over c.before.before.before.before.before.before.before.loop.invariant (omega arith) (sym c.before.before.before.before.before.next-in.ensures ∙ c.before.before.before.x.given.1) (sym c.before.last-over.ensures ∙ c.if1.false) refl
+loop-again-2 c = unserved_over c.before.before.before.before.before.before.before.loop.invariant (omega arith) (sym c.before.before.before.before.before.next-in.ensures ∙ c.before.before.before.x.given.1) (sym c.before.last-over.ensures ∙ c.if1.false) refl
 
 returns-2 : tie.Need-returns-2 invariant-loop decreases-loop
 returns-2 c = sym (unserved c.before.loop.invariant (λ e. omega arith) (omega arith))

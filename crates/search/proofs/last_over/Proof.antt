@@ -3,7 +3,7 @@
 use mathlib.Core.Path.{refl, sym, ◌∙◌}
 use native.Mathlib.Omega.{arith}
 use borrow.Author.Rules.{rules}
-use Rattle.plot.proofs.Searching.{last_free, last-loose, on_plot, over_far, over_shut}
+use Rattle.plot.proofs.Searching.{last_free, last_loose, on_plot, over_far, over_shut}
 use Rattle.search.proofs.last_over.Statement.{statement}
 use Rattle.search.proofs.last_over.Tie as tie
 
@@ -46,7 +46,7 @@ returns-3 : tie.Need-returns-3
 returns-3 c = sym (last_free _ _ _ _ _ _ (sym c.before.before.before.before.distance.ensures ∙ c.before.before.before.if1.false) (sym c.before.before.stand-in.ensures ∙ c.enum-told2.given.1) refl)
 
 returns-4 : tie.Need-returns-4
-returns-4 c = c.can-end.ensures ∙ sym (last-loose _ _ _ _ _ _ (sym c.before.before.before.before.before.before.distance.ensures
+returns-4 c = c.can-end.ensures ∙ sym (last_loose _ _ _ _ _ _ (sym c.before.before.before.before.before.before.distance.ensures
     ∙ c.before.before.before.before.before.if1.false) (sym c.before.before.before.before.stand-in.ensures ∙ c.before.before.enum-told3.given.1) refl _ c.before.own.ensures.0)
 
 pub last-over-spec : {M : Type 1} → statement M

@@ -5,7 +5,7 @@ use Prim.Native.Nat.{◌-◌}
 use native.Mathlib.Omega.{arith}
 use borrow.Author.Rules.{rules}
 use Rattle.position.proofs.Changes.{laid_makes}
-use Rattle.shoves.proofs.Marching.{March, march-all, march-more, march_none}
+use Rattle.shoves.proofs.Marching.{March, march_all, march_more, march_none}
 use Rattle.shoves.proofs.march_off.Statement.{statement}
 use Rattle.shoves.proofs.march_off.Tie as tie
 
@@ -44,7 +44,7 @@ loop-less c = search rules
 loop-again : tie.Need-loop-preserved invariant-loop decreases-loop
 loop-again c =
     let s = c.before.before.before.before.before.before.before.before.before.before in
-    march-more s.loop.invariant (omega arith) c.before.before.before.before.before.before.clear.ensures
+    march_more s.loop.invariant (omega arith) c.before.before.before.before.before.before.clear.ensures
     c.before.before.step-all.ensures
 
 free-all-requires : tie.Need-free-all-requires invariant-loop decreases-loop
@@ -54,7 +54,7 @@ same_length : tie.Need-same-length invariant-loop decreases-loop
 same_length c = search rules
 
 returns : tie.Need-returns invariant-loop decreases-loop
-returns c = march-all c.before.before.before.before.before.loop.invariant (omega arith) c.before.before.free_all.ensures
+returns c = march_all c.before.before.before.before.before.loop.invariant (omega arith) c.before.before.free_all.ensures
 
 pub march-off-spec : {M : Type 1} → statement M
 march-off-spec =

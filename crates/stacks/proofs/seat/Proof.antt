@@ -2,7 +2,7 @@
 -- Assumes nothing.
 use Prim.Native.Nat.{◌<◌}
 use native.Mathlib.Omega.{arith}
-use Rattle.acceptance.proofs.Seating.{seated_past, seated-of, adds_fits, counts-low, counts-high, refused_low, refused_high}
+use Rattle.acceptance.proofs.Seating.{seated_past, seated_of, adds_fits, counts_low, counts_high, refused_low, refused_high}
 use borrow.Author.Rules.{rules}
 use Rattle.stacks.proofs.seat.Statement.{statement}
 use Rattle.stacks.proofs.seat.Tie as tie
@@ -44,8 +44,8 @@ returns-3 : tie.Need-returns-3
 returns-3 c =
     let f = c.before.before.before.before.force-of.ensures in
     let few : c.before.before.before.before.force-of.result < 4 = omega (arith, f, c.before.before.before.before.before.before.before.before.before.before.requires.2) in
-    seated-of c.adds.result
-    (λ p. record { on = counts-low _ _ _ _ c.before.before.before.if3.true c.before.wide.ensures.is f few (omega (arith, c.before.before.before.before.before.before.before.hex.ensures.is)) c.adds.ensures p })
+    seated_of c.adds.result
+    (λ p. record { on = counts_low _ _ _ _ c.before.before.before.if3.true c.before.wide.ensures.is f few (omega (arith, c.before.before.before.before.before.before.before.hex.ensures.is)) c.adds.ensures p })
     (λ z. record { there = omega (arith, c.before.before.before.before.before.before.before.hex.ensures.is); under = λ g o. refused_low _ _ _ _ c.before.before.before.if3.true c.before.wide.ensures.is f few z (omega arith) g o (omega (arith, c.before.before.before.before.before.before.before.hex.ensures.is)) c.adds.ensures })
 
 slice-read-wide-2 : tie.Need-slice-read-wide-2
@@ -76,8 +76,8 @@ returns-4 : tie.Need-returns-4
 returns-4 c =
     let f = c.before.before.before.before.force-of.ensures in
     let few : c.before.before.before.before.force-of.result < 4 = omega (arith, f, c.before.before.before.before.before.before.before.before.before.before.requires.2) in
-    seated-of c.adds2.result
-    (λ p. record { on = counts-high _ _ _ _ (omega arith) c.before.wide2.ensures.is f few (omega (arith, c.before.before.before.before.before.before.before.hex.ensures.is)) c.adds2.ensures p })
+    seated_of c.adds2.result
+    (λ p. record { on = counts_high _ _ _ _ (omega arith) c.before.wide2.ensures.is f few (omega (arith, c.before.before.before.before.before.before.before.hex.ensures.is)) c.adds2.ensures p })
     (λ z. record { there = omega (arith, c.before.before.before.before.before.before.before.hex.ensures.is); under = λ g o. refused_high _ _ _ _ (omega arith) c.before.wide2.ensures.is f few z (omega arith) g o (omega (arith, c.before.before.before.before.before.before.before.hex.ensures.is)) c.adds2.ensures })
 
 pub seat-spec : {M : Type 1} → statement M

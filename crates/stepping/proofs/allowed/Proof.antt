@@ -4,7 +4,7 @@ use mathlib.Core.Path.{ap, ◌∙◌}
 use borrow.Author.Rules.{rules}
 use Rattle.position.specs.Bits.{has, supplied}
 use Rattle.position.specs.Board.{board}
-use Rattle.march.proofs.Steps.{allowed-read}
+use Rattle.march.proofs.Steps.{allowed_read}
 use Rattle.stepping.proofs.allowed.Statement.{statement}
 use Rattle.stepping.proofs.allowed.Tie as tie
 
@@ -24,7 +24,7 @@ returns : tie.Need-returns
 returns c =
     let a = c.before.before.before.before.before.args in
     let marked = c.before.before.has.ensures ∙ ap (has supplied) c.before.before.before.marks.ensures.is in
-    allowed-read (board a.p.now) a.u marked c.before.allowance.ensures c.working.ensures
+    allowed_read (board a.p.now) a.u marked c.before.allowance.ensures c.working.ensures
 
 pub allowed-spec : {M : Type 1} → statement M
 allowed-spec =

@@ -14,7 +14,7 @@ use Rattle.paint.specs.Paint.{Marked}
 use Rattle.paint.proofs.Units.{marked_zone, marked_enemy}
 use Rattle.march.specs.Move.{leg, after_step, leaves_zone, no_step}
 use Rattle.march.proofs.Steps.{turned_next, no_step_there, no_step_apart}
-use Rattle.march.proofs.Judging.{Open, stops_zone, stops_ground, stops-enemy, stops-neutral, stops_spent, passes_step}
+use Rattle.march.proofs.Judging.{Open, stops_zone, stops_ground, stops_enemy, stops_neutral, stops_spent, passes_step}
 use Rattle.stepping.proofs.one_step.Statement.{statement}
 use Rattle.stepping.proofs.one_step.Tie as tie
 
@@ -114,7 +114,7 @@ has-requires c κs = search rules
 returns-4 : tie.Need-returns-4
 returns-4 c =
     let g = c.before.before.before.before in
-    stops-enemy _ _ _ _ _ _ (zone g.before.before.before.before) (way g) (foe c.before ∙ c.if4.true)
+    stops_enemy _ _ _ _ _ _ (zone g.before.before.before.before) (way g) (foe c.before ∙ c.if4.true)
 
 neutral-there-requires : tie.Need-neutral-there-requires
 neutral-there-requires c κs = search rules
@@ -123,7 +123,7 @@ returns-5 : tie.Need-returns-5
 returns-5 c =
     let e = c.before.before in
     let g = e.before.before.before.before in
-    stops-neutral _ _ _ _ _ _ (zone g.before.before.before.before) (way g) (foe e.before ∙ e.if4.false)
+    stops_neutral _ _ _ _ _ _ (zone g.before.before.before.before) (way g) (foe e.before ∙ e.if4.false)
     (neither c.before ∙ c.if5.true)
 
 step-cost-requires : tie.Need-step-cost-requires

@@ -3,7 +3,7 @@
 use native.Mathlib.Omega.{arith}
 use borrow.Author.Rules.{rules}
 use Rattle.position.proofs.Sides.{area_view, on_view, on_first}
-use Rattle.supply.proofs.Grading.{map-shows}
+use Rattle.supply.proofs.Grading.{map_shows}
 use Rattle.supply.proofs.grades.Statement.{statement}
 use Rattle.supply.proofs.grades.Tie as tie
 
@@ -26,7 +26,7 @@ grade-requires c κs =
     let view = l.view in
     let k = rw (view.width, view.height) at c.before.before.before.before.before.before.whole.ensures in (
       l,
-      map-shows k (λ h e. rw (view.width, view.height) at (on_view l h (omega (arith, e, view.hexes))))
+      map_shows k (λ h e. rw (view.width, view.height) at (on_view l h (omega (arith, e, view.hexes))))
           (omega (arith, outset.requires.1, view.hexes)) (rw c.before.before.before.before.before.force.ensures at c.before.before.before.paint.ensures),
     )
 

@@ -8,7 +8,7 @@ use Rattle.position.specs.Ground.{next}
 use Rattle.walk.specs.Chain.{mark}
 use Rattle.walk.specs.Trail.{First}
 use Rattle.walk.proofs.Steps.{two_way}
-use Rattle.walk.proofs.Trails.{all-shut}
+use Rattle.walk.proofs.Trails.{all_shut}
 use Rattle.walk.proofs.Joins.{joined, spot_in}
 use Rattle.walk.proofs.Runs.{sown_one, sown_flood}
 use Rattle.walking.proofs.seed.Statement.{statement}
@@ -33,7 +33,7 @@ returns-2 c =
     let g = two_way (ground s.args.p.now) in
     let six : c.before.look-0.result ≡ 6 = omega (arith, c.before.look-0.ensures.most) in
     let none = subst (First (next (ground s.args.p.now)) (mark s.args.buf.now) 2 s.args.s.hex 0 0) six c.before.look-0.ensures in
-    sown_one s.requires.1.1 (λ e. all-shut g (λ d p. absurd (omega arith)) none)
+    sown_one s.requires.1.1 (λ e. all_shut g (λ d p. absurd (omega arith)) none)
 
 flood-requires : tie.Need-flood-requires
 unfolding mark

@@ -11,7 +11,7 @@ use Rattle.position.specs.Ground.{next}
 use Rattle.position.proofs.Sides.{area_view}
 use Rattle.walk.specs.Trail.{Sown}
 use Rattle.walk.proofs.Joins.{apart_next}
-use Rattle.walk.proofs.Runs.{sown_none, sown-on, sown_less}
+use Rattle.walk.proofs.Runs.{sown_none, sown_on, sown_less}
 use Rattle.walking.proofs.seed_run.Statement.{statement}
 use Rattle.walking.proofs.seed_run.Tie as tie
 
@@ -51,7 +51,7 @@ loop-less : tie.Need-loop-smaller invariant-loop decreases-loop
 loop-less c = search rules
 
 loop-again : tie.Need-loop-preserved invariant-loop decreases-loop
-loop-again c = let e = c.before.before.before.spot.ensures.1 in sown-on (omega arith) (omega arith) c.before.before.before.before.before.before.loop.invariant c.before.before.seed.ensures
+loop-again c = let e = c.before.before.before.spot.ensures.1 in sown_on (omega arith) (omega arith) c.before.before.before.before.before.before.loop.invariant c.before.before.seed.ensures
 
 same-length-2 : tie.Need-same-length-2 invariant-loop decreases-loop
 same-length-2 c = c.before.loop.invariant.kept.same

@@ -8,7 +8,7 @@ use Rattle.position.specs.Board.{ground}
 use Rattle.position.specs.Ground.{next}
 use Rattle.position.proofs.Sides.{area_view, on_first}
 use Rattle.walk.specs.Trail.{Sown}
-use Rattle.walk.proofs.Runs.{sown_none, sown-on, sown_all}
+use Rattle.walk.proofs.Runs.{sown_none, sown_on, sown_all}
 use Rattle.walking.proofs.seeds.Statement.{statement}
 use Rattle.walking.proofs.seeds.Tie as tie
 
@@ -42,7 +42,7 @@ returns : tie.Need-returns invariant-loop decreases-loop
 returns c =
     let s = c.before.before.before.before.before.before.before.before.before.before.requires.0 in
     sown_all (past_of c.before.before.before.before.before.before.before.before.before.before.args.v.width c.before.before.before.before.before.before.loop.r) (omega (arith, s.1, c.before.past.ensures.0))
-    (sown-on (omega arith) (omega arith) c.before.before.before.before.before.before.loop.invariant.0 c.before.before.before.before.seed-run.ensures)
+    (sown_on (omega arith) (omega arith) c.before.before.before.before.before.before.loop.invariant.0 c.before.before.before.before.seed-run.ensures)
 
 after-requires : tie.Need-after-requires invariant-loop decreases-loop
 after-requires c κs = (c.before.before.before.before.before.before.loop.invariant.1, omega (arith, c.before.past.ensures.0, area_view c.before.before.before.before.before.before.before.before.before.before.requires.0.0.view))
@@ -53,7 +53,7 @@ loop-less c = omega (arith, c.after.ensures.1, c.before.before.past.ensures.0, c
 loop-again : tie.Need-loop-preserved invariant-loop decreases-loop
 loop-again c =
     let e = c.after.ensures in
-    (sown-on (omega arith) (omega (arith, e.1)) c.before.before.before.before.before.before.before.loop.invariant.0 c.before.before.before.before.before.seed-run.ensures, e.0)
+    (sown_on (omega arith) (omega (arith, e.1)) c.before.before.before.before.before.before.before.loop.invariant.0 c.before.before.before.before.before.seed-run.ensures, e.0)
 
 pub seeds-spec : {M : Type 1} → statement M
 seeds-spec =

@@ -6,7 +6,7 @@ use mathlib.Core.Logic.{⊎_elim, inl, inr}
 use lib.ListN.{length}
 use borrow.Author.Rules.{rules}
 use Rattle.walk.specs.Chain.{mark}
-use Rattle.walk.proofs.Runs.{Settling, settle_none, settle-turn, settle_all}
+use Rattle.walk.proofs.Runs.{Settling, settle_none, settle_turn, settle_all}
 use Rattle.walking.proofs.settle.Statement.{statement}
 use Rattle.walking.proofs.settle.Tie as tie
 
@@ -39,8 +39,8 @@ unfolding mark
 loop-again c =
     let a = c.before.before.before.loop in
     ⊎_elim
-    (λ w. settle-turn 1 w.1 c.before.before.loop-test.true a.invariant (inl (w.0.taken, refl)))
-    (λ w. settle-turn 0 w.1 c.before.before.loop-test.true a.invariant (inr (w.0.left, refl)))
+    (λ w. settle_turn 1 w.1 c.before.before.loop-test.true a.invariant (inl (w.0.taken, refl)))
+    (λ w. settle_turn 0 w.1 c.before.before.loop-test.true a.invariant (inr (w.0.left, refl)))
     c.if1.branch
 
 same_length : tie.Need-same-length invariant-loop decreases-loop

@@ -5,7 +5,7 @@ use native.Mathlib.Omega.{arith}
 use Rattle.position.specs.Board.{board}
 use Rattle.survey.specs.Region.{Inside, place_of}
 use Rattle.position.proofs.Sides.{on_view}
-use Rattle.routes.proofs.Windows.{refuge_barred, refuge_free, window-marked}
+use Rattle.routes.proofs.Windows.{refuge_barred, refuge_free, window_marked}
 use borrow.Author.Rules.{rules}
 use Rattle.window.proofs.refuge.Statement.{statement}
 use Rattle.window.proofs.refuge.Tie as tie
@@ -39,7 +39,7 @@ returns c =
     let a = outset.args in
     let b = board a.p.now in
     let e = c.before.before.before.place.ensures.0 ∙ ap (place_of a.v.width a.at) c.before.before.before.before.spot.ensures.1 in
-    let k = window-marked outset.requires.0 outset.requires.1 a.x outset.requires.3 e c.before.wide.ensures.is in
+    let k = window_marked outset.requires.0 outset.requires.1 a.x outset.requires.3 e c.before.wide.ensures.is in
     c.free.ensures ∙ refuge_free b a.f a.x k (sym c.before.before.before.before.before.before.standable.ensures ∙ c.before.before.before.before.before.if1.true)
 
 returns-2 : tie.Need-returns-2

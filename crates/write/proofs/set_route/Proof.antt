@@ -5,7 +5,7 @@ use mathlib.Core.List.{List}
 use Prim.Native.Nat.{ℕ}
 use native.Mathlib.Omega.{arith}
 use Rattle.position.specs.Layout.{set_route_hex}
-use Rattle.position.proofs.Laying.{laid_route_hex, routed-in, routed_out}
+use Rattle.position.proofs.Laying.{laid_route_hex, routed_in, routed_out}
 use borrow.Author.Rules.{rules}
 use Rattle.write.proofs.set_route.Statement.{statement}
 use Rattle.write.proofs.set_route.Tie as tie
@@ -36,7 +36,7 @@ returns-2 c =
     (c.before.before.before.before.before.before.set-route-hex3.ensures
     ∙ ap (λ (q : List ℕ). set_route_hex q a.r 2 a.c)
     (c.before.before.before.before.before.before.before.before.before.before.set-route-hex2.ensures ∙ ap (λ (q : List ℕ). set_route_hex q a.r 1 a.b) c.before.before.before.before.before.before.before.before.before.before.before.before.before.before.set-route-hex.ensures))
-    ∙ sym (routed-in a.p.now a.r a.a a.b a.c a.d (omega arith))
+    ∙ sym (routed_in a.p.now a.r a.a a.b a.c a.d (omega arith))
 
 pub set-route-spec : {M : Type 1} → statement M
 set-route-spec =

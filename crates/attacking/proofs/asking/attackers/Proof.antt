@@ -5,9 +5,9 @@ use Prim.Native.Nat.{◌-◌}
 use mathlib.Core.Path.{subst}
 use native.Mathlib.Omega.{arith}
 use borrow.Author.Rules.{rules}
-use Rattle.ruling.proofs.Going.{gone-end, gone_none, gone-stop}
+use Rattle.ruling.proofs.Going.{gone_end, gone_none, gone_stop}
 use Rattle.ruling.specs.Judged.{TestedOf}
-use Rattle.battle.proofs.Asks.{Asked, asked-more}
+use Rattle.battle.proofs.Asks.{Asked, asked_more}
 use Rattle.battle.specs.Attack.{attackers}
 use Rattle.attacking.proofs.asking.attackers.Statement.{statement}
 use Rattle.attacking.proofs.asking.attackers.Tie as tie
@@ -38,7 +38,7 @@ enum-known-n c = search rules
 
 returns : tie.Need-returns invariant-loop decreases-loop
 unfolding attackers
-returns c = λ l v. gone-stop c.before.before.before.before.before.before.loop.invariant.gone (omega arith) (subst (TestedOf _ _ _) c.before.n.given.1 c.before.before.before.attacker.ensures) l (λ s. v)
+returns c = λ l v. gone_stop c.before.before.before.before.before.before.loop.invariant.gone (omega arith) (subst (TestedOf _ _ _) c.before.n.given.1 c.before.before.before.attacker.ensures) l (λ s. v)
 
 enum_told : tie.Need-enum-told invariant-loop decreases-loop
 enum_told c = search rules
@@ -50,11 +50,11 @@ loop-less : tie.Need-loop-smaller invariant-loop decreases-loop
 loop-less c = search rules
 
 loop-again : tie.Need-loop-preserved invariant-loop decreases-loop
-loop-again c = asked-more c.before.before.before.before.before.loop.invariant (omega arith) (subst (TestedOf _ _ _) c.enum_told.given.1 c.before.before.attacker.ensures)
+loop-again c = asked_more c.before.before.before.before.before.loop.invariant (omega arith) (subst (TestedOf _ _ _) c.enum_told.given.1 c.before.before.attacker.ensures)
 
 returns-2 : tie.Need-returns-2 invariant-loop decreases-loop
 unfolding attackers
-returns-2 c = (λ l v a q m w. gone-end c.before.loop.invariant.gone (omega arith) l (λ s. v) a q m w, λ j l. c.before.loop.invariant.able j (omega arith))
+returns-2 c = (λ l v a q m w. gone_end c.before.loop.invariant.gone (omega arith) l (λ s. v) a q m w, λ j l. c.before.loop.invariant.able j (omega arith))
 
 pub attackers-spec : {M : Type 1} → statement M
 attackers-spec =

@@ -6,7 +6,7 @@ use native.Mathlib.Omega.{arith}
 use borrow.Author.Tests.{le-leb, lt-leb}
 use lib.Dec.{eqb, leb}
 use Rattle.position.specs.Board.{board}
-use Rattle.ruling.proofs.Going.{tested-through}
+use Rattle.ruling.proofs.Going.{tested_through}
 use Rattle.ruling.proofs.Meets.{pass, stop}
 use Rattle.supply.proofs.Supplies.{other_length, own_length}
 use Rattle.field.proofs.Lists.{list_fits, list_long, list_short}
@@ -68,7 +68,7 @@ unfolding in_range
 returns-7 c =
     let k = c.before in
     let e = c.before.before.before.before.before.before.before.before.before.requires.view.hexes in
-    tested-through
+    tested_through
     (λ l v a q m w. pass (short k.before.before.before.before) (pass (lent k.before.before.before) (pass (aimed k.before.before) (pass (thrown k) w))))
     (λ n. record { some = omega arith; most = omega arith; scratch = omega arith; aimed = omega arith; counted = n })
     c.All-there.result

@@ -4,7 +4,7 @@ use mathlib.Core.Bool.{not}
 use mathlib.Core.Path.{◌∙◌, ap, subst, sym}
 use borrow.Author.Rules.{rules}
 use Rattle.position.specs.Board.{board}
-use Rattle.ruling.proofs.Going.{tested-through}
+use Rattle.ruling.proofs.Going.{tested_through}
 use Rattle.ruling.proofs.Meets.{pass, stop}
 use Rattle.ruling.specs.Judged.{Passes, TestedOf}
 use Rattle.battle.specs.Asked.{InRange}
@@ -56,7 +56,7 @@ returns-4 : tie.Need-returns-4
 unfolding attack_checks
 returns-4 c =
     let k = ranged c.before.before.before.before.before in
-    tested-through
+    tested_through
     (λ l v a q m w.
     k.0 l _ a q m
     (pass (sym (ap not c.before.before.before.before.may-attack-now.ensures) ∙ c.before.before.before.if1.false) (pass (sym c.before.before.no_target.ensures ∙ c.before.if2.false) w)))

@@ -6,8 +6,8 @@ use native.Mathlib.Omega.{arith}
 use borrow.Author.Rules.{rules}
 use lib.ListN.{get_or}
 use Rattle.position.specs.Board.{board}
-use Rattle.ruling.proofs.Going.{gone-end, gone_none, gone-stop}
-use Rattle.field.proofs.Lists.{There, is_none, there-more}
+use Rattle.ruling.proofs.Going.{gone_end, gone_none, gone_stop}
+use Rattle.field.proofs.Lists.{There, is_none, there_more}
 use Rattle.field.specs.Listed.{all_there}
 use Rattle.field.proofs.listed.all_there.Statement.{statement}
 use Rattle.field.proofs.listed.all_there.Tie as tie
@@ -38,7 +38,7 @@ unfolding all_there
 returns c =
     let a = c.before.before.before.before.args in
     λ l v.
-    gone-stop c.before.before.before.loop.invariant.gone (omega arith)
+    gone_stop c.before.before.before.loop.invariant.gone (omega arith)
     (is_none a.p.now (board a.p.now) 0 (get_or a.units.now c.before.before.before.loop.i 0) (c.before.before.before.loop.i + 1) (omega arith)) l (λ s. v)
 
 add-i : tie.Need-overflow-add-i invariant-loop decreases-loop
@@ -48,11 +48,11 @@ loop-less : tie.Need-loop-smaller invariant-loop decreases-loop
 loop-less c = search rules
 
 loop-again : tie.Need-loop-preserved invariant-loop decreases-loop
-loop-again c = there-more c.before.before.before.loop.invariant (omega arith) (omega arith)
+loop-again c = there_more c.before.before.before.loop.invariant (omega arith) (omega arith)
 
 returns-2 : tie.Need-returns-2 invariant-loop decreases-loop
 unfolding all_there
-returns-2 c = (λ l v a q m w. gone-end c.before.loop.invariant.gone (omega arith) l (λ s. v) a q m w, λ j l. c.before.loop.invariant.counted j (omega arith))
+returns-2 c = (λ l v a q m w. gone_end c.before.loop.invariant.gone (omega arith) l (λ s. v) a q m w, λ j l. c.before.loop.invariant.counted j (omega arith))
 
 pub all-there-spec : {M : Type 1} → statement M
 all-there-spec =

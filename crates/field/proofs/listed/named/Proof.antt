@@ -6,7 +6,7 @@ use mathlib.Core.Path.{◌∙◌, ap, sym}
 use native.Mathlib.Omega.{arith}
 use borrow.Author.Rules.{rules}
 use lib.ListN.{take}
-use Rattle.field.proofs.Lists.{Unnamed, map_self, unnamed_all, unnamed-hit, unnamed_more, unnamed_none}
+use Rattle.field.proofs.Lists.{Unnamed, map_self, unnamed_all, unnamed_hit, unnamed_more, unnamed_none}
 use Rattle.field.specs.Listed.{named}
 use Rattle.field.proofs.listed.named.Statement.{statement}
 use Rattle.field.proofs.listed.named.Tie as tie
@@ -32,7 +32,7 @@ cast-if1 c = omega (arith, c.shared-slice-known.given c.before.before.loop.j)
 returns : tie.Need-returns invariant-loop decreases-loop
 returns c =
     let a = c.before.before.before.before.args in
-    sym (ap (λ (l : List ℕ). named l a.u) (sym (map_self (take a.n a.units.now))) ∙ unnamed-hit (λ x. x) a.units.now a.n c.before.before.before.loop.j a.u c.before.before.before.before.requires (omega arith) c.if1.true)
+    sym (ap (λ (l : List ℕ). named l a.u) (sym (map_self (take a.n a.units.now))) ∙ unnamed_hit (λ x. x) a.units.now a.n c.before.before.before.loop.j a.u c.before.before.before.before.requires (omega arith) c.if1.true)
 
 add-j : tie.Need-overflow-add-j invariant-loop decreases-loop
 add-j c = search rules

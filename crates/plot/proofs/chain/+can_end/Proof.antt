@@ -10,8 +10,8 @@ use borrow.Fn.Kinds.{In}
 use borrow.Fn.PlainCycle.{Measures, is, falls, and}
 use Rattle.plot.specs.Trail.{trail_of, unused}
 use Rattle.plot.proofs.Plots.{next_below}
-use Rattle.plot.proofs.Trails.{one_left, push-uses}
-use Rattle.plot.proofs.Ending.{Endless, can_none, can_rest, can-via, endless, endless_first, endless_held, endless_off, endless-via}
+use Rattle.plot.proofs.Trails.{one_left, push_uses}
+use Rattle.plot.proofs.Ending.{Endless, can_none, can_rest, can_via, endless, endless_first, endless_held, endless_off, endless_via}
 use Rattle.plot.proofs.chain.can_end.Reads as can-end
 use Rattle.plot.proofs.chain.can_end.Kinds as can-end-kinds
 use Rattle.plot.proofs.chain.+can_end.Lts-can_end as can-end-lts
@@ -92,11 +92,11 @@ can-end-has-rest-requires-2 t c κs = (
 )
 
 can-end-returns-2 : (t : ℕ) → can-end-lts.Need-returns-2 (can-end-claims t) (can-end-at t) can-end.Post can-end-Inv-loop can-end-μ-loop
-can-end-returns-2 t c = sym (can-via _ _ _ _ (one_left c.before.before.before.before.before.before.before.before.before.before.before.before.before.before.requires.1.1) _ _ (omega arith) (sym c.before.before.before.before.before.before.before.before.next-in.ensures ∙ c.before.before.before.before.before.before.z.given.1) (sym c.before.before.before.before.before.before.before.before.before.before.before.before.before.has_rest.ensures ∙ c.before.before.before.before.before.before.before.before.before.before.before.before.if1.false) (sym c.before.before.before.before.yields.ensures ∙ not-false _ c.before.before.before.if2.false) _ c.before.before.before.before.before.before.before.before.before.before.before.longer.ensures.0 (can_rest _ _ _ _ (omega arith) (sym c.before.has-rest2.ensures ∙ c.if4.true)))
+can-end-returns-2 t c = sym (can_via _ _ _ _ (one_left c.before.before.before.before.before.before.before.before.before.before.before.before.before.before.requires.1.1) _ _ (omega arith) (sym c.before.before.before.before.before.before.before.before.next-in.ensures ∙ c.before.before.before.before.before.before.z.given.1) (sym c.before.before.before.before.before.before.before.before.before.before.before.before.before.has_rest.ensures ∙ c.before.before.before.before.before.before.before.before.before.before.before.before.if1.false) (sym c.before.before.before.before.yields.ensures ∙ not-false _ c.before.before.before.if2.false) _ c.before.before.before.before.before.before.before.before.before.before.before.longer.ensures.0 (can_rest _ _ _ _ (omega arith) (sym c.before.has-rest2.ensures ∙ c.if4.true)))
 
 can-end-loop-again-3 : (t : ℕ) → can-end-lts.Need-loop-preserved-3 (can-end-claims t) (can-end-at t) can-end.Post can-end-Inv-loop
     can-end-μ-loop
-can-end-loop-again-3 t c = endless-via c.before.before.before.before.before.before.before.before.before.before.loop.invariant _
+can-end-loop-again-3 t c = endless_via c.before.before.before.before.before.before.before.before.before.before.loop.invariant _
     (sym c.before.before.before.before.before.before.before.before.next-in.ensures ∙ c.before.before.before.before.before.before.z.given.1) _ c.before.before.before.before.before.before.before.before.before.before.before.longer.ensures.0
     (can_none _ _ _ _ (omega arith) (omega arith) (sym c.before.has-rest2.ensures ∙ c.if4.false))
 
@@ -107,15 +107,15 @@ can-end-can-end-requires t c κs =
     let used = c.before.before.before.before.before.before.before.before.before.longer.ensures in
     let below = next_below _ _ _ _ (sym c.before.before.before.before.before.before.next-in.ensures
     ∙ c.before.before.before.before.z.given.1) in
-    let pushed = push-uses _ _ used.0 below (sym c.before.before.yields.ensures ∙ not-false _ c.before.if2.false) in
+    let pushed = push_uses _ _ used.0 below (sym c.before.before.yields.ensures ∙ not-false _ c.before.if2.false) in
     (omega (arith, p.0, pushed), (p.1.0, omega arith, used.1, below))
 
 can-end-returns-3 : (t : ℕ) → can-end-lts.Need-returns-3 (can-end-claims t) (can-end-at t) can-end.Post can-end-Inv-loop can-end-μ-loop
-can-end-returns-3 t c = sym (can-via _ _ _ _ (one_left c.before.before.before.before.before.before.before.before.before.before.before.before.before.before.requires.1.1) _ _ (omega arith) (sym c.before.before.before.before.before.before.before.before.next-in.ensures ∙ c.before.before.before.before.before.before.z.given.1) (sym c.before.before.before.before.before.before.before.before.before.before.before.before.before.has_rest.ensures ∙ c.before.before.before.before.before.before.before.before.before.before.before.before.if1.false) (sym c.before.before.before.before.yields.ensures ∙ not-false _ c.before.before.before.if2.false) _ c.before.before.before.before.before.before.before.before.before.before.before.longer.ensures.0 (sym c.before.can-end.ensures ∙ c.if5.true))
+can-end-returns-3 t c = sym (can_via _ _ _ _ (one_left c.before.before.before.before.before.before.before.before.before.before.before.before.before.before.requires.1.1) _ _ (omega arith) (sym c.before.before.before.before.before.before.before.before.next-in.ensures ∙ c.before.before.before.before.before.before.z.given.1) (sym c.before.before.before.before.before.before.before.before.before.before.before.before.before.has_rest.ensures ∙ c.before.before.before.before.before.before.before.before.before.before.before.before.if1.false) (sym c.before.before.before.before.yields.ensures ∙ not-false _ c.before.before.before.if2.false) _ c.before.before.before.before.before.before.before.before.before.before.before.longer.ensures.0 (sym c.before.can-end.ensures ∙ c.if5.true))
 
 can-end-loop-again-4 : (t : ℕ) → can-end-lts.Need-loop-preserved-4 (can-end-claims t) (can-end-at t) can-end.Post can-end-Inv-loop
     can-end-μ-loop
-can-end-loop-again-4 t c = endless-via c.before.before.before.before.before.before.before.before.before.before.loop.invariant _
+can-end-loop-again-4 t c = endless_via c.before.before.before.before.before.before.before.before.before.before.loop.invariant _
     (sym c.before.before.before.before.before.before.before.before.next-in.ensures ∙ c.before.before.before.before.before.before.z.given.1) _ c.before.before.before.before.before.before.before.before.before.before.before.longer.ensures.0
     (sym c.before.can-end.ensures ∙ c.if5.false)
 

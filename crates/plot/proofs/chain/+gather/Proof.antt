@@ -12,9 +12,9 @@ use Rattle.plot.specs.Ends.{Marks}
 use Rattle.plot.specs.Trail.{trail_of, unused}
 use Rattle.plot.specs.Plot.{stand_in, next_in}
 use Rattle.plot.proofs.Plots.{next_below}
-use Rattle.plot.proofs.Trails.{one_left, push-uses}
-use Rattle.plot.proofs.Ends.{close_more, close_step, end_via, ends_rest, ends-via, marks_as, marks-left}
-use Rattle.plot.proofs.Ends.{up_to, upto_all, upto-ends, upto-held, upto_none, upto_skip, via_off}
+use Rattle.plot.proofs.Trails.{one_left, push_uses}
+use Rattle.plot.proofs.Ends.{close_more, close_step, end_via, ends_rest, ends_via, marks_as, marks_left}
+use Rattle.plot.proofs.Ends.{up_to, upto_all, upto_ends, upto_held, upto_none, upto_skip, via_off}
 use Rattle.plot.proofs.chain.gather.Reads as gather
 use Rattle.plot.proofs.chain.gather.Kinds as gather-kinds
 use Rattle.plot.proofs.chain.+gather.Lts-gather as gather-lts
@@ -111,7 +111,7 @@ gather-yields-requires t c κs = (
 gather-loop-again-2 : (t : ℕ) → gather-lts.Need-loop-preserved-2 (gather-claims t) (gather-at t) gather.Post gather-Inv-loop gather-μ-loop
 gather-loop-again-2 t c = (
   omega arith,
-  upto-held _ _ _ _ _ _ (sym c.before.before.before.before.before.next-in.ensures ∙ c.before.before.before.z.given.1) _ c.before.before.before.before.before.before.before.loop.invariant.1 (sym c.before.yields.ensures ∙ not-true _ c.if2.true) refl,
+  upto_held _ _ _ _ _ _ (sym c.before.before.before.before.before.next-in.ensures ∙ c.before.before.before.z.given.1) _ c.before.before.before.before.before.before.before.loop.invariant.1 (sym c.before.yields.ensures ∙ not-true _ c.if2.true) refl,
 )
 
 gather-mark-last-requires : (t : ℕ) → gather-lts.Need-mark-last-requires (gather-claims t) (gather-at t) gather.Post gather-Inv-loop
@@ -126,7 +126,7 @@ gather-mark-last-requires t c κs = let p = c.before.before.before.before.before
 gather-loop-again-3 : (t : ℕ) → gather-lts.Need-loop-preserved-3 (gather-claims t) (gather-at t) gather.Post gather-Inv-loop gather-μ-loop
 gather-loop-again-3 t c = (
   omega arith,
-  upto-ends _ _ _ _ _ _ (sym c.before.before.before.before.before.before.before.before.next-in.ensures ∙ c.before.before.before.before.before.before.z.given.1) _ _ c.before.before.before.before.before.before.before.before.before.before.loop.invariant.1 (sym c.before.before.before.before.yields.ensures ∙ not-false _ c.before.before.before.if2.false) c.before.before.before.before.before.before.before.before.before.before.before.longer.ensures.0 (marks-left _ _ _ _ (omega
+  upto_ends _ _ _ _ _ _ (sym c.before.before.before.before.before.before.before.before.next-in.ensures ∙ c.before.before.before.before.before.before.z.given.1) _ _ c.before.before.before.before.before.before.before.before.before.before.loop.invariant.1 (sym c.before.before.before.before.yields.ensures ∙ not-false _ c.before.before.before.if2.false) c.before.before.before.before.before.before.before.before.before.before.before.longer.ensures.0 (marks_left _ _ _ _ (omega
       arith) c.mark-last.ensures),
 )
 
@@ -139,7 +139,7 @@ gather-gather-requires t c κs =
     let step = sym c.before.before.before.before.before.before.before.next-in.ensures
     ∙ c.before.before.before.before.before.z.given.1 in
     let loose = sym c.before.before.before.yields.ensures ∙ not-false _ c.before.before.if2.false in
-    let pushed = push-uses _ _ used.0 (next_below _ _ _ _ step) loose in
+    let pushed = push_uses _ _ used.0 (next_below _ _ _ _ step) loose in
     let long = c.before.before.before.before.before.before.before.before.before.loop.invariant.1.long in
     let close = close_step _ _ _ _ step q.5 in
     (omega (arith, p.0, pushed), (q.0, long ∙ q.1, q.2, omega arith, used.1, close_more _ (omega (arith, q.4.few)) close))
@@ -147,11 +147,11 @@ gather-gather-requires t c κs =
 gather-loop-again-4 : (t : ℕ) → gather-lts.Need-loop-preserved-4 (gather-claims t) (gather-at t) gather.Post gather-Inv-loop gather-μ-loop
 gather-loop-again-4 t c = (
   omega arith,
-  upto-ends _ _ _ _ _ _ (sym c.before.before.before.before.before.before.before.before.next-in.ensures ∙ c.before.before.before.before.before.before.z.given.1) _ _ c.before.before.before.before.before.before.before.before.before.before.loop.invariant.1 (sym c.before.before.before.before.yields.ensures ∙ not-false _ c.before.before.before.if2.false) c.before.before.before.before.before.before.before.before.before.before.before.longer.ensures.0 c.gather.ensures,
+  upto_ends _ _ _ _ _ _ (sym c.before.before.before.before.before.before.before.before.next-in.ensures ∙ c.before.before.before.before.before.before.z.given.1) _ _ c.before.before.before.before.before.before.before.before.before.before.loop.invariant.1 (sym c.before.before.before.before.yields.ensures ∙ not-false _ c.before.before.before.if2.false) c.before.before.before.before.before.before.before.before.before.before.before.longer.ensures.0 c.gather.ensures,
 )
 
 gather-returns-2 : (t : ℕ) → gather-lts.Need-returns-2 (gather-claims t) (gather-at t) gather.Post gather-Inv-loop gather-μ-loop
-gather-returns-2 t c = upto_all _ (omega arith) (omega arith) (λ y. ends-via _ _ _ _ _ y (one_left c.before.before.before.before.before.requires.1.3) (sym c.before.before.before.before.has_rest.ensures ∙ c.before.before.before.if1.false)) c.before.loop.invariant.1
+gather-returns-2 t c = upto_all _ (omega arith) (omega arith) (λ y. ends_via _ _ _ _ _ y (one_left c.before.before.before.before.before.requires.1.3) (sym c.before.before.before.before.has_rest.ensures ∙ c.before.before.before.if1.false)) c.before.loop.invariant.1
 
 pub +gather-spec : {M : Type 1} → statement M
 +gather-spec =

@@ -1,4 +1,4 @@
-use Rattle.plot.proofs.Ends.{close_step, up_to, upto_none, upto_skip, upto_all, upto_rest, upto-stay, rest_at, rest_off, rest_all_lem}
+use Rattle.plot.proofs.Ends.{close_step, up_to, upto_none, upto_skip, upto_all, upto_rest, upto_stay, rest_at, rest_off, rest_all_lem}
 use Rattle.plot.proofs.Plots.{next_below}
 use Rattle.plot.specs.Ends.{Close, MarkSet, Marks}
 use Rattle.plot.specs.Trail.{trail_of}
@@ -82,7 +82,7 @@ loop-again-2 c =
       omega arith,
       ⊎_elim
           (λ w. upto_rest _ _ _ _ _ _ e k (sym r ∙ w.0.taken) (z-close c.before) (subst (MarkSet _ _) (sym w.3) w.2.ensures))
-          (λ w. upto-stay _ _ _ _ _ _ e k (sym r ∙ w.0.left) w.1)
+          (λ w. upto_stay _ _ _ _ _ _ e k (sym r ∙ w.0.left) w.1)
           c.if1.branch,
     )
 

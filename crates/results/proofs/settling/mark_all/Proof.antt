@@ -4,7 +4,7 @@ use Prim.Native.Nat.{◌-◌}
 use mathlib.Core.Path.{refl}
 use native.Mathlib.Omega.{arith}
 use borrow.Author.Rules.{rules}
-use Rattle.results.proofs.Settles.{Marking, fought_byte, marking_all, marking-more, marking_none}
+use Rattle.results.proofs.Settles.{Marking, fought_byte, marking_all, marking_more, marking_none}
 use Rattle.results.proofs.settling.mark_all.Statement.{statement}
 use Rattle.results.proofs.settling.mark_all.Tie as tie
 
@@ -42,7 +42,7 @@ loop-less : tie.Need-loop-smaller invariant-loop decreases-loop
 loop-less c = search rules
 
 loop-again : tie.Need-loop-preserved invariant-loop decreases-loop
-loop-again c = marking-more c.before.before.before.before.before.before.before.before.before.loop.invariant (omega arith) refl c.before.before.before.before.before.marks.ensures.is c.before.before.before.with.ensures c.before.before.mark.ensures
+loop-again c = marking_more c.before.before.before.before.before.before.before.before.before.loop.invariant (omega arith) refl c.before.before.before.before.before.marks.ensures.is c.before.before.before.with.ensures c.before.before.mark.ensures
 
 same_length : tie.Need-same-length invariant-loop decreases-loop
 same_length c = omega (arith, c.before.loop.invariant.laid.fits.whole, c.before.before.before.before.requires.fits.whole)

@@ -4,7 +4,7 @@
 use Prim.Native.Nat.{◌-◌}
 use native.Mathlib.Omega.{arith}
 use borrow.Author.Rules.{rules}
-use Rattle.results.proofs.Settles.{Routing, laid_once, routing_all, routing-more, routing_none}
+use Rattle.results.proofs.Settles.{Routing, laid_once, routing_all, routing_more, routing_none}
 use Rattle.results.proofs.settling.route_hexes.Statement.{statement}
 use Rattle.results.proofs.settling.route_hexes.Tie as tie
 
@@ -27,7 +27,7 @@ loop-less : tie.Need-loop-smaller invariant-loop decreases-loop
 loop-less c = search rules
 
 loop-again : tie.Need-loop-preserved invariant-loop decreases-loop
-loop-again c = routing-more c.before.before.before.before.before.before.before.before.requires.0.shaped c.before.before.before.before.before.loop.invariant (omega arith) c.before.before.route-once.ensures (laid_once c.before.before.before.before.before.loop.invariant.laid c.before.before.route-once.ensures)
+loop-again c = routing_more c.before.before.before.before.before.before.before.before.requires.0.shaped c.before.before.before.before.before.loop.invariant (omega arith) c.before.before.route-once.ensures (laid_once c.before.before.before.before.before.loop.invariant.laid c.before.before.route-once.ensures)
 
 same_length : tie.Need-same-length invariant-loop decreases-loop
 same_length c = omega (arith, c.before.loop.invariant.laid.fits.whole, c.before.before.before.before.requires.0.fits.whole)

@@ -5,7 +5,7 @@ use mathlib.Core.Path.{◌∙◌, sym}
 use native.Mathlib.Omega.{arith}
 use borrow.Author.Rules.{rules}
 use Rattle.position.specs.Layout.{hex}
-use Rattle.field.proofs.Lists.{Unnamed, unnamed_all, unnamed-hit, unnamed_more, unnamed_none}
+use Rattle.field.proofs.Lists.{Unnamed, unnamed_all, unnamed_hit, unnamed_more, unnamed_none}
 use Rattle.results.proofs.settling.stood_before.Statement.{statement}
 use Rattle.results.proofs.settling.stood_before.Tie as tie
 
@@ -31,7 +31,7 @@ hex-requires : tie.Need-hex-requires invariant-loop decreases-loop
 hex-requires c κs = search rules
 
 returns : tie.Need-returns invariant-loop decreases-loop
-returns c = let a = c.before.before.before.before.before.before.before.args in sym (unnamed-hit (hex a.p.now) a.units.now a.n c.before.before.before.before.loop.j a.h c.before.before.before.before.before.before.before.requires.1 (omega arith) (sym c.before.hex.ensures.is ∙ c.if1.true))
+returns c = let a = c.before.before.before.before.before.before.before.args in sym (unnamed_hit (hex a.p.now) a.units.now a.n c.before.before.before.before.loop.j a.h c.before.before.before.before.before.before.before.requires.1 (omega arith) (sym c.before.hex.ensures.is ∙ c.if1.true))
 
 add-j : tie.Need-overflow-add-j invariant-loop decreases-loop
 add-j c = search rules

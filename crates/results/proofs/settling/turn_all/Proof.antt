@@ -4,7 +4,7 @@ use Prim.Native.Nat.{◌-◌}
 use mathlib.Core.Path.{refl}
 use native.Mathlib.Omega.{arith}
 use borrow.Author.Rules.{rules}
-use Rattle.results.proofs.Settles.{Turning, turning_all, turning-more, turning_none}
+use Rattle.results.proofs.Settles.{Turning, turning_all, turning_more, turning_none}
 use Rattle.results.proofs.settling.turn_all.Statement.{statement}
 use Rattle.results.proofs.settling.turn_all.Tie as tie
 
@@ -36,7 +36,7 @@ loop-less : tie.Need-loop-smaller invariant-loop decreases-loop
 loop-less c = search rules
 
 loop-again : tie.Need-loop-preserved invariant-loop decreases-loop
-loop-again c = turning-more c.before.before.before.before.before.before.loop.invariant (omega arith) refl c.before.before.turn-over.ensures
+loop-again c = turning_more c.before.before.before.before.before.before.loop.invariant (omega arith) refl c.before.before.turn-over.ensures
 
 same_length : tie.Need-same-length invariant-loop decreases-loop
 same_length c = omega (arith, c.before.loop.invariant.laid.fits.whole, c.before.before.before.before.requires.fits.whole)

@@ -7,11 +7,11 @@ use borrow.Author.Tests.{not-false, not-true}
 use Rattle.position.specs.Board.{board}
 use Rattle.ruling.specs.Judged.{TestedOf}
 use Rattle.retreat.proofs.Groups.{
-  passes-group,
+  passes_group,
   stops_hex,
   stops_long,
   stops_many,
-  stops-pushes,
+  stops_pushes,
   stops_role,
   stops_route,
   stops_stage,
@@ -68,7 +68,7 @@ returns-5 c =
     let e = c.before.before.before.before.before.before.before in
     let s = e.before.before.before.before.before.before.args in
     let t = c.before.before.before.before in
-    stops-pushes s.p.now (board s.p.now) s.h s.route.now s.pushes.now
+    stops_pushes s.p.now (board s.p.now) s.h s.route.now s.pushes.now
     (omega (arith, e.before.before.if1.false)) (omega (arith, e.before.if2.false))
     (omega (arith, e.if3.false, e.before.before.before.before.before.before.requires.view.hexes))
     (subst (TestedOf _ _ _) t.enum_told.given.1 t.before.before.on-map-all.ensures).0
@@ -116,7 +116,7 @@ returns-8 c =
     let s = e.before.before.before.before.before.before.args in
     let t = c.before.before.before.before.before.before.before in
     let u = c.before.before.before.before in
-    passes-group s.p.now (board s.p.now) s.h s.route.now s.pushes.now
+    passes_group s.p.now (board s.p.now) s.h s.route.now s.pushes.now
     (omega (arith, e.before.before.if1.false)) (omega (arith, e.before.if2.false))
     (omega (arith, e.if3.false, e.before.before.before.before.before.before.requires.view.hexes))
     (subst (TestedOf _ _ _) t.enum_told.given.1 t.before.before.on-map-all.ensures).0

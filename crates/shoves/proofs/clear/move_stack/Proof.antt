@@ -7,7 +7,7 @@ use borrow.Author.Rules.{rules}
 use mathlib.Core.Path.{refl}
 use Rattle.shoves.specs.Group.{stack}
 use Rattle.shoves.specs.Shoves.{shifts, stack_to}
-use Rattle.shoves.proofs.Sweeps.{Sweep, alike_standing, own_shifts, standing, sweep-all, sweep_more, sweep_none}
+use Rattle.shoves.proofs.Sweeps.{Sweep, alike_standing, own_shifts, standing, sweep_all, sweep_more, sweep_none}
 use Rattle.shoves.proofs.clear.move_stack.Statement.{statement}
 use Rattle.shoves.proofs.clear.move_stack.Tie as tie
 
@@ -39,7 +39,7 @@ same_length c = omega (arith, c.before.loop.invariant.laid.fits.whole, c.before.
 
 returns : tie.Need-returns invariant-loop decreases-loop
 unfolding stack stack_to
-returns c = sweep-all c.before.loop.invariant (omega arith) c.before.before.before.requires.view.count
+returns c = sweep_all c.before.loop.invariant (omega arith) c.before.before.before.requires.view.count
 
 pub move-stack-spec : {M : Type 1} → statement M
 move-stack-spec = tie.close (tie.spec invariant-loop decreases-loop loop-holds move-one-requires add-u loop-less loop-again same_length returns)

@@ -7,7 +7,7 @@ use borrow.Author.Rules.{rules}
 use mathlib.Core.Path.{refl}
 use Rattle.shoves.specs.Group.{group}
 use Rattle.shoves.specs.Shoves.{frees}
-use Rattle.shoves.proofs.Sweeps.{Sweep, alike_owing, own_frees, owing, sweep-all, sweep_more, sweep_none}
+use Rattle.shoves.proofs.Sweeps.{Sweep, alike_owing, own_frees, owing, sweep_all, sweep_more, sweep_none}
 use Rattle.shoves.proofs.group.free_all.Statement.{statement}
 use Rattle.shoves.proofs.group.free_all.Tie as tie
 
@@ -39,7 +39,7 @@ same_length c = omega (arith, c.before.loop.invariant.laid.fits.whole, c.before.
 
 returns : tie.Need-returns invariant-loop decreases-loop
 unfolding group
-returns c = sweep-all c.before.loop.invariant (omega arith) c.before.before.before.requires.view.count
+returns c = sweep_all c.before.loop.invariant (omega arith) c.before.before.before.requires.view.count
 
 pub free-all-spec : {M : Type 1} → statement M
 free-all-spec = tie.close (tie.spec invariant-loop decreases-loop loop-holds free-one-requires add-u loop-less loop-again same_length returns)

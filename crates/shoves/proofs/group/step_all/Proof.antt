@@ -7,7 +7,7 @@ use borrow.Author.Rules.{rules}
 use Rattle.position.specs.Board.{board}
 use Rattle.shoves.specs.Group.{group}
 use Rattle.shoves.specs.Shoves.{goes_to, group_to}
-use Rattle.shoves.proofs.Sweeps.{Sweep, alike_owing, own_goes, owing, sweep-all, sweep_more, sweep_none}
+use Rattle.shoves.proofs.Sweeps.{Sweep, alike_owing, own_goes, owing, sweep_all, sweep_more, sweep_none}
 use Rattle.shoves.proofs.Turns.{goes_same}
 use Rattle.shoves.proofs.group.step_all.Statement.{statement}
 use Rattle.shoves.proofs.group.step_all.Tie as tie
@@ -41,7 +41,7 @@ same_length c = omega (arith, c.before.loop.invariant.laid.fits.whole, c.before.
 
 returns : tie.Need-returns invariant-loop decreases-loop
 unfolding group group_to
-returns c = sweep-all c.before.loop.invariant (omega arith) c.before.before.before.requires.view.count
+returns c = sweep_all c.before.loop.invariant (omega arith) c.before.before.before.requires.view.count
 
 pub step-all-spec : {M : Type 1} → statement M
 step-all-spec = tie.close (tie.spec invariant-loop decreases-loop loop-holds step-one-requires add-u loop-less loop-again same_length returns)

@@ -5,7 +5,7 @@ use Prim.Native.Nat.{◌+◌, ◌-◌, ◌/◌, ◌<◌}
 use borrow.Author.Rules.{rules}
 use native.Mathlib.Nat.{mod-lt, mul_comm, div-lt_iff_lt-mul}
 use Rattle.grid.proofs.Arith.{small, column, row}
-use Rattle.survey.proofs.Regions.{positive, placed, hex-there}
+use Rattle.survey.proofs.Regions.{positive, placed, hex_there}
 use Rattle.survey.proofs.region.hex_of.Statement.{statement}
 use Rattle.survey.proofs.region.hex_of.Tie as tie
 
@@ -65,7 +65,7 @@ add-t11 c =
 returns-5 : tie.Need-returns-5
 returns-5 c =
     let outset = c.before.before.before.before.before.before.before.before in
-    hex-there outset.requires.0 outset.requires.2 (omega arith) (omega arith) (omega arith) (omega arith)
+    hex_there outset.requires.0 outset.requires.2 (omega arith) (omega arith) (omega arith) (omega arith)
 
 pub hex-of-spec : {M : Type 1} → statement M
 hex-of-spec =

@@ -4,7 +4,7 @@ use mathlib.Core.Path.{refl}
 use native.Mathlib.Omega.{arith}
 use borrow.Author.Rules.{rules}
 use Rattle.walk.proofs.Steps.{beyond}
-use Rattle.walk.proofs.Goings.{goes-home}
+use Rattle.walk.proofs.Goings.{goes_home}
 use Rattle.walking.proofs.step.home.Statement.{statement}
 use Rattle.walking.proofs.step.home.Tie as tie
 
@@ -47,37 +47,37 @@ arrive-requires-6 c κs = search rules
 returns : tie.Need-returns
 returns c =
     let s = c.before.before.before in
-    goes-home s.args.w s.args.h s.args.s.hex s.args.dir 0 4 c.before.north.result c.arrive.result
+    goes_home s.args.w s.args.h s.args.s.hex s.args.dir 0 4 c.before.north.result c.arrive.result
     c.before.before.match.keys1 c.before.north.ensures c.arrive.ensures refl
 
 returns-2 : tie.Need-returns-2
 returns-2 c =
     let s = c.before.before.before in
-    goes-home s.args.w s.args.h s.args.s.hex s.args.dir 1 5 c.before.north-east.result c.arrive2.result
+    goes_home s.args.w s.args.h s.args.s.hex s.args.dir 1 5 c.before.north-east.result c.arrive2.result
     c.before.before.match.keys2 c.before.north-east.ensures c.arrive2.ensures refl
 
 returns-3 : tie.Need-returns-3
 returns-3 c =
     let s = c.before.before.before in
-    goes-home s.args.w s.args.h s.args.s.hex s.args.dir 2 6 c.before.south-east.result c.arrive3.result
+    goes_home s.args.w s.args.h s.args.s.hex s.args.dir 2 6 c.before.south-east.result c.arrive3.result
     c.before.before.match.keys3 c.before.south-east.ensures c.arrive3.ensures refl
 
 returns-4 : tie.Need-returns-4
 returns-4 c =
     let s = c.before.before.before in
-    goes-home s.args.w s.args.h s.args.s.hex s.args.dir 3 1 c.before.south.result c.arrive4.result
+    goes_home s.args.w s.args.h s.args.s.hex s.args.dir 3 1 c.before.south.result c.arrive4.result
     c.before.before.match.keys4 c.before.south.ensures c.arrive4.ensures refl
 
 returns-5 : tie.Need-returns-5
 returns-5 c =
     let s = c.before.before.before in
-    goes-home s.args.w s.args.h s.args.s.hex s.args.dir 4 2 c.before.south-west.result c.arrive5.result
+    goes_home s.args.w s.args.h s.args.s.hex s.args.dir 4 2 c.before.south-west.result c.arrive5.result
     c.before.before.match.keys5 c.before.south-west.ensures c.arrive5.ensures refl
 
 returns-6 : tie.Need-returns-6
 returns-6 c =
     let s = c.before.before.before in
-    goes-home s.args.w s.args.h s.args.s.hex s.args.dir 5 3 c.before.north-west.result c.arrive6.result
+    goes_home s.args.w s.args.h s.args.s.hex s.args.dir 5 3 c.before.north-west.result c.arrive6.result
     c.before.before.match.keys6 c.before.north-west.ensures c.arrive6.ensures refl
 
 returns-7 : tie.Need-returns-7

@@ -5,7 +5,7 @@ use borrow.Author.Rules.{rules}
 use Rattle.position.proofs.Sides.{beside_view, area_view}
 use Rattle.position.specs.Board.{ground}
 use Rattle.walk.proofs.Steps.{two_way}
-use Rattle.walk.proofs.Goings.{steps-home, steps_in}
+use Rattle.walk.proofs.Goings.{steps_home, steps_in}
 use Rattle.walking.proofs.step.step.Statement.{statement}
 use Rattle.walking.proofs.step.step.Tie as tie
 
@@ -23,7 +23,7 @@ returns c =
     let s = c.before.before.before.before.before.before.before.before.before in
     let d = c.before.before.before.before.before.look-0 in
     let t = c.before.before.leave in
-    steps-home (two_way (ground s.args.p.now)) s.args.v.width s.args.v.height (beside_view s.requires.0.0.view)
+    steps_home (two_way (ground s.args.p.now)) s.args.v.width s.args.v.height (beside_view s.requires.0.0.view)
     s.args.buf.now s.args.s.hex s.args.from d.result d.ensures
     t.new.1.0 t.result c.before.before.before.before.if1.true t.ensures.0 t.ensures.1
 
