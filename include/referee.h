@@ -82,11 +82,6 @@ uint64_t ia_advance(uint8_t *pos, size_t pos_len, uint32_t unit, uint32_t hex);
  * Refusals in order: 1; 2 wrong stage. */
 uint64_t ia_close(uint8_t *pos, size_t pos_len);
 
-/* Why a position is not accepted, for the organiser: 0 exactly if it is accepted; else the low byte is the number of a line of the
- * rules that it breaks, and bits 8 to 23 are the place where: a unit, a hex, a column .. docs/CALLS.md has the lines. Which of
- * several broken lines is named is not promised. The position is only read. */
-uint64_t ia_why(const uint8_t *pos, size_t pos_len);
-
 #ifdef __cplusplus
 }
 #endif

@@ -14,7 +14,7 @@ use Rattle.position.specs.Board.{Board, force_of}
 use Rattle.position.specs.Crowd.{crowd}
 use Rattle.position.proofs.Tallies.{not_both, either, same_or, equals, equals_yes, equals_no, equals_is, tally_zero, tally_hit, tally_miss, tally_pos, tally_some, tally_grows}
 use Rattle.position.proofs.Crowds.{crowd_is}
-use Rattle.acceptance.specs.Asked.{StackOk, StacksIn}
+use Rattle.acceptance.specs.Asked.{StackOk, StacksIn, StacksOk}
 use Rattle.acceptance.specs.Seats.{block, table, seat_of, Empty, AddsTo, first, more, strange, full, Seat, Seated, Counts, Crowded, SeatedOf}
 
 module _ (b : Board) where
@@ -134,14 +134,17 @@ module _ {b : Board} {base u : ℕ} {s : List ℕ} (g : Seated b base u s) (k x 
       at (strange n q z) = absurd (omega arith)
       at (full t z) = absurd (omega arith)
 
-  seat_refused : d ≡ 0 → u < b.units.count → StackOk b u → ⊥
+  seat_refused : d ≡ 0 → u < b.units.count → StacksIn b base (base + block) → ⊥
   seat_refused p c o = at a
     where
+      stack : StackOk b u
+      stack = o u c (omega arith) (omega arith)
+
       at : AddsTo x f d → ⊥
       at (first z q) = omega arith
       at (more n q v z) = omega arith
-      at (strange n q z) = strangers b u (base + k) e here c o (λ t. n (here.none t)) (λ w. q (w ∙ sym of))
-      at (full t z) = fourth b u (base + k) e here c o t
+      at (strange n q z) = strangers b u (base + k) e here c stack (λ t. n (here.none t)) (λ w. q (w ∙ sym of))
+      at (full t z) = fourth b u (base + k) e here c stack t
 
 -- the same by its byte m: in the lower half, and in the upper one
 module _ {b : Board} {base u : ℕ} {s : List ℕ} (i m f d : ℕ) (l : i < table) (is : m ≡ get_or s i 0) (of : f ≡ force_of b u) (r : f < 4) where
@@ -182,7 +185,7 @@ module _ {b : Board} {base u : ℕ} {s : List ℕ} (i m f d : ℕ) (l : i < tabl
       ∙ ap (λ (k : ℕ). k / 16) (get_or-set_other s i (j - table) (m + 16 * d) 0 (λ z. n (omega arith))) ∙ sym (seat_high s j o)))
       y
 
-  module _ (z : d ≡ 0) (c : u < b.units.count) (g : Seated b base u s) (o : StackOk b u) where
+  module _ (z : d ≡ 0) (c : u < b.units.count) (g : Seated b base u s) (o : StacksIn b base (base + block)) where
     pub refused_low : b.units.state.hex u ≡ base + i → AddsTo (m % 16) f d → ⊥
     refused_low e a = seat_refused g i (m % 16) f d (omega arith) e (ap (λ (k : ℕ). k % 16) is ∙ sym (seat_low s i l)) of r a z c o
 
@@ -238,12 +241,12 @@ module _ {b : Board} {base u : ℕ} {s : List ℕ} (t : List ℕ) (r : Bool) whe
       at true e a = a.on g
       at false e a = not_both true refl e
 
-  pub overfull : not r ≡ true → SeatedOf b base u s t r → Crowded b base u s
-  overfull e a = at r e a
+  pub overfull : not r ≡ true → SeatedOf b base u s t r → Seated b base u s → StacksIn b base (base + block) → ⊥
+  overfull e a g o = at r e a
     where
-      at : (r : Bool) → not r ≡ true → SeatedOf b base u s t r → Crowded b base u s
-      at true e a = absurd (not_both false e refl)
-      at false e a = a
+      at : (r : Bool) → not r ≡ true → SeatedOf b base u s t r → ⊥
+      at true e a = not_both false e refl
+      at false e a = a.under g o
 
 -- all units are counted
 pub all_seated : {b : Board} {base n : ℕ} {s : List ℕ} → Seated b base n s → n ≡ b.units.count → StacksIn b base (base + block)
@@ -268,3 +271,8 @@ more_stacks {b} {base} s t u l low high =
     either (ltb (b.units.state.hex u) base)
     (λ e. s u l low (ltb-true (b.units.state.hex u) base e))
     (λ e. t u l (ltb-false (b.units.state.hex u) base e) high)
+
+-- where the stacks of the map are in order, those of a block are, unless a unit stands past the map
+pub block_of : {b : Board} (base next : ℕ) → ((u : ℕ) → u < b.units.count → b.units.state.hex u < next → b.units.state.hex u < b.map.hexes)
+    → StacksOk b → StacksIn b base next
+block_of base next on o u l low high = o u l (omega arith) (on u l high)

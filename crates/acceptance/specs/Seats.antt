@@ -4,7 +4,7 @@
 use Rattle.std.specs.Prelude.{ℕ, ◌+◌, ◌-◌, ◌*◌, ◌/◌, ◌%◌, ◌<◌, ◌≡◌, Bool, true, false, cond, List, length, get_or, eqb, ltb}
 use Rattle.position.specs.Tally.{tally}
 use Rattle.position.specs.Board.{Board, force_of}
-use Rattle.acceptance.specs.Asked.{StackOk}
+use Rattle.acceptance.specs.Asked.{StacksIn}
 
 -- how many hexes a block has, and how many bytes its table
 abbrev pub block : ℕ
@@ -45,10 +45,9 @@ pub record Seated (b : Board) (base n : ℕ) (s : List ℕ) : Type 0 where
 pub record Counts (b : Board) (base u : ℕ) (s t : List ℕ) : Type 0 where
   pub on : Seated b base u s → Seated b base (u + 1) t
 
--- unit u, which stands on the block, has no room, or no place among another force
+-- unit u has no room, or no place among another force
 pub record Crowded (b : Board) (base u : ℕ) (s : List ℕ) : Type 0 where
-  pub there : b.units.state.hex u < base + block
-  pub under : Seated b base u s → StackOk b u → ⊥
+  pub under : Seated b base u s → StacksIn b base (base + block) → ⊥
 
 -- the answer of counting one unit more
 abbrev pub SeatedOf : Board → ℕ → ℕ → List ℕ → List ℕ → Bool → Type 0

@@ -199,8 +199,8 @@ module _
   below : {w : ℕ} → w < c.units.count → w < b.units.count
   below l = omega (arith, all_fixed.count)
 
-  one_force_lem : (r : ℕ) → (r ≡ 0 → ⊥) → OneForce c r
-  one_force_lem r n u l w k e f =
+  one_force : (r : ℕ) → (r ≡ 0 → ⊥) → OneForce c r
+  one_force r n u l w k e f =
       side r u (below l) n e
       (λ x i.
       side r w (below k) n f (λ _ j. attacker_force w j ∙ sym (attacker_force u i)) (λ y j. absurd (z.apart (x ∙ sym y))))
@@ -211,8 +211,8 @@ module _
   roles : RolesOk c
   roles =
       record {
-        owing = one_force_lem 1 (λ e. omega arith);
-        advancing = one_force_lem 2 (λ e. omega arith);
+        owing = one_force 1 (λ e. omega arith);
+        advancing = one_force 2 (λ e. omega arith);
         apart =
             λ u l w k e f h.
             side 1 u (below l) (λ x. omega arith) e

@@ -1,107 +1,84 @@
-// The lines of document 01 on routes: each function answers 0 if they are kept, else where one is broken.
-ghost use Rattle.std.specs.Prelude.{◌≡◌, true, ℕ, ◌+◌, ◌*◌, ◌<◌};
+// Whether the routes keep their lines of document 01.
+ghost use Rattle.std.specs.Prelude.{ℕ, ◌<◌};
 ghost use Rattle.position.specs.Layout.{route_count, route_hexes};
 ghost use Rattle.position.specs.Board.{board};
 ghost use Rattle.acceptance.specs.Accepted.{PlaceOk, LinkOk, RouteOk, RoutesOk};
-ghost use Rattle.position.specs.Laid.{Laid};
-ghost use Rattle.flaw.specs.Flaw.{Breaks, Flaw};
-ghost use Rattle.flaw.specs.Tells.{Tells};
-ghost use Rattle.checking.specs.Bare.{BareTo};
+ghost use Rattle.position.specs.Laid.{Laid, Says};
 
 use position::{View, layout, read};
 
 // A filled number follows a filled one, over an unblocked side.
-fn link_ok(p: &[u8], v: View, r: usize, j: usize) -> usize
-    requires { Laid p.now v × (r < route_count) × (j < route_hexes) }
-    ensures { Tells (Breaks p.now (route_hexes * r + j)) result (LinkOk (board p.now) r j) }
+fn link_ok(p: &[u8], v: View, r: usize, j: usize) -> bool
+    requires { Laid p.now v × (j < route_hexes) }
+    ensures { Says result (LinkOk (board p.now) r j) }
 {
     let here = read::route(p, v, r, j);
     let after = read::route(p, v, r, j + 1);
     if after == layout::NOWHERE {
-        return 0;
+        return true;
     }
     if here == layout::NOWHERE {
-        return flaw::ROUTE_FRONT;
+        return false;
     }
     if !ground::joined(p, v, here, after) {
-        return flaw::ROUTE_STEP;
+        return false;
     }
-    0
+    true
 }
 
-fn place_ok(p: &[u8], v: View, r: usize, j: usize) -> usize
-    requires { Laid p.now v × (r < route_count) × (j < route_hexes) }
-    ensures { Tells (Breaks p.now (route_hexes * r + j)) result (PlaceOk (board p.now) r j) }
+fn place_ok(p: &[u8], v: View, r: usize, j: usize) -> bool
+    requires { Laid p.now v × (j < route_hexes) }
+    ensures { Says result (PlaceOk (board p.now) r j) }
 {
-    let link = link_ok(p, v, r, j);
-    if link != 0 {
-        return link;
+    if !link_ok(p, v, r, j) {
+        return false;
     }
     let here = read::route(p, v, r, j);
     if here == layout::NOWHERE {
-        return 0;
+        return true;
     }
     if !ground::standable(p, v, here) {
-        return flaw::ROUTE_GROUND;
+        return false;
     }
-    0
+    true
 }
 
-// Whether route `r` has no hex. Most have none, and so there is nothing to follow.
-fn bare(p: &[u8], v: View, r: usize) -> bool
+fn places_ok(p: &[u8], v: View, r: usize) -> bool
     requires { Laid p.now v }
-    ensures { result ≡ true → BareTo (board p.now) r route_hexes }
+    ensures { Says result ((j : ℕ) → j < route_hexes → PlaceOk (board p.now) r j) }
 {
     for j in 0..4 {
-        if read::route(p, v, r, j) != layout::NOWHERE {
+        if !place_ok(p, v, r, j) {
             return false;
         }
     }
     true
 }
 
-fn places_ok(p: &[u8], v: View, r: usize) -> usize
+fn route_ok(p: &[u8], v: View, r: usize) -> bool
     requires { Laid p.now v × (r < route_count) }
-    ensures { Tells (Flaw p.now) result ((j : ℕ) → j < route_hexes → PlaceOk (board p.now) r j) }
+    ensures { Says result (RouteOk (board p.now) r) }
 {
-    if bare(p, v, r) {
-        return 0;
-    }
-    for j in 0..4 {
-        let line = place_ok(p, v, r, j);
-        if line != 0 {
-            return line + flaw::PLACE * (layout::ROUTE_HEXES * r + j);
-        }
-    }
-    0
-}
-
-fn route_ok(p: &[u8], v: View, r: usize) -> usize
-    requires { Laid p.now v × (r < route_count) }
-    ensures { Tells (Flaw p.now) result (RouteOk (board p.now) r) }
-{
-    let place = places_ok(p, v, r);
-    if place != 0 {
-        return place;
+    if !places_ok(p, v, r) {
+        return false;
     }
     if crowd::filled(p, v, r) {
-        return 0;
+        return true;
     }
     if crowd::filled(p, v, r + 1) {
-        return flaw::ROUTES_FIRST + flaw::PLACE * r;
+        return false;
     }
-    0
+    true
 }
 
-pub fn routes_ok(p: &[u8], v: View) -> usize
+pub fn routes_ok(p: &[u8], v: View) -> bool
     requires { Laid p.now v }
-    ensures { Tells (Flaw p.now) result (RoutesOk (board p.now)) }
+    ensures { Says result (RoutesOk (board p.now)) }
 {
     for r in 0..6 {
-        let flaw = route_ok(p, v, r);
-        if flaw != 0 {
-            return flaw;
+        if !route_ok(p, v, r) {
+            return false;
         }
     }
-    0
+    true
 }

@@ -1,16 +1,15 @@
 // The test of an order: its route step by step, each with the pushes that its chain takes.
 ghost use Rattle.std.specs.Prelude.{◌≡◌, ◌<◌, ◌≤◌, length};
-ghost use Rattle.survey.specs.Region.{RegionOk, place_in};
+ghost use Rattle.grid.specs.Region.{RegionOk, place_in};
 ghost use Rattle.chains.specs.Chain.{leads};
 ghost use Rattle.plot.specs.Plot.{next_in};
 ghost use Rattle.plot.specs.Trail.{trail_of, TrailOk};
 ghost use Rattle.plot.specs.Follow.{follows_in, TookIn, PushedOut, Stepped};
 
 use chains::Stand;
-use grid::Beside;
+use grid::region::Region;
+use grid::{Beside, region};
 use plot::{Took, chain};
-use survey::region;
-use survey::region::Region;
 
 // Whether place `z` is next to place `h`.
 fn leads(plot: &[u8; 182], h: usize, z: usize) -> bool
@@ -63,8 +62,17 @@ fn take(
     if !chain::yields(plot, t, h, z) {
         return Took::Wrong;
     }
-    let on = chain::longer(t, h, left);
-    take(plot, w, height, at, on, left - 1, z, pushes, k + 1)
+    take(
+        plot,
+        w,
+        height,
+        at,
+        chain::longer(t, h, left),
+        left - 1,
+        z,
+        pushes,
+        k + 1,
+    )
 }
 
 // The group pushes the stack in place `x` out of its road; the plot is then as the chain leaves it.

@@ -1,8 +1,11 @@
 pub mod Arith
 pub mod Tests
 pub mod Step
+pub mod Spots
 pub mod Far
 pub mod Walks
 pub mod Laws
+pub mod Rims
 pub mod Close
+pub mod Regions
 pub mod Rulings

@@ -1,4 +1,9 @@
 // Hexes of a map, their neighbours and distances.
+pub mod near;
+pub mod region;
+pub mod rim;
+pub mod row;
+
 ghost use Rattle.std.specs.Prelude.{◌≡◌, ◌<◌, ◌≤◌};
 ghost use Rattle.grid.specs.Map.{On, one_to, on_map, hex_at, beside_of, neighbour_of};
 ghost use Rattle.grid.specs.Walk.{gap_of, distance_of};
@@ -7,6 +12,21 @@ ghost use Rattle.grid.specs.Walk.{gap_of, distance_of};
 #[derive(Drop)]
 pub enum Beside {
     At(usize),
+    Off,
+}
+
+// A hex with its column and its row, both counted from 0.
+#[derive(Drop)]
+pub struct Spot {
+    pub hex: usize,
+    column: usize,
+    row: usize,
+}
+
+// What lies beside a hex, with its column and row.
+#[derive(Drop)]
+pub enum Nearby {
+    At(Spot),
     Off,
 }
 

@@ -1,14 +1,14 @@
 // Looking round from a hex for one with a mark, a direction after the other: 1 for one to enter, 2 for a source.
 ghost use Rattle.std.specs.Prelude.{◌≡◌, ◌<◌, length};
-ghost use Rattle.survey.specs.Spot.{SpotOf, NearOf};
+ghost use Rattle.grid.specs.Spot.{SpotOf, NearOf};
 ghost use Rattle.position.specs.Board.{ground};
 ghost use Rattle.position.specs.Ground.{next};
 ghost use Rattle.position.specs.Laid.{Laid};
 ghost use Rattle.walk.specs.Chain.{mark};
 ghost use Rattle.walk.specs.Trail.{LeadsOf, First};
 
+use grid::{Nearby, Spot, near};
 use position::View;
-use survey::{Nearby, Spot, near};
 
 // Whether a step from spot `s` in direction `dir`, where `b` lies, leads to a hex that is marked `m`. The mark is looked at first, as most
 // are of no use.

@@ -7,10 +7,10 @@ ghost use Rattle.routes.specs.Window.{Window};
 
 mod friends;
 
+use grid::region::Region;
+use grid::{near, region};
 use position::View;
 use routes::Outlook;
-use survey::region::Region;
-use survey::{near, region};
 use window::sent;
 
 // No route has more hexes.

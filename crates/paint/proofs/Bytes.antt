@@ -1,26 +1,18 @@
 -- Laws of a buffer of bytes: after a store, and along a pass over all of them.
 -- Assumes nothing.
-use Prim.Native.Nat.{ℕ, ◌+◌, ◌*◌, ◌≤◌, ◌<◌}
-use mathlib.Core.Path.{◌≡◌, refl, sym, ap, ap₂, ◌∙◌}
+use Prim.Native.Nat.{ℕ, ◌+◌, ◌≤◌, ◌<◌}
+use mathlib.Core.Path.{◌≡◌, refl, sym, ap, ◌∙◌}
 use mathlib.Core.List.{List}
 use native.Mathlib.Omega.{arith}
 use lib.ListN.{length, set, replicate, length-set, length-replicate, get_or-eq_default}
 use lib.Seq.{get_or-set_same, get_or-set_other, ext_get_or}
-use Rattle.survey.specs.declared.region.Region.{Region}
-use Rattle.survey.specs.Region.{Round}
 use Rattle.position.specs.Layout.{byte}
 use Rattle.position.proofs.Tallies.{same_or}
 use Rattle.position.proofs.Cells.{byte_empty}
-use Rattle.paint.specs.Room.{Room}
 
 -- past its end a buffer shows 0
 pub byte_past : (l : List ℕ) (h : ℕ) → length l ≤ h → byte l h ≡ 0
 byte_past l h past = get_or-eq_default l 0 past
-
--- a buffer of as many bytes as the hexes within `far` steps take has room for them
-pub round_room :
-    {w h start far : ℕ} {at : Region} {l : List ℕ} → Round w h start far at → (2 * far + 2) * (2 * far + 1) ≤ length l → Room at l
-round_room a e = record { region = a.ok; long = omega (arith, e, ap₂ (λ (m n : ℕ). m * n) a.wide a.high) }
 
 module _ (l : List ℕ) (i v : ℕ) where
   pub byte_set : i < length l → byte (set l i v) i ≡ v

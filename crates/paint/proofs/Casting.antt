@@ -8,11 +8,11 @@ use lib.Dec.{ltb, eqb}
 use borrow.Author.Tests.{lt-ltb, le-ltb, ltb-true, eq-eqb, ne_eqb, eqb-true, eqb-false, not-true}
 use Rattle.grid.specs.declared.Beside.{Beside}
 use Rattle.grid.specs.declared.Beside.TheVariants.{At, Off}
-use Rattle.survey.specs.declared.Nearby.{Nearby}
-use Rattle.survey.specs.declared.Nearby.TheVariants as N
-use Rattle.survey.specs.declared.Spot.{Spot}
+use Rattle.grid.specs.declared.Nearby.{Nearby}
+use Rattle.grid.specs.declared.Nearby.TheVariants as N
+use Rattle.grid.specs.declared.Spot.{Spot}
 use Rattle.grid.specs.Map.{neighbour_of}
-use Rattle.survey.specs.Spot.{SpotOf, NearOf}
+use Rattle.grid.specs.Spot.{SpotOf, NearOf}
 use Rattle.grid.proofs.Laws.{opposite}
 use Rattle.position.specs.Tally.{any}
 use Rattle.position.specs.Kind.{casts_zone}

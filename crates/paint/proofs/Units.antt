@@ -8,9 +8,9 @@ use native.Mathlib.Omega.{arith}
 use lib.Dec.{eqb}
 use lib.ListN.{replicate}
 use borrow.Author.Tests.{eq-eqb, ne_eqb}
-use Rattle.survey.specs.declared.region.Region.{Region}
-use Rattle.survey.specs.Region.{Inside, place_of, One, Away}
-use Rattle.survey.proofs.Regions.{place-in}
+use Rattle.grid.specs.declared.region.Region.{Region}
+use Rattle.grid.specs.Region.{Inside, place_of, One, Away}
+use Rattle.grid.proofs.Regions.{place-in}
 use Rattle.position.specs.Tally.{any}
 use Rattle.position.specs.Bits.{has}
 use Rattle.position.specs.declared.View.{View}

@@ -2,8 +2,8 @@
 -- What a buffer shows of a part of the map: who stands where, and where the Enemy zones lie.
 -- Assumes nothing.
 use Rattle.std.specs.Prelude.{ℕ, ◌+◌, ◌≡◌, Bool, false, not, cond, ◌&&◌, ◌||◌, List, ltb, eqb, length}
-use Rattle.survey.specs.declared.region.Region.{Region}
-use Rattle.survey.specs.Region.{Inside, place_of}
+use Rattle.grid.specs.declared.region.Region.{Region}
+use Rattle.grid.specs.Region.{Inside, place_of}
 use Rattle.position.specs.Tally.{any}
 use Rattle.position.specs.Bits.{has}
 use Rattle.position.specs.Layout.{byte, forces}

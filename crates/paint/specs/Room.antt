@@ -2,10 +2,10 @@
 -- A buffer with a byte for each place of a region.
 -- Assumes nothing.
 use Rattle.std.specs.Prelude.{ℕ, ◌≤◌, ◌≡◌, List, length}
-use Rattle.survey.specs.declared.Spot.{Spot}
-use Rattle.survey.specs.declared.region.Region.{Region}
-use Rattle.survey.specs.Spot.{SpotOf}
-use Rattle.survey.specs.Region.{RegionOk, places_of}
+use Rattle.grid.specs.declared.Spot.{Spot}
+use Rattle.grid.specs.declared.region.Region.{Region}
+use Rattle.grid.specs.Spot.{SpotOf}
+use Rattle.grid.specs.Region.{RegionOk, places_of}
 use Rattle.position.specs.declared.View.{View}
 use Rattle.position.specs.Layout.{hex}
 

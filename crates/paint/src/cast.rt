@@ -1,6 +1,6 @@
 // Where a unit casts its zone.
 ghost use Rattle.std.specs.Prelude.{◌≡◌, ◌<◌};
-ghost use Rattle.survey.specs.Spot.{SpotOf};
+ghost use Rattle.grid.specs.Spot.{SpotOf};
 ghost use Rattle.position.specs.Board.{board, ground};
 ghost use Rattle.position.specs.Laid.{Laid};
 ghost use Rattle.field.specs.Scene.{scene};
@@ -8,10 +8,10 @@ ghost use Rattle.paint.specs.Room.{Room, StandsAt};
 ghost use Rattle.paint.specs.Paint.{in_zone, casts_against, Adds, cast_to, reaches, part};
 
 use crate::ink;
+use grid::region::Region;
+use grid::{Nearby, Spot, near};
 use position::kind::Kind;
 use position::{View, layout, read};
-use survey::region::Region;
-use survey::{Nearby, Spot, near};
 
 const ALL_SEA: usize = 2;
 

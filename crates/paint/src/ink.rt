@@ -1,12 +1,12 @@
 // Marks on the hexes of a region, in a buffer with a byte for each of its places.
 ghost use Rattle.std.specs.Prelude.{◌≡◌, ◌<◌};
-ghost use Rattle.survey.specs.Spot.{SpotOf};
+ghost use Rattle.grid.specs.Spot.{SpotOf};
 ghost use Rattle.paint.specs.Room.{Room};
 ghost use Rattle.paint.specs.Paint.{Stamp, Adds, inked, only};
 
+use grid::region::Region;
+use grid::{Spot, region};
 use position::{View, bits, layout};
-use survey::region::Region;
-use survey::{Spot, region};
 
 fn inked(b: usize, m: usize) -> usize
     requires { Stamp b × (m < 256) }

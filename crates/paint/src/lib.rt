@@ -7,13 +7,13 @@ ghost use Rattle.std.specs.Prelude.{◌≡◌, ◌<◌, length, replicate};
 ghost use Rattle.position.specs.Board.{board};
 ghost use Rattle.position.specs.Laid.{Laid};
 ghost use Rattle.field.specs.Scene.{scene};
-ghost use Rattle.survey.specs.Region.{Before, Past};
+ghost use Rattle.grid.specs.Region.{Before, Past};
 ghost use Rattle.paint.specs.Room.{Room};
 ghost use Rattle.paint.specs.Paint.{Adds, Shows, Marked, says, says_below};
 
+use grid::region::Region;
+use grid::{near, region};
 use position::{View, layout, read};
-use survey::region::Region;
-use survey::{near, region};
 
 // The marks of a painted hex: in an Enemy zone, held by an Enemy, by a unit of the force, by a supply unit of it, by any unit.
 pub const ZONE: usize = 1;

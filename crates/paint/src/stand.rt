@@ -6,10 +6,10 @@ ghost use Rattle.paint.specs.Room.{Room, StandsAt};
 ghost use Rattle.paint.specs.Paint.{by_enemy, by_own, by_depot, Adds, part, stands};
 
 use crate::ink;
+use grid::Spot;
+use grid::region::Region;
 use position::kind::Kind;
 use position::{View, read};
-use survey::Spot;
-use survey::region::Region;
 
 fn enemy(p: &[u8], v: View, at: Region, f: usize, u: usize, s: Spot, buf: &mut [u8])
     requires { Laid p.now v × Room at buf.old × StandsAt p.now v u s }

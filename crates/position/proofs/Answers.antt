@@ -6,8 +6,7 @@ use mathlib.Core.Bool.{Bool, true, false, not, ◌&&◌}
 use native.Mathlib.Omega.{arith}
 use native.Mathlib.Decide.{dec_lt}
 use borrow.Author.Count.{below_more}
-use lib.Dec.{leb}
-use borrow.Author.Tests.{not-true, not-false, leb-true, le-leb}
+use borrow.Author.Tests.{not-true, not-false}
 use Rattle.position.specs.Shape.{In}
 use Rattle.position.specs.Laid.{Says}
 use Rattle.position.proofs.Tallies.{not_both}
@@ -30,15 +29,6 @@ told false f g s = λ y. s (g y)
 pub says : {A : Type 0} (b : Bool) → (b ≡ true → A) → (A → b ≡ true) → Says b A
 says true f g = f refl
 says false f g = λ x. not_both false (g x) refl
-
--- two answers, and the one for both
-pub both_said : (A B : Type 0) (a b : Bool) → Says a A → Says b B → Says (a && b) (A × B)
-both_said A B true b x y = told b (λ (z : B). (x, z)) (λ (z : A × B). z.1) y
-both_said A B false b x y = λ z. x z.0
-
--- a number measured against its most
-pub up_to : (n m : ℕ) → Says (leb n m) (n ≤ m)
-up_to n m = says (leb n m) (leb-true n m) (le-leb n m)
 
 -- the same two places, where the test's answer is another truth value
 module _ {b t : Bool} (e : b ≡ t) where

@@ -6,6 +6,8 @@ use Rattle.position.specs.Layout as Layout
 use Rattle.position.specs.Layout.{ViewOf, Fits}
 use Rattle.position.specs.Shape.{In, Shaped}
 use Rattle.position.specs.declared.View.{View}
+use Rattle.position.specs.declared.Checked.{Checked}
+use Rattle.position.specs.declared.Checked.TheVariants.{Whole, Broken}
 
 -- the bodies of p lie as they should, and v is its view: what reading and writing ask for
 pub record Laid (p : List ℕ) (v : View) : Type 0 where
@@ -32,3 +34,11 @@ pub record Sized (p : List ℕ) (v : View) : Type 0 where
   pub whole : length p ≡ Layout.desk_at p + Layout.desk_length p
   pub view : ViewOf p v
   pub fits : Fits (length p) v
+
+abbrev pub SizedOf : List ℕ → Checked → Type 0
+SizedOf p (Whole v) = Sized p v
+SizedOf p Broken = Shaped p → ⊥
+
+abbrev pub LaidOf : List ℕ → Checked → Type 0
+LaidOf p (Whole v) = Laid p v
+LaidOf p Broken = Shaped p → ⊥

@@ -12,9 +12,9 @@ use borrow.Author.Tests.{ne_eqb}
 use lib.ListN.{length, set, length-set}
 use Rattle.grid.specs.declared.Beside.{Beside}
 use Rattle.grid.specs.declared.Beside.TheVariants.{At, Off}
-use Rattle.survey.specs.declared.region.Region.{Region}
-use Rattle.survey.specs.Region.{Inside, place_of, HexOf, Round}
-use Rattle.survey.proofs.Regions.{place-in}
+use Rattle.grid.specs.declared.region.Region.{Region}
+use Rattle.grid.specs.Region.{Inside, place_of, HexOf, Round}
+use Rattle.grid.proofs.Regions.{place-in}
 use Rattle.position.specs.Tally.{any}
 use Rattle.position.specs.Bits.{has}
 use Rattle.position.specs.Layout.{byte}
@@ -23,6 +23,7 @@ use Rattle.position.specs.Ground.{next}
 use Rattle.position.proofs.Tallies.{same_or, either, any_zero, any_step}
 use Rattle.field.specs.Scene.{scene}
 use Rattle.field.specs.Zone.{stands_on}
+use Rattle.paint.specs.Room.{Room}
 use Rattle.paint.specs.Paint.{Mark, in_zone, by_any, spare, bit, Shows, Adds, only}
 use Rattle.paint.proofs.Bytes.{byte_set, byte_other}
 use Rattle.paint.proofs.Adding.{also}
@@ -248,6 +249,10 @@ module _ {w h i : ℕ} {at : Region} {r : Beside} (k : HexOf w h at i r) where
 
   pub hex_nowhere : r ≡ Off → (x : ℕ) → Inside w h at x → place_of w at x ≡ i → ⊥
   hex_nowhere e = subst (HexOf w h at i) e k
+
+-- 182 bytes have room for a plot
+pub round_room : {w h start : ℕ} {at : Region} {l : List ℕ} → Round w h start 6 at → length l ≡ 182 → Room at l
+round_room r e = record { region = r.ok; long = omega (arith, e, ap₂ (λ (m n : ℕ). m * n) r.wide r.high) }
 
 -- the byte of a hex
 pub byte-of : (b : Board) (f start x : ℕ) → byte_of b f start x ≡ open_bits b.map x 6 + stand_number (stand b f start x)

@@ -8,13 +8,13 @@ use native.Mathlib.Omega.{arith}
 use lib.ListN.{length}
 use Rattle.grid.specs.declared.Beside.{Beside}
 use Rattle.grid.specs.declared.Beside.TheVariants.{At, Off}
-use Rattle.survey.specs.declared.region.Region.{Region}
+use Rattle.grid.specs.declared.region.Region.{Region}
 use Rattle.grid.specs.Map.{On, neighbour_of}
 use Rattle.grid.specs.Walk.{distance_of}
-use Rattle.survey.specs.Region.{Inside, place_of, place_in, Round}
+use Rattle.grid.specs.Region.{Inside, place_of, place_in, Round}
 use Rattle.grid.proofs.Tests.{under}
 use Rattle.grid.proofs.Laws.{on_map_lem}
-use Rattle.survey.proofs.Regions.{place_some, place_back}
+use Rattle.grid.proofs.Regions.{place_some, place_back}
 use Rattle.position.specs.Bits.{has}
 use Rattle.position.specs.Layout.{byte}
 use Rattle.position.specs.Board.{Board}

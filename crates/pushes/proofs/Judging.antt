@@ -8,9 +8,9 @@ use native.Mathlib.Omega.{arith}
 use lib.Dec.{eqb}
 use lib.ListN.{length}
 use borrow.Author.Tests.{eq-eqb, ne_eqb}
-use Rattle.survey.specs.declared.region.Region.{Region}
+use Rattle.grid.specs.declared.region.Region.{Region}
 use Rattle.grid.specs.Map.{On}
-use Rattle.survey.specs.Region.{place_of, place_in, Round}
+use Rattle.grid.specs.Region.{place_of, place_in, Round}
 use Rattle.position.specs.Board.{Board}
 use Rattle.position.proofs.Tallies.{same_or}
 use Rattle.chains.specs.Follows.{legal_pushes}

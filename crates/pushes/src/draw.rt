@@ -1,6 +1,6 @@
 // Draws the plot round the start of a retreat.
 ghost use Rattle.std.specs.Prelude.{◌≡◌, ◌+◌, ◌*◌, ◌<◌, ◌≤◌, length, replicate};
-ghost use Rattle.survey.specs.Region.{RegionOk, Round};
+ghost use Rattle.grid.specs.Region.{RegionOk, Round};
 ghost use Rattle.position.specs.Board.{board};
 ghost use Rattle.position.specs.Laid.{Laid};
 ghost use Rattle.paint.specs.Room.{Room};
@@ -10,11 +10,10 @@ ghost use Rattle.pushes.specs.Drawn.{stand_number, open_bits, bars_by, bars_belo
 
 use crate::stands;
 use chains::Stand;
-use grid::Beside;
+use grid::region::Region;
+use grid::{Beside, near, region};
 use paint::ink;
 use position::{View, layout, read};
-use survey::region::Region;
-use survey::{near, region};
 
 // The number of a stand.
 fn stand_number(s: Stand) -> usize

@@ -3,14 +3,14 @@ mod draw;
 mod stands;
 
 ghost use Rattle.std.specs.Prelude.{◌≡◌, ◌<◌, ◌≤◌, length};
-ghost use Rattle.survey.specs.Region.{RegionOk, place_in};
+ghost use Rattle.grid.specs.Region.{RegionOk, place_in};
 ghost use Rattle.position.specs.Board.{board};
 ghost use Rattle.position.specs.Laid.{Laid};
 ghost use Rattle.pushes.specs.Pushes.{served, served_in};
 
+use grid::region::Region;
+use grid::{near, region};
 use position::View;
-use survey::region::Region;
-use survey::{near, region};
 
 // No hex that a series of pushes may touch lies further from the start: three steps, and three pushes beyond.
 const FAR: usize = 6;

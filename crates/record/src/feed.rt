@@ -1,6 +1,6 @@
 // The record, piece by piece and byte by byte.
 use crate::game::Game;
-use crate::{echo, game, orders, setup};
+use crate::{echo, game, orders};
 use libc::STDIN_FILENO;
 use page::Output;
 use reading::rooms::{Numbers, Room};
@@ -14,23 +14,6 @@ struct State {
     ended: bool,
 }
 
-// A byte of a scenario, whose lines are not taken apart before they are whole.
-fn told(s: State, b: u8, pos: &mut Room, next: &mut Room, out: &mut Output) -> State {
-    let mut after = s;
-    if b == b'\n' {
-        let g = echo::end(s.game, s.line, out);
-        let h = setup::line(g, pos, next, out);
-        after.game = game::next_line(h);
-        after.line = reading::empty();
-        return after;
-    }
-    let l = reading::enter(s.line, Stage::Tail);
-    let g = echo::byte(s.game, l, b, out);
-    after.game = setup::byte(g, b, next);
-    after.line = l;
-    after
-}
-
 // A newline ends the line, any other byte belongs to it.
 fn byte(
     s: State,
@@ -41,9 +24,6 @@ fn byte(
     nums: &mut Numbers,
     out: &mut Output,
 ) -> State {
-    if setup::is_open(s.game) {
-        return told(s, b, pos, next, out);
-    }
     let mut after = s;
     if b == b'\n' {
         let g = echo::end(s.game, s.line, out);
@@ -102,13 +82,6 @@ fn last(
     byte(s, b'\n', pos, next, lent, nums, out)
 }
 
-// The end of the record ends a scenario that was not begun.
-fn over(s: State, next: &Room, out: &mut Output) -> State {
-    let mut after = s;
-    after.game = setup::over(s.game, next, out);
-    after
-}
-
 // Reads a piece and answers it.
 fn turn(
     s: State,
@@ -123,7 +96,7 @@ fn turn(
     let n = io::count(got, &chunk);
     if n == 0 {
         let after = last(s, pos, next, lent, nums, out);
-        return written(over(after, next, out), true, out);
+        return written(after, true, out);
     }
     let after = piece(s, &chunk[..n], pos, next, lent, nums, out);
     written(after, false, out)

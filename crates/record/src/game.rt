@@ -1,11 +1,9 @@
 // What is kept from line to line, beside the position's bytes and those of the lent buffer.
-use draft::Draft;
 use page::Output;
 use reading::rooms::NONE;
 
 // The line's number from 1; the lengths of the position, of the buffer that the last call borrowed, and of the one
-// that the next call is to borrow, or `NONE`; how full the output is; whether lines are echoed; and the scenario that is being
-// told, if one is open.
+// that the next call is to borrow, or `NONE`; how full the output is; and whether lines are echoed.
 #[derive(Drop)]
 pub struct Game {
     pub line: usize,
@@ -14,7 +12,6 @@ pub struct Game {
     pub wanted: usize,
     pub full: usize,
     pub echo: bool,
-    pub draft: Draft,
 }
 
 pub fn new() -> Game {
@@ -25,7 +22,6 @@ pub fn new() -> Game {
         wanted: NONE,
         full: 0,
         echo: false,
-        draft: draft::closed(),
     }
 }
 
@@ -55,13 +51,6 @@ pub fn next_line(g: Game) -> Game {
 pub fn echoed(g: Game, echo: bool) -> Game {
     let mut after = g;
     after.echo = echo;
-    after
-}
-
-// The game with a scenario as far as it is told.
-pub fn drafted(g: Game, d: Draft) -> Game {
-    let mut after = g;
-    after.draft = d;
     after
 }
 

@@ -6,7 +6,6 @@ mod feed;
 mod game;
 mod lines;
 mod orders;
-mod setup;
 
 // Plays the record on standard input.
 pub fn play() {

@@ -4,7 +4,7 @@ ghost use Rattle.std.specs.Prelude.{◌≤◌};
 use crate::game;
 use crate::game::Game;
 use page::Output;
-use reading::rooms::{NONE, Numbers, Room};
+use reading::rooms::{Numbers, Room};
 use reading::{Line, number};
 
 // The first `n` bytes of a room go into another.
@@ -14,15 +14,6 @@ fn copy(from: &Room, to: &mut Room, n: usize)
     for i in 0..n {
         to[i] = from[i];
     }
-}
-
-// The first bytes of `next` take the old position's place.
-pub fn taken(g: Game, bytes: usize, pos: &mut Room, next: &Room) -> Game {
-    let n = page::within(bytes, next);
-    copy(next, pos, n);
-    let mut after = g;
-    after.size = n;
-    after
 }
 
 // The bytes that the line made take the old position's place, if there was one word of whole pairs.
@@ -35,7 +26,11 @@ pub fn position(g: Game, l: Line, pos: &mut Room, next: &Room, out: &mut Output)
     if half < 16 {
         return game::what(g, out);
     }
-    taken(g, l.bytes, pos, next)
+    let n = page::within(l.bytes, next);
+    copy(next, pos, n);
+    let mut after = g;
+    after.size = n;
+    after
 }
 
 pub fn buffer(g: Game, l: Line, nums: &Numbers, out: &mut Output) -> Game {
@@ -81,76 +76,25 @@ pub fn roster(g: Game, l: Line, pos: &Room, out: &mut Output) -> Game {
     mustered(g, pos, out)
 }
 
-// The nationality that the line names, or nobody. What cannot be read is `NONE`.
-fn named(l: Line, nums: &Numbers) -> usize {
-    let words = l.count;
-    if words == 0 {
-        return story::NOBODY;
-    }
-    if words != 1 {
-        return NONE;
-    }
-    let n = number::wide(nums[0]);
-    if story::NOBODY <= n {
-        return NONE;
-    }
-    n
-}
-
-// The map, with the supply of the nationality or of none.
-fn mapped(g: Game, nationality: usize, pos: &[u8], out: &mut Output) -> Game {
+// The map, with the supply of a nationality or of none.
+fn drawn(g: Game, nationality: usize, pos: &[u8], out: &mut Output) -> Game {
     let size = page::within(g.size, pos);
     game::printed(g, story::map(out, g.full, &pos[..size], nationality))
 }
 
 pub fn map(g: Game, l: Line, pos: &Room, nums: &Numbers, out: &mut Output) -> Game {
-    let n = named(l, nums);
-    if n == NONE {
+    let words = l.count;
+    if words == 0 {
+        return drawn(g, story::NOBODY, pos, out);
+    }
+    if words != 1 {
         return game::what(g, out);
     }
-    mapped(g, n, pos, out)
-}
-
-// The picture, with the supply of the nationality and the zones of its Enemies, or with none.
-fn drawn(g: Game, nationality: usize, pos: &[u8], out: &mut Output) -> Game {
-    let size = page::within(g.size, pos);
-    game::printed(g, picture::picture(out, g.full, &pos[..size], nationality))
-}
-
-pub fn picture(g: Game, l: Line, pos: &Room, nums: &Numbers, out: &mut Output) -> Game {
-    let n = named(l, nums);
-    if n == NONE {
+    let n = number::wide(nums[0]);
+    if story::NOBODY <= n {
         return game::what(g, out);
     }
     drawn(g, n, pos, out)
-}
-
-// Why the position is not accepted.
-fn doubted(g: Game, pos: &[u8], out: &mut Output) -> Game {
-    let size = page::within(g.size, pos);
-    game::printed(g, flaws::why(out, g.full, &pos[..size]))
-}
-
-pub fn why(g: Game, l: Line, pos: &Room, out: &mut Output) -> Game {
-    let words = l.count;
-    if words != 0 {
-        return game::what(g, out);
-    }
-    doubted(g, pos, out)
-}
-
-// The position as the lines of a scenario.
-fn told(g: Game, pos: &[u8], out: &mut Output) -> Game {
-    let size = page::within(g.size, pos);
-    game::printed(g, scenario::write(out, g.full, &pos[..size]))
-}
-
-pub fn as_scenario(g: Game, l: Line, pos: &Room, out: &mut Output) -> Game {
-    let words = l.count;
-    if words != 0 {
-        return game::what(g, out);
-    }
-    told(g, pos, out)
 }
 
 pub fn help(g: Game, l: Line, out: &mut Output) -> Game {

@@ -1,6 +1,6 @@
 // What each line asks for, by its first word.
 use crate::game::Game;
-use crate::{calls, game, lines, setup};
+use crate::{calls, game, lines};
 use page::Output;
 use reading::rooms::{Numbers, Room};
 use reading::words::{ECHO, POSITION, RETREAT};
@@ -31,15 +31,7 @@ const ROSTER: u64 = 0x726f73746572;
 
 const MAP: u64 = 0x6d6170;
 
-const WHY: u64 = 0x776879;
-
-const PICTURE: u64 = 0x70696374757265;
-
 const HELP: u64 = 0x68656c70;
-
-const SETUP: u64 = 0x7365747570;
-
-const SCENARIO: u64 = 0x7363656e6172696f;
 
 const ECHO_OFF: u64 = 0x6563686f206f6666;
 
@@ -50,7 +42,7 @@ fn obey(
     g: Game,
     l: Line,
     pos: &mut Room,
-    next: &mut Room,
+    next: &Room,
     lent: &mut Room,
     nums: &Numbers,
     out: &mut Output,
@@ -59,15 +51,11 @@ fn obey(
     match key {
         NOTHING => g,
         POSITION => lines::position(g, l, pos, next, out),
-        SETUP => setup::open(g, l, next, out),
-        SCENARIO => lines::as_scenario(g, l, pos, out),
         BUFFER => lines::buffer(g, l, nums, out),
         SHOW => lines::show(g, l, pos, out),
         LENT => lines::lent(g, l, lent, out),
         ROSTER => lines::roster(g, l, pos, out),
         MAP => lines::map(g, l, pos, nums, out),
-        WHY => lines::why(g, l, pos, out),
-        PICTURE => lines::picture(g, l, pos, nums, out),
         HELP => lines::help(g, l, out),
         ECHO => lines::echo(g, l, true, out),
         ECHO_OFF => lines::echo(g, l, false, out),
@@ -88,7 +76,7 @@ pub fn finish(
     g: Game,
     l: Line,
     pos: &mut Room,
-    next: &mut Room,
+    next: &Room,
     lent: &mut Room,
     nums: &mut Numbers,
     out: &mut Output,

@@ -2,7 +2,6 @@
 ghost use Rattle.std.specs.Prelude.{[]};
 ghost use Rattle.rules.specs.Order.{verdict};
 ghost use Rattle.rules.specs.Order.Order.{supply, move, end_phase, attack, retreat, losses, advance, close};
-ghost use Rattle.checking.specs.Why.{WhyOf};
 ghost use Rattle.referee.specs.Exported.{Exported};
 
 #[unsafe(no_mangle)]
@@ -65,12 +64,4 @@ pub extern "C" fn ia_close(pos: &mut [u8]) -> u64
     ensures { Exported pos.old [] (verdict pos.old close []) result pos.new [] }
 {
     packing::pack_answer(rules::close(pos))
-}
-
-// The line that a position breaks in the low byte, its place in bits 8 to 23; 0 if the position is accepted.
-#[unsafe(no_mangle)]
-pub extern "C" fn ia_why(pos: &[u8]) -> u64
-    ensures { WhyOf pos.now result }
-{
-    checking::why(pos) as u64
 }

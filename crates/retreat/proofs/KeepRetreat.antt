@@ -67,7 +67,7 @@ use Rattle.retreat.proofs.Fates.{none_nil, part_supply, part_walks}
 use Rattle.retreat.proofs.KeepRoute.{
   refuge_stands,
   refuge_vacant,
-  routes_room_lem,
+  routes_room,
   run_follows,
   run_refuge,
   series_follows,
@@ -152,8 +152,8 @@ module _ {b : Board} (l : Lawful b) (most : b.map.hexes ≤ nowhere) (e : b.desk
     one_more : routes c ≡ routes b + 1
     one_more =
         routes_desk (noted b h x y z) c o.desk
-        ∙ routes_more b (routes b) h x y z (routes_room_lem l e) real
-        (routes_empty l.routes (routes b) (omega arith) (routes_room_lem l e))
+        ∙ routes_more b (routes b) h x y z (routes_room l e) real
+        (routes_empty l.routes (routes b) (omega arith) (routes_room l e))
 
     as_before : (c.desk.battle.stage ≡ Stage.retreats) × (c.desk.battle.owed ≡ b.desk.battle.owed) × (c.desk.battle.need ≡ 0)
     as_before =

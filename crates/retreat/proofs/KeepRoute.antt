@@ -138,8 +138,8 @@ module _
       }
 
 -- "k plus filled routes is at most 6": while a hex owes there is room for a route
-pub routes_room_lem : {b : Board} → Lawful b → b.desk.battle.stage ≡ Stage.retreats → routes b < route_count
-routes_room_lem l e = let o = l.stage.during.retreats e in omega (arith, o.some, o.room)
+pub routes_room : {b : Board} → Lawful b → b.desk.battle.stage ≡ Stage.retreats → routes b < route_count
+routes_room l e = let o = l.stage.during.retreats e in omega (arith, o.some, o.room)
 
 -- the next route is written
 pub since_written :
@@ -147,9 +147,9 @@ pub since_written :
     → ((x ≡ nowhere → ⊥) → Follows b w x) → ((y ≡ nowhere → ⊥) → Follows b x y) → ((z ≡ nowhere → ⊥) → Follows b y z)
     → Since b (change b (routed (routes b) w x y z))
 since_written {b} l most e w x y z s one two three =
-    since_routed most (since_lawful l) (routes b) w x y z (routes_room_lem l e) (standable_where b w most s)
+    since_routed most (since_lawful l) (routes b) w x y z (routes_room l e) (standable_where b w most s)
     (λ i q. routes_filled l.routes i (omega arith))
-    (λ j _. places_written b (routes b) w x y z (routes_room_lem l e) s each j)
+    (λ j _. places_written b (routes b) w x y z (routes_room l e) s each j)
   where
     each : (j : ℕ) → (of_four (suc j) w x y z ≡ nowhere → ⊥) → Follows b (of_four j w x y z) (of_four (suc j) w x y z)
     each zero n = one n

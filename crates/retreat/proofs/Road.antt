@@ -22,7 +22,7 @@ use Rattle.retreat.specs.Words.{Due, RoadRight, board_after}
 use Rattle.retreat.proofs.Fates.{Falls, falls_by}
 use Rattle.retreat.proofs.KeepGroup.{Owes}
 use Rattle.retreat.proofs.KeepRetreat.{doom, is_run_lem}
-use Rattle.retreat.proofs.KeepRoute.{routes_room_lem}
+use Rattle.retreat.proofs.KeepRoute.{routes_room}
 use Rattle.retreat.proofs.Rulings.{ends_doomed}
 use Rattle.retreat.proofs.Words.{destroyed_right, lost_any, on_due, parts_right, passes_due}
 
@@ -54,7 +54,7 @@ module _ {p : List ℕ} {h : ℕ} {route pushes : List ℕ} (d : Due p h route p
       let run = is_run_lem k most d.stage h d.unit m route pushes g.part g.lost in
       let gone = doom k most d.stage h d.unit m (group_force b h) route run.1 in
       ap (λ (desk : Desk). desk.route (routes b) j) gone.desk
-      ∙ route_there b (routes b) h (get_or route 0 nowhere) (get_or route 1 nowhere) (get_or route 2 nowhere) (routes_room_lem k d.stage) j
+      ∙ route_there b (routes b) h (get_or route 0 nowhere) (get_or route 1 nowhere) (get_or route 2 nowhere) (routes_room k d.stage) j
       ∙ four h route j l
 
   -- and when the stage has passed on, unless it is quiet

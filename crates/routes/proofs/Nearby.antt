@@ -6,10 +6,10 @@ use mathlib.Core.Bool.{true, false, not}
 use mathlib.Core.List.{List}
 use native.Mathlib.Omega.{arith}
 use lib.ListN.{length, set}
-use Rattle.survey.specs.declared.region.Region.{Region}
-use Rattle.survey.specs.Region.{Inside, place_of}
+use Rattle.grid.specs.declared.region.Region.{Region}
+use Rattle.grid.specs.Region.{Inside, place_of}
 use Rattle.grid.proofs.Walks.{same_zero}
-use Rattle.survey.proofs.Regions.{place-in, place_one}
+use Rattle.grid.proofs.Regions.{place-in, place_one}
 use Rattle.position.specs.declared.View.{View}
 use Rattle.position.specs.Bits.{has}
 use Rattle.position.specs.Laid.{Laid}

@@ -6,8 +6,8 @@ use mathlib.Core.List.{List}
 use native.Mathlib.Omega.{arith}
 use native.Mathlib.Decide.{dec_lt, ℕ_discrete}
 use Rattle.grid.specs.Map.{On}
-use Rattle.survey.specs.Rim.{RimHex, RimNext}
-use Rattle.survey.proofs.Rims.{rim_first}
+use Rattle.grid.specs.Rim.{RimHex, RimNext}
+use Rattle.grid.proofs.Rims.{rim_first}
 use Rattle.position.specs.declared.View.{View}
 use Rattle.position.specs.Layout.{hexes}
 use Rattle.position.specs.Board.{Map, ground}

@@ -1,15 +1,12 @@
-// The lines of document 01 on the map: whether a hex keeps them, and for the whole map 0 if they are kept, else where one is broken.
+// Whether the map keeps its lines of document 01.
 ghost use Rattle.std.specs.Prelude.{ℕ, ◌+◌, ◌≤◌, ◌<◌};
 ghost use Rattle.position.specs.Board.{ground};
 ghost use Rattle.setting.specs.Setting.{EdgeOk, HexOk, MapOk};
 ghost use Rattle.setting.specs.Rim.{EdgesOk};
 ghost use Rattle.position.specs.Laid.{Laid, Says};
-ghost use Rattle.flaw.specs.Flaw.{Breaks, Flaw};
-ghost use Rattle.flaw.specs.Tells.{Tells};
 
-use grid::Beside;
+use grid::{Beside, rim};
 use position::{View, layout, read};
-use survey::rim;
 
 // Each number of a hex is measured, whatever the one before it says: without a branch between them the compiler measures many at once.
 fn hex_ok(p: &[u8], v: View, h: usize) -> bool
@@ -22,29 +19,6 @@ fn hex_ok(p: &[u8], v: View, h: usize) -> bool
     let country = layout::map_byte(p, v, h, layout::COUNTRY) <= 2;
     let sides = layout::map_byte(p, v, h, layout::SIDES) <= 63;
     terrain & surface & flags & country & sides
-}
-
-// The same numbers one by one: the first that is out of its range.
-fn hex_line(p: &[u8], v: View, h: usize) -> usize
-    requires { Laid p.now v × (h < v.hexes) }
-    ensures { Tells (Breaks p.now h) result (HexOk (ground p.now) h) }
-{
-    if 15 < layout::map_byte(p, v, h, layout::TERRAIN) {
-        return flaw::TERRAIN;
-    }
-    if 3 < layout::map_byte(p, v, h, layout::SURFACE) {
-        return flaw::SURFACE;
-    }
-    if 7 < layout::map_byte(p, v, h, layout::FLAGS) {
-        return flaw::FLAGS;
-    }
-    if 2 < layout::map_byte(p, v, h, layout::COUNTRY) {
-        return flaw::COUNTRY;
-    }
-    if 63 < layout::map_byte(p, v, h, layout::SIDES) {
-        return flaw::SIDES;
-    }
-    0
 }
 
 // The sixteen hexes from hex `first` on, all of them whatever the first one says, for the same reason.
@@ -60,29 +34,28 @@ fn sixteen_ok(p: &[u8], v: View, first: usize) -> bool
 }
 
 // The hexes from hex `first` on, one by one: all before it are as they should be.
-fn rest_ok(p: &[u8], v: View, first: usize) -> usize
+fn rest_ok(p: &[u8], v: View, first: usize) -> bool
     requires { Laid p.now v × (first ≤ v.hexes) × ((h : ℕ) → h < first → HexOk (ground p.now) h) }
-    ensures { Tells (Flaw p.now) result ((h : ℕ) → h < (ground p.now).hexes → HexOk (ground p.now) h) }
+    ensures { Says result ((h : ℕ) → h < (ground p.now).hexes → HexOk (ground p.now) h) }
 {
     let hexes = v.hexes;
     for h in first..hexes {
         if !hex_ok(p, v, h) {
-            return hex_line(p, v, h) + flaw::PLACE * h;
+            return false;
         }
     }
-    0
+    true
 }
 
-// Sixteen at a time; what is wrong with one of sixteen is found one by one.
-fn hexes_ok(p: &[u8], v: View) -> usize
+fn hexes_ok(p: &[u8], v: View) -> bool
     requires { Laid p.now v }
-    ensures { Tells (Flaw p.now) result ((h : ℕ) → h < (ground p.now).hexes → HexOk (ground p.now) h) }
+    ensures { Says result ((h : ℕ) → h < (ground p.now).hexes → HexOk (ground p.now) h) }
 {
     let hexes = v.hexes;
     let mut h = 0;
     while h + 16 <= hexes {
         if !sixteen_ok(p, v, h) {
-            return rest_ok(p, v, h);
+            return false;
         }
         h += 16;
     }
@@ -104,49 +77,46 @@ fn edge_ok(p: &[u8], v: View, h: usize, d: usize) -> bool
 }
 
 // The three sides of a hex. Most hexes have nothing at any side, and so there is nothing to look for beyond.
-fn edges_ok(p: &[u8], v: View, h: usize) -> usize
-    requires { Laid p.now v × (h < v.hexes) }
-    ensures { Tells (Flaw p.now) result (EdgesOk (ground p.now) h) }
+fn edges_ok(p: &[u8], v: View, h: usize) -> bool
+    requires { Laid p.now v }
+    ensures { Says result (EdgesOk (ground p.now) h) }
 {
     if read::sides(p, v, h) == 0 {
-        return 0;
+        return true;
     }
     for d in 0..3 {
         if !edge_ok(p, v, h, d) {
-            return flaw::OFF_MAP + flaw::PLACE * (3 * h + d);
+            return false;
         }
     }
-    0
+    true
 }
 
 // Off-map sides are 0: only hexes of the rim have a side N, NE or SE with no hex beyond it.
-fn rim_ok(p: &[u8], v: View) -> usize
+fn rim_ok(p: &[u8], v: View) -> bool
     requires { Laid p.now v }
-    ensures { Tells (Flaw p.now) result ((h : ℕ) → h < (ground p.now).hexes → EdgesOk (ground p.now) h) }
+    ensures { Says result ((h : ℕ) → h < (ground p.now).hexes → EdgesOk (ground p.now) h) }
 {
     let hexes = v.hexes;
     let mut h = 0;
     while h < hexes {
-        let flaw = edges_ok(p, v, h);
-        if flaw != 0 {
-            return flaw;
+        if !edges_ok(p, v, h) {
+            return false;
         }
         h = rim::after(v.width, v.height, h);
     }
-    0
+    true
 }
 
-pub fn map_ok(p: &[u8], v: View) -> usize
+pub fn map_ok(p: &[u8], v: View) -> bool
     requires { Laid p.now v }
-    ensures { Tells (Flaw p.now) result (MapOk (ground p.now)) }
+    ensures { Says result (MapOk (ground p.now)) }
 {
-    let flaw = hexes_ok(p, v);
-    if flaw != 0 {
-        return flaw;
+    if !hexes_ok(p, v) {
+        return false;
     }
-    let side = rim_ok(p, v);
-    if side != 0 {
-        return side;
+    if !rim_ok(p, v) {
+        return false;
     }
-    0
+    true
 }

@@ -1,15 +1,13 @@
-// The contents: five entries, and the bodies that they name, without gap or tail. Where they do not lie so, a flaw says which line is broken.
+// The contents: five entries, and the bodies that they name, without gap or tail.
 ghost use Rattle.std.specs.Prelude.{◌≡◌, ◌+◌, ◌*◌, ◌<◌, ◌≤◌, length};
 ghost use Rattle.position.specs.Layout.{desk_body, chart_at, columns, width, height};
 ghost use Rattle.position.specs.Shape.{In, Entry};
-ghost use Rattle.position.specs.Laid.{Says};
-ghost use Rattle.flaw.specs.Tells.{LaidOf, SizedOf};
+ghost use Rattle.position.specs.Laid.{LaidOf, SizedOf, Says};
 
-use flaw::Found;
-use position::{View, layout};
+use position::{Checked, View, layout};
 
 // The units' count, and the whole: what the columns and the map leave to ask.
-fn with_units(p: &[u8], cols: usize, wide: usize, high: usize) -> Found
+fn with_units(p: &[u8], cols: usize, wide: usize, high: usize) -> Checked
     requires cols_value { (cols ≡ columns p.now) × In 1 cols 12 }
     requires wide_value { (wide ≡ width p.now) × In 1 wide 64 }
     requires high_value { (high ≡ height p.now) × In 1 high 64 }
@@ -22,18 +20,18 @@ fn with_units(p: &[u8], cols: usize, wide: usize, high: usize) -> Found
         + layout::MAP_HEAD
         + layout::HEX_SIZE * hexes;
     if p.len() < units + layout::UNITS_HEAD {
-        return Found::Flaw(flaw::WHOLE);
+        return Checked::Broken;
     }
     let count = layout::word(p, units);
     if layout::MOST_UNITS < count {
-        return Found::Flaw(flaw::COUNT);
+        return Checked::Broken;
     }
     let desk = units + layout::UNITS_HEAD + layout::UNIT_SIZE * count;
     let players = layout::players_named(p);
     if p.len() != desk + layout::PLAYERS + players {
-        return Found::Flaw(flaw::WHOLE);
+        return Checked::Broken;
     }
-    Found::Whole(View {
+    Checked::Whole(View {
         width: wide,
         height: high,
         hexes,
@@ -46,44 +44,48 @@ fn with_units(p: &[u8], cols: usize, wide: usize, high: usize) -> Found
 }
 
 // The map's width and height, and what follows them.
-fn with_map(p: &[u8], cols: usize) -> Found
+fn with_map(p: &[u8], cols: usize) -> Checked
     requires { (cols ≡ columns p.now) × In 1 cols 12 }
     ensures { SizedOf p.now result }
 {
     let map = layout::RESULTS + layout::RESULTS_HEAD + layout::COLUMN_SIZE * cols;
     if p.len() < map + layout::MAP_HEAD {
-        return Found::Flaw(flaw::WHOLE);
+        return Checked::Broken;
     }
     let wide = layout::wide(p[map + layout::WIDTH]);
     let high = layout::wide(p[map + layout::HEIGHT]);
     if !within(1, wide, 64) {
-        return Found::Flaw(flaw::WIDTH);
+        return Checked::Broken;
     }
     if !within(1, high, 64) {
-        return Found::Flaw(flaw::HEIGHT);
+        return Checked::Broken;
     }
     with_units(p, cols, wide, high)
 }
 
-// Whether n is lo..hi, without a branch.
+// Whether n is lo..hi.
 pub fn within(lo: usize, n: usize, hi: usize) -> bool
     ensures { Says result (In lo n hi) }
 {
-    let least = lo <= n;
-    let most = n <= hi;
-    least & most
+    if n < lo {
+        return false;
+    }
+    if hi < n {
+        return false;
+    }
+    true
 }
 
 // The counts that the bodies hold, each within its limits; the bodies that they ask for fill the position.
-fn sized(p: &[u8]) -> Found
+fn sized(p: &[u8]) -> Checked
     ensures { SizedOf p.now result }
 {
     if p.len() < layout::RESULTS + layout::RESULTS_HEAD {
-        return Found::Flaw(flaw::WHOLE);
+        return Checked::Broken;
     }
     let cols = layout::wide(p[layout::RESULTS]);
     if !within(1, cols, 12) {
-        return Found::Flaw(flaw::COLUMNS);
+        return Checked::Broken;
     }
     with_map(p, cols)
 }
@@ -103,15 +105,14 @@ fn entry(p: &[u8], k: usize, at: usize, long: usize) -> bool
 }
 
 // The view of a position whose bodies lie as they should.
-pub fn shape(p: &[u8]) -> Found
+pub fn shape(p: &[u8]) -> Checked
     ensures { LaidOf p.now result }
 {
-    let sizes = sized(p);
-    let Found::Whole(v) = sizes else {
-        return sizes;
+    let Checked::Whole(v) = sized(p) else {
+        return Checked::Broken;
     };
     if !entry(p, layout::CHART_BODY, layout::CHART, layout::CHART_LENGTH) {
-        return Found::Flaw(flaw::CHART_ENTRY);
+        return Checked::Broken;
     }
     if !entry(
         p,
@@ -119,7 +120,7 @@ pub fn shape(p: &[u8]) -> Found
         layout::RESULTS,
         layout::RESULTS_HEAD + layout::COLUMN_SIZE * v.columns,
     ) {
-        return Found::Flaw(flaw::RESULTS_ENTRY);
+        return Checked::Broken;
     }
     if !entry(
         p,
@@ -127,7 +128,7 @@ pub fn shape(p: &[u8]) -> Found
         layout::RESULTS + layout::RESULTS_HEAD + layout::COLUMN_SIZE * v.columns,
         layout::MAP_HEAD + layout::HEX_SIZE * v.hexes,
     ) {
-        return Found::Flaw(flaw::MAP_ENTRY);
+        return Checked::Broken;
     }
     if !entry(
         p,
@@ -135,10 +136,10 @@ pub fn shape(p: &[u8]) -> Found
         v.units,
         layout::UNITS_HEAD + layout::UNIT_SIZE * v.count,
     ) {
-        return Found::Flaw(flaw::UNITS_ENTRY);
+        return Checked::Broken;
     }
     if !entry(p, layout::DESK_BODY, v.desk, layout::PLAYERS + v.players) {
-        return Found::Flaw(flaw::DESK_ENTRY);
+        return Checked::Broken;
     }
-    Found::Whole(v)
+    Checked::Whole(v)
 }

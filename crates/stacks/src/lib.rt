@@ -1,12 +1,9 @@
-// Stacks are at most three units, of one force, asked in one pass over the units for each block of the map: 0 if so, else at which unit not.
+// Whether stacks are at most three units, of one force, in one pass over the units for each block of the map.
 ghost use Rattle.std.specs.Prelude.{◌≡◌, ℕ, ◌+◌, ◌<◌, length};
-ghost use Rattle.position.specs.Layout.{nowhere, hex, count, forces};
+ghost use Rattle.position.specs.Layout.{count, forces};
 ghost use Rattle.position.specs.Board.{board, force_of};
-ghost use Rattle.position.specs.Laid.{Laid};
-ghost use Rattle.flaw.specs.Flaw.{Breaks, Flaw};
-ghost use Rattle.flaw.specs.Tells.{Tells};
+ghost use Rattle.position.specs.Laid.{Laid, Says};
 ghost use Rattle.acceptance.specs.Asked.{AloneOk, StacksIn, StacksOk};
-ghost use Rattle.stacks.specs.Overfull.{Overfull};
 ghost use Rattle.acceptance.specs.Seats.{block, table, Empty, AddsTo, SeatedOf};
 
 use position::{View, layout, read};
@@ -60,71 +57,41 @@ fn seat(p: &[u8], v: View, seats: &mut [u8], base: usize, u: usize) -> bool
     0 < high
 }
 
-// Which line every unit on hex `h` breaks, where one has no room.
-fn fault(p: &[u8], v: View, h: usize) -> usize
-    requires { Laid p.now v × (h < nowhere) × Overfull (board p.now) h }
-    ensures { (u : ℕ) → u < count p.now → hex p.now u ≡ h → Breaks p.now u result }
-{
-    if 3 < crowd::crowd(p, v, h) {
-        return flaw::THREE;
-    }
-    flaw::ONE_FORCE
-}
-
-// The flaw of hex `h`, named at the first unit that stands there. That one is looked for here, so that no place is counted along the units
-// before one is wanted.
-fn company(p: &[u8], v: View, h: usize) -> usize
-    requires { Laid p.now v × (h < nowhere) × Overfull (board p.now) h }
-    ensures { Tells (Flaw p.now) result ⊥ }
-{
-    let count = v.count;
-    let line = fault(p, v, h);
-    let mut u = 0;
-    while u < count {
-        if read::hex(p, v, u) == h {
-            return line + flaw::PLACE * u;
-        }
-        u += 1;
-    }
-    line
-}
-
 // The stacks on the block of hexes that begins at `base`, by a table that is empty yet.
-fn seat_all(p: &[u8], v: View, seats: &mut [u8], base: usize) -> usize
-    requires { Laid p.now v × ((u : ℕ) → u < count p.now → force_of (board p.now) u < forces) × Empty seats.old × (base < v.hexes) }
-    ensures { Tells (Flaw p.now) result (StacksIn (board p.now) base (base + block)) }
+fn seat_all(p: &[u8], v: View, seats: &mut [u8], base: usize) -> bool
+    requires { Laid p.now v × ((u : ℕ) → u < count p.now → force_of (board p.now) u < forces) × Empty seats.old }
+    ensures { Says result (StacksIn (board p.now) base (base + block)) }
 {
     let count = v.count;
     for u in 0..count {
         if !seat(p, v, seats, base, u) {
-            return company(p, v, read::hex(p, v, u));
+            return false;
         }
     }
-    0
+    true
 }
 
 // The same with a table of its own.
-fn block_ok(p: &[u8], v: View, base: usize) -> usize
-    requires { Laid p.now v × ((u : ℕ) → u < count p.now → force_of (board p.now) u < forces) × (base < v.hexes) }
-    ensures { Tells (Flaw p.now) result (StacksIn (board p.now) base (base + block)) }
+fn block_ok(p: &[u8], v: View, base: usize) -> bool
+    requires { Laid p.now v × ((u : ℕ) → u < count p.now → force_of (board p.now) u < forces) }
+    ensures { Says result (StacksIn (board p.now) base (base + block)) }
 {
     let mut seats = [0u8; 256];
     seat_all(p, v, &mut seats, base)
 }
 
 // The stacks on all hexes, block by block.
-pub fn stacks_ok(p: &[u8], v: View) -> usize
+pub fn stacks_ok(p: &[u8], v: View) -> bool
     requires { Laid p.now v × ((u : ℕ) → u < count p.now → AloneOk (board p.now) u) }
-    ensures { Tells (Flaw p.now) result (StacksOk (board p.now)) }
+    ensures { Says result (StacksOk (board p.now)) }
 {
     let hexes = v.hexes;
     let mut base = 0;
     while base < hexes {
-        let flaw = block_ok(p, v, base);
-        if flaw != 0 {
-            return flaw;
+        if !block_ok(p, v, base) {
+            return false;
         }
         base += BLOCK;
     }
-    0
+    true
 }

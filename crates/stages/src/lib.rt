@@ -1,111 +1,108 @@
-// The lines of the documents on the stage, and what it asks of roles and routes: each function answers 0 if they are kept, else which is broken.
+// Whether the stage keeps its lines of the documents, and what it asks of roles and routes.
 ghost use Rattle.std.specs.Prelude.{◌≡◌, ◌<◌};
 ghost use Rattle.position.specs.Stage as Stage;
 ghost use Rattle.position.specs.Board.{board, desk};
 ghost use Rattle.acceptance.specs.Accepted.{QuietOk, RetreatsOk, LossesOk, AdvancesOk, DuringOk, StageOk};
-ghost use Rattle.position.specs.Layout.{stage};
-ghost use Rattle.position.specs.Laid.{Laid};
-ghost use Rattle.flaw.specs.Flaw.{Breaks};
-ghost use Rattle.flaw.specs.Tells.{Tells};
+ghost use Rattle.position.specs.Laid.{Laid, Says};
 
 mod owing;
 
 use position::{View, layout, read, role, stage};
 
-fn quiet_ok(p: &[u8], v: View) -> usize
-    requires { Laid p.now v × (stage p.now ≡ Stage.quiet) }
-    ensures { Tells (Breaks p.now 0) result (QuietOk (board p.now)) }
+fn quiet_ok(p: &[u8], v: View) -> bool
+    requires { Laid p.now v }
+    ensures { Says result (QuietOk (board p.now)) }
 {
     if crowd::holders(p, v, role::OWES) != 0 {
-        return flaw::QUIET_OWING;
+        return false;
     }
     if crowd::holders(p, v, role::ADVANCES) != 0 {
-        return flaw::QUIET_ADVANCING;
+        return false;
     }
     if crowd::routes(p, v) != 0 {
-        return flaw::QUIET_ROUTES;
+        return false;
     }
-    0
+    true
 }
 
-fn retreats_ok(p: &[u8], v: View) -> usize
-    requires { Laid p.now v × (stage p.now ≡ Stage.retreats) }
-    ensures { Tells (Breaks p.now 0) result (RetreatsOk (board p.now)) }
+fn retreats_ok(p: &[u8], v: View) -> bool
+    requires { Laid p.now v }
+    ensures { Says result (RetreatsOk (board p.now)) }
 {
     if !shape::within(1, read::owed(p, v), 3) {
-        return flaw::OWED;
+        return false;
     }
     let k = owing::owing_hexes(p, v);
     if k == 0 {
-        return flaw::SOME_OWE;
+        return false;
     }
     if layout::ROUTE_COUNT < k + crowd::routes(p, v) {
-        return flaw::ROUTES_ROOM;
+        return false;
     }
-    0
+    true
 }
 
-fn losses_ok(p: &[u8], v: View) -> usize
-    requires { Laid p.now v × (stage p.now ≡ Stage.losses) }
-    ensures { Tells (Breaks p.now 0) result (LossesOk (board p.now)) }
+fn losses_ok(p: &[u8], v: View) -> bool
+    requires { Laid p.now v }
+    ensures { Says result (LossesOk (board p.now)) }
 {
     if !shape::within(1, read::need(p, v), 1080) {
-        return flaw::NEED;
+        return false;
     }
     if !shape::within(1, crowd::holders(p, v, role::OWES), 18) {
-        return flaw::OWING;
+        return false;
     }
     if crowd::holders(p, v, role::ADVANCES) != 0 {
-        return flaw::LOSSES_ADVANCING;
+        return false;
     }
-    0
+    true
 }
 
-fn advances_ok(p: &[u8], v: View) -> usize
-    requires { Laid p.now v × (stage p.now ≡ Stage.advances) }
-    ensures { Tells (Breaks p.now 0) result (AdvancesOk (board p.now)) }
+fn advances_ok(p: &[u8], v: View) -> bool
+    requires { Laid p.now v }
+    ensures { Says result (AdvancesOk (board p.now)) }
 {
     if crowd::holders(p, v, role::ADVANCES) == 0 {
-        return flaw::SOME_ADVANCE;
+        return false;
     }
     if crowd::holders(p, v, role::OWES) != 0 {
-        return flaw::ADVANCES_OWING;
+        return false;
     }
-    0
+    true
 }
 
 // What the stage asks of n: 0 everywhere but in stage 1.
-fn owed_ok(p: &[u8], v: View) -> usize
+fn owed_ok(p: &[u8], v: View) -> bool
     requires { Laid p.now v }
-    ensures { Tells (Breaks p.now 0) result (((desk p.now).battle.stage ≡ Stage.retreats → ⊥) → (desk p.now).battle.owed ≡ 0) }
+    ensures { Says result (((desk p.now).battle.stage ≡ Stage.retreats → ⊥) → (desk p.now).battle.owed ≡ 0) }
 {
     if read::stage(p, v) == stage::RETREATS {
-        return 0;
+        return true;
     }
     if read::owed(p, v) != 0 {
-        return flaw::OWED_ELSEWHERE;
+        return false;
     }
-    0
+    true
 }
 
 // What the stage asks of need: 0 everywhere but in stage 2.
-fn need_ok(p: &[u8], v: View) -> usize
+fn need_ok(p: &[u8], v: View) -> bool
     requires { Laid p.now v }
-    ensures { Tells (Breaks p.now 0) result (((desk p.now).battle.stage ≡ Stage.losses → ⊥) → (desk p.now).battle.need ≡ 0) }
+    ensures { Says result (((desk p.now).battle.stage ≡ Stage.losses → ⊥) → (desk p.now).battle.need ≡ 0) }
 {
     if read::stage(p, v) == stage::LOSSES {
-        return 0;
+        return true;
     }
     if read::need(p, v) != 0 {
-        return flaw::NEED_ELSEWHERE;
+        return false;
     }
-    0
+    true
 }
 
 // What the stage asks of roles and routes.
-fn during_ok(p: &[u8], v: View) -> usize
+fn during_ok(p: &[u8], v: View) -> bool
     requires { Laid p.now v }
-    ensures { Tells (Breaks p.now 0) result (DuringOk (board p.now)) }
+    ensures { Says result (DuringOk (board p.now)) }
 {
     let stage = read::stage(p, v);
     if stage == stage::QUIET {
@@ -120,20 +117,21 @@ fn during_ok(p: &[u8], v: View) -> usize
     if stage == stage::ADVANCES {
         return advances_ok(p, v);
     }
-    0
+    true
 }
 
-pub fn stage_ok(p: &[u8], v: View) -> usize
+pub fn stage_ok(p: &[u8], v: View) -> bool
     requires { Laid p.now v }
-    ensures { Tells (Breaks p.now 0) result (StageOk (board p.now)) }
+    ensures { Says result (StageOk (board p.now)) }
 {
-    let owed = owed_ok(p, v);
-    if owed != 0 {
-        return owed;
+    if !owed_ok(p, v) {
+        return false;
     }
-    let need = need_ok(p, v);
-    if need != 0 {
-        return need;
+    if !need_ok(p, v) {
+        return false;
     }
-    during_ok(p, v)
+    if !during_ok(p, v) {
+        return false;
+    }
+    true
 }

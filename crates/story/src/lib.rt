@@ -1,9 +1,9 @@
 // A position as people read it: the map as text, its units and its desk, and what a battle or a retreat came to. Each function takes
 // the output and how full it is, and answers how full it is then.
-pub mod rows;
-pub mod table;
+mod rows;
+mod table;
 mod tiles;
-pub mod units;
+mod units;
 
 ghost use Rattle.position.specs.Laid.{Laid};
 

@@ -8,9 +8,9 @@ use native.Mathlib.Omega.{arith}
 use lib.Dec.{eqb}
 use lib.ListN.{length}
 use borrow.Author.Tests.{lt-ltb, le-ltb, le-leb, lt-leb, eq-eqb, ne_eqb}
-use Rattle.survey.specs.declared.region.Region.{Region}
+use Rattle.grid.specs.declared.region.Region.{Region}
 use Rattle.grid.specs.Map.{On}
-use Rattle.survey.specs.Region.{Whole}
+use Rattle.grid.specs.Region.{Whole}
 use Rattle.position.specs.Layout.{byte}
 use Rattle.position.specs.Bits.{has, port, urban, supply}
 use Rattle.position.specs.Kind.{force, us, canada}

@@ -12,9 +12,9 @@ ghost use Rattle.supply.specs.Graded.{Grades};
 ghost use Rattle.supply.specs.Traced.{Traced};
 ghost use Rattle.supply.specs.Supply.{supply_map, supply_rule};
 
+use grid::region;
 use position::{View, kind};
 use ruling::Answer;
-use survey::region;
 
 // The grades of the hexes for nationality `n`, whatever the buffer held.
 fn grades(p: &[u8], v: View, n: usize, out: &mut [u8])

@@ -1,27 +1,25 @@
-// Sweeps over the map, run by run, down and up again. Each makes a source of every open hex that has a source beside it already, so that two
+// Sweeps over the map, row by row, down and up again. Each makes a source of every open hex that has a source beside it already, so that two
 // of them reach most of a map at a fraction of the walk's price; the walk then has the rest.
-pub mod marks;
+pub mod row;
 
-ghost use Rattle.std.specs.Prelude.{◌≡◌, true, length};
-ghost use Rattle.survey.specs.Spot.{SpotOf};
-ghost use Rattle.survey.specs.Run.{RunOf};
+ghost use Rattle.std.specs.Prelude.{◌≡◌, true, ◌<◌, length};
+ghost use Rattle.grid.specs.Spot.{SpotOf};
 ghost use Rattle.position.specs.Board.{ground};
 ghost use Rattle.position.specs.Ground.{next};
 ghost use Rattle.position.specs.Laid.{Laid};
 ghost use Rattle.walk.specs.Chain.{mark};
 ghost use Rattle.walk.specs.Swept.{Joined, Swept};
 
+use grid::{Spot, near};
 use position::View;
-use survey::run::Run;
-use survey::{Spot, near, run};
 
-// Whether a source lies to the west of spot `s`. The hex before it by number is looked at first, since the sweep comes from there.
+// Whether a source lies to the west of spot `s`: in its own row, which is NW in an odd column and SW in an even one, or else in the other.
 fn from_west(p: &[u8], v: View, buf: &[u8], s: Spot) -> bool
     requires laid { Laid p.now v × SpotOf v.width v.height s }
     requires buf_len { length buf.now ≡ v.hexes }
     ensures { result ≡ true → Joined (next (ground p.now)) (mark buf.now) s.hex }
 {
-    if run::low(s) {
+    if grid::row::low(s) {
         if looking::leads(p, v, buf, s, 5, near::north_west(v.width, v.height, s), 2) {
             return true;
         }
@@ -39,7 +37,7 @@ fn from_east(p: &[u8], v: View, buf: &[u8], s: Spot) -> bool
     requires buf_len { length buf.now ≡ v.hexes }
     ensures { result ≡ true → Joined (next (ground p.now)) (mark buf.now) s.hex }
 {
-    if run::low(s) {
+    if grid::row::low(s) {
         if looking::leads(p, v, buf, s, 1, near::north_east(v.width, v.height, s), 2) {
             return true;
         }
@@ -100,71 +98,72 @@ fn join_east(p: &[u8], v: View, buf: &mut [u8], s: Spot)
     buf[at] = 2;
 }
 
-// Run `r` from west to east. Whether a hex is left open and no source.
-fn eastward(p: &[u8], v: View, buf: &mut [u8], r: Run, up: bool) -> bool
-    requires { Laid p.now v × (length buf.old ≡ v.hexes) × RunOf v.width v.height r }
+// Row `row` from west to east. Whether a hex is left open and no source.
+fn eastward(p: &[u8], v: View, buf: &mut [u8], row: usize, up: bool) -> bool
+    requires { Laid p.now v × (length buf.old ≡ v.hexes) × (row < v.height) }
     ensures { Swept (next (ground p.now)) buf.old buf.new }
 {
     let w = v.width;
     let mut left = false;
-    for i in 0..w {
-        if join_west(p, v, buf, run::spot(w, v.height, r, i), up) {
+    for c in 0..w {
+        if join_west(p, v, buf, grid::row::spot(w, v.height, row, c), up) {
             left = true;
         }
     }
     left
 }
 
-// Run `r` from east to west.
-fn westward(p: &[u8], v: View, buf: &mut [u8], r: Run)
-    requires { Laid p.now v × (length buf.old ≡ v.hexes) × RunOf v.width v.height r }
+// Row `row` from east to west.
+fn westward(p: &[u8], v: View, buf: &mut [u8], row: usize)
+    requires { Laid p.now v × (length buf.old ≡ v.hexes) × (row < v.height) }
     ensures { Swept (next (ground p.now)) buf.old buf.new }
 {
-    let mut i = v.width;
-    while 0 < i {
-        i -= 1;
-        join_east(p, v, buf, run::spot(v.width, v.height, r, i));
+    let w = v.width;
+    let mut c = w;
+    while 0 < c {
+        c -= 1;
+        join_east(p, v, buf, grid::row::spot(w, v.height, row, c));
     }
 }
 
-// Run `r` to the east and back. Whether the run after it is to be reached from it: not if most of this one is still open, as in a maze whose
-// lanes go across the runs, where the walk is cheaper.
-fn spread(p: &[u8], v: View, buf: &mut [u8], r: Run, up: bool) -> bool
-    requires { Laid p.now v × (length buf.old ≡ v.hexes) × RunOf v.width v.height r }
+// Row `row` to the east and back. Whether the row after it is to be reached from it: not if most of this one is still open, as in a maze whose
+// lanes run across the rows, where the walk is cheaper.
+fn spread(p: &[u8], v: View, buf: &mut [u8], row: usize, up: bool) -> bool
+    requires { Laid p.now v × (length buf.old ≡ v.hexes) × (row < v.height) }
     ensures { Swept (next (ground p.now)) buf.old buf.new }
 {
-    if !eastward(p, v, buf, r, up) {
+    if !eastward(p, v, buf, row, up) {
         return true;
     }
-    if !marks::has(v, buf, r, 2) {
+    if !row::has(v, buf, row, 2) {
         return false;
     }
-    westward(p, v, buf, r);
-    !marks::mostly(v, buf, r, 1)
+    westward(p, v, buf, row);
+    !row::mostly(v, buf, row, 1)
 }
 
-// The same, but that a run is passed over which has no source and which the run before does not reach.
-fn pass(p: &[u8], v: View, buf: &mut [u8], r: Run, up: bool, reached: bool) -> bool
-    requires { Laid p.now v × (length buf.old ≡ v.hexes) × RunOf v.width v.height r }
+// The same, but that a row is passed over which has no source and which the row before does not reach.
+fn pass(p: &[u8], v: View, buf: &mut [u8], row: usize, up: bool, reached: bool) -> bool
+    requires { Laid p.now v × (length buf.old ≡ v.hexes) × (row < v.height) }
     ensures { Swept (next (ground p.now)) buf.old buf.new }
 {
     if !reached {
-        if !marks::has(v, buf, r, 2) {
+        if !row::has(v, buf, row, 2) {
             return false;
         }
     }
-    spread(p, v, buf, r, up)
+    spread(p, v, buf, row, up)
 }
 
-// The same on the way up, where most runs have nothing left to join.
-fn pass_up(p: &[u8], v: View, buf: &mut [u8], r: Run, reached: bool) -> bool
-    requires { Laid p.now v × (length buf.old ≡ v.hexes) × RunOf v.width v.height r }
+// The same on the way up, where most rows have nothing left to join.
+fn pass_up(p: &[u8], v: View, buf: &mut [u8], row: usize, reached: bool) -> bool
+    requires { Laid p.now v × (length buf.old ≡ v.hexes) × (row < v.height) }
     ensures { Swept (next (ground p.now)) buf.old buf.new }
 {
-    if !marks::has(v, buf, r, 1) {
+    if !row::has(v, buf, row, 1) {
         return true;
     }
-    pass(p, v, buf, r, true, reached)
+    pass(p, v, buf, row, true, reached)
 }
 
 // The sweep down the map.
@@ -172,15 +171,10 @@ pub fn down(p: &[u8], v: View, buf: &mut [u8])
     requires { Laid p.now v × (length buf.old ≡ v.hexes) }
     ensures { Swept (next (ground p.now)) buf.old buf.new }
 {
-    let hexes = v.hexes;
-    let mut r = run::top(v.width, v.height);
+    let h = v.height;
     let mut reached = true;
-    loop {
-        reached = pass(p, v, buf, r, false, reached);
-        if hexes <= run::past(v.width, v.height, r) {
-            return;
-        }
-        r = run::after(v.width, v.height, r);
+    for row in 0..h {
+        reached = pass(p, v, buf, row, false, reached);
     }
 }
 
@@ -189,13 +183,10 @@ pub fn up(p: &[u8], v: View, buf: &mut [u8])
     requires { Laid p.now v × (length buf.old ≡ v.hexes) }
     ensures { Swept (next (ground p.now)) buf.old buf.new }
 {
-    let mut r = run::bottom(v.width, v.height);
+    let mut row = v.height;
     let mut reached = true;
-    loop {
-        reached = pass_up(p, v, buf, r, reached);
-        if run::first(v.width, v.height, r) == 0 {
-            return;
-        }
-        r = run::before(v.width, v.height, r);
+    while 0 < row {
+        row -= 1;
+        reached = pass_up(p, v, buf, row, reached);
     }
 }

@@ -6,10 +6,10 @@ use mathlib.Core.List.{List}
 use native.Mathlib.Omega.{arith}
 use lib.ListN.{set}
 use Rattle.grid.specs.declared.Beside.{Beside}
-use Rattle.survey.specs.declared.Nearby.{Nearby}
-use Rattle.survey.specs.declared.Nearby.TheVariants as N
+use Rattle.grid.specs.declared.Nearby.{Nearby}
+use Rattle.grid.specs.declared.Nearby.TheVariants as N
 use Rattle.grid.specs.Map.{neighbour_of}
-use Rattle.survey.specs.Spot.{NearOf}
+use Rattle.grid.specs.Spot.{NearOf}
 use Rattle.position.proofs.Sides.{off_at}
 use Rattle.walk.specs.declared.Going.{Going}
 use Rattle.walk.specs.declared.Going.TheVariants.{To, Over}

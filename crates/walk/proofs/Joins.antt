@@ -1,29 +1,34 @@
--- Laws of sweeps: a hex with a source beside it becomes one, and which hexes a chain joins to a source stays as it was. And laws of runs:
--- where no open hex of one has a source beside it.
+-- Laws of sweeps: a hex with a source beside it becomes one, and which hexes a chain joins to a source stays as it was. And laws of rows:
+-- where the neighbours of a row's hexes lie.
 -- Assumes nothing.
-use Prim.Native.Nat.{ℕ, ◌+◌, ◌≤◌, ◌<◌}
+use Prim.Native.Nat.{ℕ, suc, ◌+◌, ◌-◌, ◌*◌, ◌/◌, ◌%◌, ◌≤◌, ◌<◌}
 use mathlib.Core.Path.{◌≡◌, refl, sym, ◌∙◌, ap, subst}
 use mathlib.Core.Bool.{Bool, true, false}
 use mathlib.Core.List.{List}
-use mathlib.Core.Logic.{inl, inr, ⊎_elim}
+use mathlib.Core.Logic.{◌⊎◌, inl, inr, ⊎_elim}
+use native.Mathlib.Nat.{mul-le-mul, mul-le-mul_right, suc-mul, mul_comm}
 use native.Mathlib.Omega.{arith}
 use lib.ListN.{length, set, length-set}
 use Rattle.grid.specs.declared.Beside.{Beside}
-use Rattle.survey.specs.declared.Spot.{Spot}
-use Rattle.grid.specs.Map.{neighbour_of}
-use Rattle.survey.specs.declared.run.Run.{Run}
-use Rattle.survey.specs.Spot.{SpotOf}
-use Rattle.survey.specs.Run.{first_of, past_of, NearFrom, NearTo}
+use Rattle.grid.specs.declared.Beside.TheVariants.{At}
+use Rattle.grid.specs.declared.Spot.{Spot}
+use Rattle.grid.specs.Map.{On, neighbour_of}
+use Rattle.grid.specs.Spot.{SpotOf}
+use Rattle.grid.proofs.Arith.{number, column, row_of}
+use Rattle.grid.proofs.Laws.{on_map_lem}
+use Rattle.grid.proofs.Close.{beside_close}
 use Rattle.position.specs.declared.View.{View}
 use Rattle.position.specs.Layout.{ViewOf}
+use Rattle.position.specs.Laid.{Laid}
 use Rattle.position.specs.Board.{ground}
 use Rattle.position.specs.Ground.{next}
+use Rattle.position.proofs.Shapes.{sizes}
 use Rattle.position.proofs.Sides.{area_view, beside_view, next_over}
 use Rattle.position.proofs.Tallies.{same_or}
 use Rattle.walk.specs.Chain.{mark, Chain}
 use Rattle.walk.specs.Chain.Chain.{source, beside}
 use Rattle.walk.specs.Trail.{Opens, Apart}
-use Rattle.walk.specs.Swept.{None, RunApart, Joined, Swept}
+use Rattle.walk.specs.Swept.{None, RowApart, Joined, Swept}
 use Rattle.walk.proofs.Marks.{le_or, mark_set, mark_in_lem}
 use Rattle.walk.proofs.Sweeps.{chain_by}
 
@@ -93,23 +98,70 @@ none_more f a {i} s n k p q e = same_or k i (λ c. n (ap f (sym c) ∙ e)) (λ c
 pub found_one : {A : Type 0} → ◌≡◌ {A = Bool} true false → A
 found_one e = let z : ◌≡◌ {A = ℕ} 0 1 = cc in absurd (omega arith)
 
--- a spot's hex has its byte
+-- a map has hexes, and a spot's hex has its byte
+pub map_on : {p : List ℕ} {v : View} → Laid p v → On v.width v.height 0
+map_on l =
+    let s = sizes l in
+    record {
+      wide = s.width.low;
+      wide64 = s.width.high;
+      high = s.height.low;
+      high64 = s.height.high;
+      below = mul-le-mul s.width.low s.height.low;
+    }
+
 pub spot_in :
     (l : List ℕ) {p : List ℕ} {v : View} {s : Spot} → ViewOf p v → SpotOf v.width v.height s → length l ≡ v.hexes → s.hex < length l
 spot_in l o s e = omega (arith, s.on.below, area_view o)
+
+-- where rows begin and end
+pub row_next : (r w : ℕ) → (r + 1) * w ≡ r * w + w
+row_next r w = ap (λ (n : ℕ). n * w) (omega arith) ∙ suc-mul r w
+
+pub row_back : (r w : ℕ) → 1 ≤ r → (r - 1) * w + w ≡ r * w
+row_back r w p = sym (row_next (r - 1) w) ∙ ap (λ (n : ℕ). n * w) (omega arith)
+
+pub row_none : (r w : ℕ) → r < 1 → r * w ≡ 0
+row_none r w p = let z : r ≡ 0 = omega arith in omega (arith, ap (λ (n : ℕ). n * w) z)
+
+pub row_past : {h r : ℕ} (w : ℕ) → h ≤ r → w * h ≤ r * w
+row_past {h} {r} w p = omega (arith, mul-le-mul_right w p, mul_comm w h)
 
 -- a step over an unblocked side leads to a neighbour
 pub apart_next : {p : List ℕ} {v : View} {f : ℕ → ℕ} → ViewOf p v → (k : ℕ) → Apart (neighbour_of v.width v.height) f k → Apart (next (ground p)) f k
 apart_next {p} o k n e d b x = n e d b (beside_view o k d ∙ next_over (ground p) k d b x)
 
--- a search of what comes next to it
-pub none_on : {f : ℕ → ℕ} {a b c m : ℕ} → None f a b m → None f b c m → None f a c m
-none_on {b = b} x y k p q = le_or b k (λ s. y k s q) (λ s. x k p s)
+-- the neighbours of a hex of row r lie in row r and in those before and after it
+module _ {w h : ℕ} (o : On w h 0) (r : ℕ) where
+  record Around (b : ℕ) : Type 0 where
+    low : r * w ≤ b + w
+    high : b < r * w + w + w
 
--- no open hex of a run has a source beside it where none is open, and where no source lies among the hexes beside the run
-module _ (w h : ℕ) (r : Run) where
-  pub run_closed : {f : ℕ → ℕ} → None f (first_of w r) (past_of w r) 1 → RunApart w h f r
-  run_closed n k p q e = absurd (n k p q e)
+  around : (k d b : ℕ) → r * w ≤ k → k < r * w + w → neighbour_of w h k d ≡ At b → Around b
+  around k d b p q e =
+      let c = beside_close w h k d b e in
+      let z : r * w + (k - r * w) ≡ k = omega arith in
+      let row : k / w ≡ r = ap (λ (n : ℕ). n / w) (sym z) ∙ row_of r (omega arith) in
+      let up : r ≤ suc (b / w) = omega (arith, c.north) in
+      let down : b / w ≤ suc r = omega (arith, c.south) in
+      let n = number w b in
+      let m : b % w < w = column (on_map_lem w h k d b e) in
+      record {
+        low = omega (arith, mul-le-mul_right w up, suc-mul (b / w) w);
+        high = omega (arith, mul-le-mul_right w down, suc-mul r w);
+      }
 
-  pub run_apart : {f : ℕ → ℕ} {from to : ℕ} → NearFrom w h r from → NearTo w h r to → None f from to 2 → RunApart w h f r
-  run_apart x y n k p q e d b a t = n b (x k d b p q a) (y.each k d b p q a) t
+  pub row_closed : {f : ℕ → ℕ} → None f (r * w) (r * w + w) 1 → RowApart w h f r
+  row_closed n k p q e = absurd (n k p q e)
+
+  pub row_apart :
+      {f : ℕ → ℕ}
+      → None f (r * w - w) (r * w) 2
+      → None f (r * w) (r * w + w) 2
+      → None f (r * w + w) (r * w + w + w) 2
+      → RowApart w h f r
+  row_apart x y z k p q e d b a t =
+      let i = around k d b p q a in
+      le_or (r * w) b
+      (λ s. le_or (r * w + w) b (λ v. z b v i.high t) (λ v. y b s v t))
+      (λ s. x b (omega (arith, i.low)) s t)

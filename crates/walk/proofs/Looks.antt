@@ -6,10 +6,10 @@ use mathlib.Core.List.{List}
 use native.Mathlib.Omega.{arith}
 use Rattle.grid.specs.declared.Beside.{Beside}
 use Rattle.grid.specs.declared.Beside.TheVariants.{At, Off}
-use Rattle.survey.specs.declared.Nearby.{Nearby}
-use Rattle.survey.specs.declared.Nearby.TheVariants as N
-use Rattle.survey.specs.declared.Spot.{Spot}
-use Rattle.survey.specs.Spot.{NearOf}
+use Rattle.grid.specs.declared.Nearby.{Nearby}
+use Rattle.grid.specs.declared.Nearby.TheVariants as N
+use Rattle.grid.specs.declared.Spot.{Spot}
+use Rattle.grid.specs.Spot.{NearOf}
 use Rattle.position.specs.declared.View.{View}
 use Rattle.position.specs.Layout.{ViewOf}
 use Rattle.position.specs.Board.{Map, ground}

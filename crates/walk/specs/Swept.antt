@@ -2,11 +2,9 @@
 -- What comes before the walk and what both leave: sweeps over the map that make a source of an open hex with a source beside it. That
 -- changes nothing in which hexes a chain joins to a source.
 -- Assumes nothing.
-use Rattle.std.specs.Prelude.{ℕ, ◌≤◌, ◌<◌, ◌≡◌, List, ◌⊎◌, length}
+use Rattle.std.specs.Prelude.{ℕ, ◌+◌, ◌*◌, ◌≤◌, ◌<◌, ◌≡◌, List, ◌⊎◌, length}
 use Rattle.grid.specs.declared.Beside.{Beside}
 use Rattle.grid.specs.Map.{neighbour_of}
-use Rattle.survey.specs.declared.run.Run.{Run}
-use Rattle.survey.specs.Run.{first_of, past_of}
 use Rattle.walk.specs.Chain.{mark, Chain}
 use Rattle.walk.specs.Trail.{Opens, Apart}
 
@@ -14,9 +12,9 @@ use Rattle.walk.specs.Trail.{Opens, Apart}
 abbrev pub None : (ℕ → ℕ) → ℕ → ℕ → ℕ → Type 0
 None f a b m = (k : ℕ) → a ≤ k → k < b → f k ≡ m → ⊥
 
--- no open hex of run r has a source beside it, on whichever side
-abbrev pub RunApart : ℕ → ℕ → (ℕ → ℕ) → Run → Type 0
-RunApart w h f r = (k : ℕ) → first_of w r ≤ k → k < past_of w r → Apart (neighbour_of w h) f k
+-- no open hex of row r has a source beside it, on whichever side
+abbrev pub RowApart : ℕ → ℕ → (ℕ → ℕ) → ℕ → Type 0
+RowApart w h f r = (k : ℕ) → r * w ≤ k → k < r * w + w → Apart (neighbour_of w h) f k
 
 -- a source lies beside hex a
 pub record Joined (next : ℕ → ℕ → Beside) (f : ℕ → ℕ) (a : ℕ) : Type 0 where

@@ -6,10 +6,10 @@
 use Rattle.std.specs.Prelude.{ℕ, ◌+◌, ◌-◌, ◌*◌, ◌/◌, ◌%◌, ◌≤◌, ◌<◌, ◌≡◌, Bool, true, false, List, ◌⊎◌, length, set}
 use Rattle.grid.specs.declared.Beside.{Beside}
 use Rattle.grid.specs.declared.Beside.TheVariants.{At, Off}
-use Rattle.survey.specs.declared.Nearby.{Nearby}
-use Rattle.survey.specs.declared.Nearby.TheVariants as N
+use Rattle.grid.specs.declared.Nearby.{Nearby}
+use Rattle.grid.specs.declared.Nearby.TheVariants as N
 use Rattle.grid.specs.Map.{neighbour_of}
-use Rattle.survey.specs.Spot.{SpotOf}
+use Rattle.grid.specs.Spot.{SpotOf}
 use Rattle.walk.specs.declared.Going.{Going}
 use Rattle.walk.specs.declared.Going.TheVariants.{To, Over}
 use Rattle.walk.specs.Chain.{mark, Chain}

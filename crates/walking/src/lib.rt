@@ -4,9 +4,8 @@
 // that it was entered from (6, in which nothing lies, where the walk began), and m % 8 is 0, or 7 once the walk has left the hex.
 mod step;
 
-ghost use Rattle.std.specs.Prelude.{◌≡◌, ◌+◌, length};
-ghost use Rattle.survey.specs.Spot.{SpotOf};
-ghost use Rattle.survey.specs.Run.{RunOf, first_of, past_of};
+ghost use Rattle.std.specs.Prelude.{◌≡◌, ◌+◌, ◌*◌, ◌<◌, length};
+ghost use Rattle.grid.specs.Spot.{SpotOf};
 ghost use Rattle.position.specs.Board.{ground};
 ghost use Rattle.position.specs.Ground.{next};
 ghost use Rattle.position.specs.Laid.{Laid};
@@ -14,10 +13,9 @@ ghost use Rattle.walk.specs.Chain.{mark, Reached, Graded};
 ghost use Rattle.walk.specs.Trail.{Rest, Flooded, Sown, Seeded, Settled};
 ghost use Rattle.walk.specs.Swept.{Joined, Walked};
 
+use grid::Spot;
 use position::View;
-use survey::run::Run;
-use survey::{Spot, run};
-use sweeping::marks;
+use sweeping::row;
 use walk::Going;
 
 // The walk from spot `start`, which is open and has a source beside it: it enters every hex that open hexes join to it, but for sources and
@@ -59,18 +57,18 @@ fn seed(p: &[u8], v: View, buf: &mut [u8], s: Spot)
     flood(p, v, buf, s);
 }
 
-// The walks from the hexes of run `r`.
-fn seed_run(p: &[u8], v: View, buf: &mut [u8], r: Run)
-    requires laid { Laid p.now v × (length buf.old ≡ v.hexes) × RunOf v.width v.height r }
+// The walks from the hexes of row `row`.
+fn seed_row(p: &[u8], v: View, buf: &mut [u8], row: usize)
+    requires laid { Laid p.now v × (length buf.old ≡ v.hexes) × (row < v.height) }
     requires rest { Rest (next (ground p.now)) (mark buf.old) }
-    ensures { Sown (next (ground p.now)) buf.old (first_of v.width r) (past_of v.width r) buf.new }
+    ensures { Sown (next (ground p.now)) buf.old (row * v.width) (row * v.width + v.width) buf.new }
 {
-    if !marks::joinable(v, buf, r) {
+    if !row::joinable(v, buf, row) {
         return;
     }
     let w = v.width;
-    for i in 0..w {
-        seed(p, v, buf, run::spot(w, v.height, r, i));
+    for c in 0..w {
+        seed(p, v, buf, grid::row::spot(w, v.height, row, c));
     }
 }
 
@@ -80,14 +78,9 @@ fn seeds(p: &[u8], v: View, buf: &mut [u8])
     requires rest { Rest (next (ground p.now)) (mark buf.old) }
     ensures { Seeded (next (ground p.now)) buf.old buf.new }
 {
-    let hexes = v.hexes;
-    let mut r = run::top(v.width, v.height);
-    loop {
-        seed_run(p, v, buf, r);
-        if hexes <= run::past(v.width, v.height, r) {
-            return;
-        }
-        r = run::after(v.width, v.height, r);
+    let h = v.height;
+    for row in 0..h {
+        seed_row(p, v, buf, row);
     }
 }
 
@@ -99,11 +92,11 @@ pub fn reach(p: &[u8], v: View, buf: &mut [u8])
     ensures { Walked (next (ground p.now)) buf.old buf.new }
 {
     let hexes = v.hexes;
-    if !marks::some(buf, 0, hexes, 2) {
+    if !row::some(buf, 0, hexes, 2) {
         return;
     }
     sweeping::down(p, v, buf);
-    if !marks::some(buf, 0, hexes, 1) {
+    if !row::some(buf, 0, hexes, 1) {
         return;
     }
     sweeping::up(p, v, buf);

@@ -1,14 +1,14 @@
 // One step of the walk: into a hex beside it, or home.
 ghost use Rattle.std.specs.Prelude.{◌≡◌, ◌+◌, ◌-◌, ◌*◌, ◌/◌, ◌<◌, length, set};
-ghost use Rattle.survey.specs.Spot.{SpotOf};
+ghost use Rattle.grid.specs.Spot.{SpotOf};
 ghost use Rattle.position.specs.Board.{ground};
 ghost use Rattle.position.specs.Ground.{beside, next};
 ghost use Rattle.position.specs.Laid.{Laid};
 ghost use Rattle.walk.specs.Chain.{mark};
 ghost use Rattle.walk.specs.Trail.{Ready, arriving, HomeOf, EnterOf, StepOf};
 
+use grid::{Nearby, Spot, near};
 use position::View;
-use survey::{Nearby, Spot, near};
 use walk::Going;
 
 // On at `b`, from direction `from` on; over if there is no hex.

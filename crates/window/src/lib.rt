@@ -5,7 +5,7 @@ ghost use Rattle.position.specs.Layout.{width};
 ghost use Rattle.position.specs.Board.{board, ground};
 ghost use Rattle.position.specs.Ground.{next};
 ghost use Rattle.position.specs.Laid.{Laid};
-ghost use Rattle.survey.specs.Region.{Inside};
+ghost use Rattle.grid.specs.Region.{Inside};
 ghost use Rattle.routes.specs.Bears.{refuge};
 ghost use Rattle.routes.specs.Legal.{enters};
 ghost use Rattle.routes.specs.Search.{step_of, first_route, found};
@@ -13,11 +13,10 @@ ghost use Rattle.routes.specs.Window.{free, Window};
 
 pub mod sent;
 
-use grid::Beside;
+use grid::region::Region;
+use grid::{Beside, near, region};
 use position::{View, bits, layout};
 use routes::Found;
-use survey::region::Region;
-use survey::{near, region};
 
 // Whether a hex with the marks `m` is vacant and outside Enemy zones. Friends lift no zone.
 pub fn free(m: usize) -> bool

@@ -5,8 +5,8 @@ ghost use Rattle.position.specs.Laid.{Laid};
 ghost use Rattle.routes.specs.Legal.{steps_to, legal};
 ghost use Rattle.routes.specs.Window.{Window};
 
+use grid::region::Region;
 use position::View;
-use survey::region::Region;
 
 // Whether a run may go on from hex `a` to hex `x` after `i` steps.
 fn steps_to(

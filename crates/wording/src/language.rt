@@ -23,15 +23,11 @@ fn the_views(out: &mut Output, full: usize) -> usize {
         full,
         b"\
         position HEXDIGITS         the position from here on, - for the empty one\n\
-        setup                      a scenario follows, to its line begin: docs/SCENARIO.md\n\
-        scenario                   the position as a scenario, all strengths in it\n\
         buffer LENGTH              the length of what the next call borrows\n\
         show                       the position in hex digits\n\
         lent                       what the last call borrowed, in hex digits\n\
         roster                     each unit, its hex, S or O by supply\n\
         map, map NATIONALITY       the position as a map; + for supplied hexes\n\
-        why                        fine, or which line of the rules the position breaks\n\
-        picture, picture NATIONALITY  the position as SVG; shades for supply and Enemy zones\n\
         echo, echo off             lines are written before their answers, with words\n\
         help                       these lines\n",
     )

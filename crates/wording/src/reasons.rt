@@ -159,14 +159,12 @@ fn plain(out: &mut Output, full: usize, n: usize) -> usize {
         14 => page::text(
             out,
             full,
-            b"a vacant route of all hexes owed is due, or where there is none a longest part route, \
-            without pushes; for supply units alone, no route",
+            b"a vacant route, or a longest part route, is due: this is none, or pushes were sent",
         ),
         15 => page::text(
             out,
             full,
-            b"the printed strengths do not reach what is owed and not all who owe are named, \
-            or the attacker spares special infantry and names others",
+            b"the losses are short, or spare special infantry",
         ),
         16 => page::text(out, full, b"it is the last phase of the last turn"),
         17 => page::text(

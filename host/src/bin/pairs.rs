@@ -1,12 +1,10 @@
 //! Write two records that must read alike: pairs SEED COUNT FIRST SECOND.
 //!
-//! Both are the generated record of the seed, with `echo` and with a `map` and a `picture` after each position and call. In
-//! the second, strengths are others where they stay face down until the next position. Lines that show bytes are left out
-//! of both.
+//! Both are the generated record of the seed, with `echo` and with a `map` after each position and call. In the second,
+//! strengths are others where they stay face down until the next position. Lines that show bytes are left out of both.
 
 use host::generator::chance::Chance;
 use host::generator::record;
-use host::pictures::views::line_for;
 use host::record::line::{hex_digits, read, Line};
 use host::record::table::Table;
 use host::rules::board::acceptance::accepted;
@@ -99,14 +97,14 @@ fn write_scene(chance: &mut Chance, both: &mut [Vec<u8>; 2], scene: &[&[u8]], op
         if matches!(said, Line::Show) {
             continue;
         }
-        let views = if matches!(said, Line::Position(_)) || matches!(said, Line::Call(_)) && !large {
-            format!("\nmap {}\n{}", chance.below(5), line_for(chance))
+        let map = if matches!(said, Line::Position(_)) || matches!(said, Line::Call(_)) && !large {
+            format!("\nmap {}\n", chance.below(5))
         } else {
             "\n".to_string()
         };
         for (text, first) in both.iter_mut().zip([*line, opening]) {
             text.extend(if at == 0 { first } else { line });
-            text.extend(views.as_bytes());
+            text.extend(map.as_bytes());
         }
     }
 }

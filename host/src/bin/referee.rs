@@ -36,9 +36,6 @@ fn play(calls: &[Call]) -> io::Result<()> {
     loop {
         line.clear();
         if input.read_until(b'\n', &mut line)? == 0 {
-            if let Some(answer) = table.end().text() {
-                writeln!(output, "{answer}")?;
-            }
             return output.flush();
         }
         let text = line.strip_suffix(b"\n").unwrap_or(&line);

@@ -1,4 +1,4 @@
-//! Write the stored files anew that `host::upkeep::samples` makes: the rosters' positions, and what `first_game` plays.
+//! Write the stored files that hold positions anew, with the positions that `host::upkeep::samples` makes.
 
 use host::upkeep::samples::stored;
 use std::fs;

@@ -4,7 +4,6 @@ pub mod chance;
 pub mod neutral_stories;
 pub mod orders;
 pub mod positions;
-pub mod scenarios;
 pub mod stories;
 pub mod ways;
 pub mod writer;

@@ -15,8 +15,6 @@ pub enum Line {
     Show,
     Lent,
     Roster,
-    /// A scenario follows.
-    Setup,
     /// A line for people, which this referee passes over.
     Passed,
     Unreadable,
@@ -47,9 +45,8 @@ fn read_words(word: &[u8], operands: &[&[u8]]) -> Option<Line> {
         (b"show", []) => Some(Line::Show),
         (b"lent", []) => Some(Line::Lent),
         (b"roster", []) => Some(Line::Roster),
-        (b"setup", []) => Some(Line::Setup),
-        (b"echo", [] | [b"off"]) | (b"help" | b"map" | b"picture" | b"scenario" | b"why", []) => Some(Line::Passed),
-        (b"map" | b"picture", [nationality]) if number(nationality)? <= 4 => Some(Line::Passed),
+        (b"echo", [] | [b"off"]) | (b"help", []) | (b"map", []) => Some(Line::Passed),
+        (b"map", [nationality]) if number(nationality)? <= 4 => Some(Line::Passed),
         _ => {
             let call = Call::named(word)?;
             let lists: Option<Vec<Vec<u16>>> = operands.split(|operand| *operand == b"/").map(numbers).collect();

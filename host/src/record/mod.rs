@@ -1,6 +1,5 @@
-//! The record: what a line says, the table on which lines are played, the roster, and scenarios.
+//! The record: what a line says, the table on which lines are played, and the roster.
 
 pub mod line;
 pub mod roster;
-pub mod scenario;
 pub mod table;

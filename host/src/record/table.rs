@@ -2,7 +2,6 @@
 
 use super::line::{hex_digits, read, Line};
 use super::roster::roster;
-use super::scenario::{Scenario, Told};
 use crate::rules::board::acceptance::accepted;
 use crate::rules::order::{Answer, Call, Order, CALLS};
 use crate::rules::referee;
@@ -18,8 +17,6 @@ pub struct Table {
     buffer: Option<usize>,
     calls: Vec<Call>,
     lines: usize,
-    /// The scenario that is being told, between `setup` and `begin`.
-    scenario: Option<Scenario>,
 }
 
 /// What a line brought about.
@@ -27,8 +24,6 @@ pub struct Table {
 pub enum Reply {
     Silent,
     Answered(Call, Answer),
-    /// A scenario was begun, or it was not.
-    Begun(bool),
     Digits(String),
     /// Lines, none too.
     Roster(Vec<String>),
@@ -41,8 +36,6 @@ impl Reply {
         match self {
             Reply::Silent => None,
             Reply::Answered(_, answer) => Some(answer.text()),
-            Reply::Begun(true) => Some("ok".to_string()),
-            Reply::Begun(false) => Some("no 1 0".to_string()),
             Reply::Digits(digits) => Some(digits.clone()),
             Reply::Roster(lines) if lines.is_empty() => None,
             Reply::Roster(lines) => Some(lines.join("\n")),
@@ -53,7 +46,7 @@ impl Reply {
 
 impl Table {
     pub fn new(calls: &[Call]) -> Table {
-        Table { position: Vec::new(), lent: Vec::new(), buffer: None, calls: calls.to_vec(), lines: 0, scenario: None }
+        Table { position: Vec::new(), lent: Vec::new(), buffer: None, calls: calls.to_vec(), lines: 0 }
     }
 
     pub fn with_all_calls() -> Table {
@@ -72,9 +65,6 @@ impl Table {
     /// Play the next line of the record, given without its newline.
     pub fn play(&mut self, line: &[u8]) -> Reply {
         self.lines += 1;
-        if let Some(scenario) = self.scenario.take() {
-            return self.told(scenario, line);
-        }
         match read(line) {
             Line::Nothing | Line::Passed => Reply::Silent,
             Line::Position(bytes) => {
@@ -89,37 +79,10 @@ impl Table {
                 let answer = self.call(&order);
                 Reply::Answered(order.call(), answer)
             }
-            Line::Setup => {
-                self.scenario = Some(Scenario::default());
-                Reply::Silent
-            }
             Line::Show => Reply::Digits(hex_digits(&self.position)),
             Line::Lent => Reply::Digits(hex_digits(&self.lent)),
             Line::Roster => Reply::Roster(roster(&self.position)),
             Line::Call(_) | Line::Unreadable => Reply::What(self.lines),
-        }
-    }
-
-    /// A line of a scenario; what is begun takes the position's place.
-    fn told(&mut self, mut scenario: Scenario, line: &[u8]) -> Reply {
-        let told = scenario.line(line);
-        if told == Told::Over {
-            let begun = scenario.begun();
-            self.position = begun.clone().unwrap_or(std::mem::take(&mut self.position));
-            return Reply::Begun(begun.is_some());
-        }
-        self.scenario = Some(scenario);
-        if told == Told::Unreadable {
-            return Reply::What(self.lines);
-        }
-        Reply::Silent
-    }
-
-    /// The record is over: a scenario that is still open is not begun.
-    pub fn end(&mut self) -> Reply {
-        match self.scenario.take() {
-            Some(_) => Reply::Begun(false),
-            None => Reply::Silent,
         }
     }
 

@@ -1,6 +1,6 @@
-//! The positions of the stored runs: those of the rosters and the first game, made from their parts, and that of the C example.
+//! The positions of the stored runs, made from their parts: the rosters and the sample games.
 
-use crate::record::table::Table;
+use crate::record::line::hex_digits;
 use crate::rules::board::contents::written;
 use crate::rules::board::position::*;
 use crate::rules::board::unit_type::{ARMOUR, INFANTRY, MECHANISED, MILITIA, SPECIAL_INFANTRY, SUPPLY_UNIT};
@@ -51,7 +51,7 @@ fn land() -> Position {
         match number % 8 {
             0 => hex.surface = ALL_SEA,
             1 => hex.surface = COASTAL,
-            _ => {}
+            _ => hex.country = IN_US,
         }
     }
     let hexes = &mut position.map.hexes;
@@ -63,7 +63,6 @@ fn land() -> Position {
     hexes[33].flags = URBAN;
     [7, 15, 31].into_iter().for_each(|hex: usize| hexes[hex].flags = SUPPLY);
     hexes[7].country = IN_CANADA;
-    [15, 31].into_iter().for_each(|hex: usize| hexes[hex].country = IN_US);
     hexes[1].sides = side(BLOCKED, NORTH_EAST);
     hexes[19].sides = side(RIVER, SOUTH_EAST);
     hexes[27].sides = side(RIVER, NORTH_EAST);
@@ -78,7 +77,7 @@ fn side(number: u8, direction: u8) -> u8 {
     number << (2 * direction)
 }
 
-/// The position that the scenario of `examples/game.record` tells, where all units are supplied.
+/// The position of `examples/game.record`, where all units are supplied.
 pub fn first_game() -> Position {
     let mut position = land();
     position.chart.terrains[usize::from(HILLS)] = Effect { cost: 3, multiple: 2 };
@@ -112,24 +111,35 @@ pub fn first_game() -> Position {
     position
 }
 
-/// The position that a scenario tells, by this referee.
-fn told(scenario: &str) -> Vec<u8> {
-    let mut table = Table::with_all_calls();
-    scenario.lines().for_each(|line| drop(table.play(line.as_bytes())));
-    table.position
+/// The same with the players of the four forces.
+fn played_by(players: [u8; 4]) -> Position {
+    let mut position = first_game();
+    position.desk.players = Some(players);
+    position
 }
 
-/// The stored files, each with its path in the project and what it holds: the rosters' positions, the sample games one after the
-/// other, and the C example's scenario with the bytes that it makes.
+/// A record with these positions in its lines `position`, in their order.
+fn with_positions(record: &str, positions: &[Position]) -> String {
+    let mut positions = positions.iter();
+    let anew = |line: &str| match line.starts_with("position ") {
+        true => format!("position {}\n", hex_digits(&written(positions.next().expect("a position for each line")))),
+        false => format!("{line}\n"),
+    };
+    record.lines().map(anew).collect()
+}
+
+/// The stored files that hold positions, each with its path in the project and what it holds. `read` gives what a record
+/// holds now: its other lines stay.
 pub fn stored(read: impl Fn(&str) -> String) -> Vec<(&'static str, Vec<u8>)> {
-    let games = read("examples/game.record") + &read("examples/two_players.record");
-    let scenario = read("examples/c/three_hexes.scenario");
+    let game = with_positions(&read("examples/game.record"), &[first_game()]);
+    let two = [played_by([0, 0, 0, 1]), played_by([0; 4]), first_game()];
+    let two = with_positions(&read("examples/two_players.record"), &two);
     vec![
         ("crates/roster/stdin", written(&roster())),
         ("crates/roster_less/stdin", written(&roster_less())),
         ("crates/roster_broken/stdin", written(&roster_broken())),
-        ("crates/first_game/stdin", games.into_bytes()),
-        ("crates/setup/stdout", told(&scenario)),
-        ("crates/setup/stdin", scenario.into_bytes()),
+        ("crates/first_game/stdin", (game.clone() + &two).into_bytes()),
+        ("examples/game.record", game.into_bytes()),
+        ("examples/two_players.record", two.into_bytes()),
     ]
 }

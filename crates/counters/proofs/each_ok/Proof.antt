@@ -1,12 +1,11 @@
--- `each_ok` meets its contract. The loop's invariant: every unit before u is as it should be by itself.
+-- `units_ok::each_ok` meets its contract. The loop's invariant: every unit before u is as it should be.
 -- Assumes nothing.
 use Prim.Native.Nat.{◌-◌}
 use native.Mathlib.Omega.{arith}
 use borrow.Author.Rules.{rules}
-use Rattle.position.specs.Board.{board}
-use Rattle.position.proofs.Answers.{Passed, none_yet, one_more, all}
 use Rattle.acceptance.specs.Asked.{AloneOk}
-use Rattle.flaw.proofs.Tellings.{fine, line_small, broken_there}
+use Rattle.position.specs.Board.{board}
+use Rattle.position.proofs.Answers.{said, unsaid, Passed, none_yet, one_more, all, not_all}
 use Rattle.counters.proofs.each_ok.Statement.{statement}
 use Rattle.counters.proofs.each_ok.Tie as tie
 
@@ -20,16 +19,12 @@ loop-holds : tie.Need-loop-init invariant-loop decreases-loop
 loop-holds c = none_yet
 
 alone-ok-requires : tie.Need-alone-ok-requires invariant-loop decreases-loop
-alone-ok-requires c κs = (c.before.before.before.requires, omega arith)
-
-mul-result : tie.Need-overflow-mul-result invariant-loop decreases-loop
-mul-result c = search rules
-
-add-result : tie.Need-overflow-add-result invariant-loop decreases-loop
-add-result c = omega (arith, line_small (c.before.alone-ok.ensures.named c.if1.true))
+alone-ok-requires c κs = search rules
 
 returns : tie.Need-returns invariant-loop decreases-loop
-returns c = broken_there (c.before.alone-ok.ensures.named c.if1.true)
+returns c =
+    let l = c.before.before.before in
+    not_all l.loop.invariant (omega arith) (unsaid c.before.alone-ok.result c.if1.true c.before.alone-ok.ensures)
 
 add-u : tie.Need-overflow-add-u invariant-loop decreases-loop
 add-u c = search rules
@@ -38,10 +33,23 @@ loop-less : tie.Need-loop-smaller invariant-loop decreases-loop
 loop-less c = search rules
 
 loop-again : tie.Need-loop-preserved invariant-loop decreases-loop
-loop-again c = one_more c.before.before.before.loop.invariant (omega arith) (c.before.alone-ok.ensures.kept c.if1.false)
+loop-again c =
+    let l = c.before.before.before in
+    one_more l.loop.invariant (omega arith) (said c.before.alone-ok.result c.if1.false c.before.alone-ok.ensures)
 
 returns-2 : tie.Need-returns-2 invariant-loop decreases-loop
-returns-2 c = fine (all c.before.loop.invariant (omega arith))
+returns-2 c = all c.before.loop.invariant (omega arith)
 
 pub each-ok-spec : {M : Type 1} → statement M
-each-ok-spec = tie.close (tie.spec invariant-loop decreases-loop loop-holds alone-ok-requires mul-result add-result returns add-u loop-less loop-again returns-2)
+each-ok-spec =
+    tie.close
+    (tie.spec
+    invariant-loop
+    decreases-loop
+    loop-holds
+    alone-ok-requires
+    returns
+    add-u
+    loop-less
+    loop-again
+    returns-2)

@@ -1,15 +1,13 @@
--- `strengths_ok` meets its contract. The loop's invariant: the strength of every unit before u is 1..60.
+-- `units_ok::strengths_ok` meets its contract. The loop's invariant: the strength of every unit before u is 1..60.
 -- Assumes nothing.
 use Prim.Native.Nat.{ℕ, ◌-◌}
-use mathlib.Core.Path.{refl, sym}
+use mathlib.Core.Path.{sym}
 use mathlib.Core.List.{List}
 use native.Mathlib.Omega.{arith}
 use borrow.Author.Rules.{rules}
 use Rattle.position.specs.Shape.{In}
 use Rattle.position.specs.Layout.{strength}
-use Rattle.position.proofs.Answers.{said, unsaid, carry, Passed, none_yet, one_more, all}
-use Rattle.flaw.specs.Flaw as Flaw
-use Rattle.flaw.proofs.Tellings.{fine, broken_there}
+use Rattle.position.proofs.Answers.{said, unsaid, carry, Passed, none_yet, one_more, all, not_all}
 use Rattle.counters.proofs.strengths_ok.Statement.{statement}
 use Rattle.counters.proofs.strengths_ok.Tie as tie
 
@@ -31,17 +29,12 @@ strength-requires c κs = search rules
 within-requires : tie.Need-within-requires invariant-loop decreases-loop
 within-requires c κs = search rules
 
-mul-result : tie.Need-overflow-mul-result invariant-loop decreases-loop
-mul-result c = search rules
-
-add-result : tie.Need-overflow-add-result invariant-loop decreases-loop
-add-result c = search rules
-
 returns : tie.Need-returns invariant-loop decreases-loop
 returns c =
-    broken_there
-    (Flaw.strength refl (omega arith)
-    (λ i. unsaid c.before.within.result c.if1.true c.before.within.ensures (carry (sym c.before.before.strength.ensures.is) i)))
+    let l = c.before.before.before.before in
+    not_all l.loop.invariant (omega arith)
+    (λ i. unsaid c.before.within.result c.if1.true c.before.within.ensures
+    (carry (sym c.before.before.strength.ensures.is) i))
 
 add-u : tie.Need-overflow-add-u invariant-loop decreases-loop
 add-u c = search rules
@@ -50,10 +43,26 @@ loop-less : tie.Need-loop-smaller invariant-loop decreases-loop
 loop-less c = search rules
 
 loop-again : tie.Need-loop-preserved invariant-loop decreases-loop
-loop-again c = one_more c.before.before.before.before.loop.invariant (omega arith) (carry c.before.before.strength.ensures.is (said c.before.within.result c.if1.false c.before.within.ensures))
+loop-again c =
+    let l = c.before.before.before.before in
+    one_more l.loop.invariant (omega arith)
+    (carry c.before.before.strength.ensures.is
+    (said c.before.within.result c.if1.false c.before.within.ensures))
 
 returns-2 : tie.Need-returns-2 invariant-loop decreases-loop
-returns-2 c = fine (all c.before.loop.invariant (omega arith))
+returns-2 c = all c.before.loop.invariant (omega arith)
 
 pub strengths-ok-spec : {M : Type 1} → statement M
-strengths-ok-spec = tie.close (tie.spec invariant-loop decreases-loop loop-holds strength-requires within-requires mul-result add-result returns add-u loop-less loop-again returns-2)
+strengths-ok-spec =
+    tie.close
+    (tie.spec
+    invariant-loop
+    decreases-loop
+    loop-holds
+    strength-requires
+    within-requires
+    returns
+    add-u
+    loop-less
+    loop-again
+    returns-2)

@@ -1,12 +1,11 @@
--- `players_ok` meets its contract. The loop's invariant: every force before f has a player that it may have.
+-- `desk_ok::players_ok` meets its contract. The loop's invariant: every force before f has a player that it may have.
 -- Assumes nothing.
 use Prim.Native.Nat.{◌-◌}
 use native.Mathlib.Omega.{arith}
 use borrow.Author.Rules.{rules}
-use Rattle.position.specs.Board.{desk}
-use Rattle.position.proofs.Answers.{Passed, none_yet, one_more, all}
 use Rattle.acceptance.specs.Accepted.{PlayerOk}
-use Rattle.flaw.proofs.Tellings.{fine, line_small, broken_there}
+use Rattle.position.specs.Board.{desk}
+use Rattle.position.proofs.Answers.{said, unsaid, Passed, none_yet, one_more, all, not_all}
 use Rattle.desk.proofs.players_ok.Statement.{statement}
 use Rattle.desk.proofs.players_ok.Tie as tie
 
@@ -20,16 +19,12 @@ loop-holds : tie.Need-loop-init invariant-loop decreases-loop
 loop-holds c = none_yet
 
 player-ok-requires : tie.Need-player-ok-requires invariant-loop decreases-loop
-player-ok-requires c κs = (c.before.before.before.requires, omega arith)
-
-mul-result : tie.Need-overflow-mul-result invariant-loop decreases-loop
-mul-result c = search rules
-
-add-result : tie.Need-overflow-add-result invariant-loop decreases-loop
-add-result c = omega (arith, line_small (c.before.player-ok.ensures.named c.if1.true))
+player-ok-requires c κs = search rules
 
 returns : tie.Need-returns invariant-loop decreases-loop
-returns c = broken_there (c.before.player-ok.ensures.named c.if1.true)
+returns c =
+    let l = c.before.before.before in
+    not_all l.loop.invariant (omega arith) (unsaid c.before.player-ok.result c.if1.true c.before.player-ok.ensures)
 
 add-f : tie.Need-overflow-add-f invariant-loop decreases-loop
 add-f c = search rules
@@ -38,10 +33,23 @@ loop-less : tie.Need-loop-smaller invariant-loop decreases-loop
 loop-less c = search rules
 
 loop-again : tie.Need-loop-preserved invariant-loop decreases-loop
-loop-again c = one_more c.before.before.before.loop.invariant (omega arith) (c.before.player-ok.ensures.kept c.if1.false)
+loop-again c =
+    let l = c.before.before.before in
+    one_more l.loop.invariant (omega arith) (said c.before.player-ok.result c.if1.false c.before.player-ok.ensures)
 
 returns-2 : tie.Need-returns-2 invariant-loop decreases-loop
-returns-2 c = fine (all c.before.loop.invariant (omega arith))
+returns-2 c = all c.before.loop.invariant (omega arith)
 
 pub players-ok-spec : {M : Type 1} → statement M
-players-ok-spec = tie.close (tie.spec invariant-loop decreases-loop loop-holds player-ok-requires mul-result add-result returns add-f loop-less loop-again returns-2)
+players-ok-spec =
+    tie.close
+    (tie.spec
+    invariant-loop
+    decreases-loop
+    loop-holds
+    player-ok-requires
+    returns
+    add-f
+    loop-less
+    loop-again
+    returns-2)

@@ -19,7 +19,7 @@ use Rattle.plot.proofs.chain.longer.Reads as longer-reads
 use Rattle.plot.proofs.chain.rests.Reads as rests-reads
 use Rattle.plot.proofs.chain.yields.Reads as yields-reads
 use Rattle.follow.proofs.leads.Reads as leads-reads
-use Rattle.survey.proofs.region.place_in.Reads as place-in-reads
+use Rattle.grid.proofs.region.place_in.Reads as place-in-reads
 use Rattle.follow.proofs.+take.{statement}
 use Rattle.follow.proofs.+take.Tie.{close}
 

@@ -5,7 +5,7 @@ use mathlib.Core.Path.{refl, sym}
 use native.Mathlib.Omega.{arith}
 use borrow.Author.Rules.{rules}
 use lib.ListN.{length}
-use Rattle.survey.specs.Region.{place_in}
+use Rattle.grid.specs.Region.{place_in}
 use Rattle.plot.proofs.Following.{Followed, followed_all, followed_more, followed_none, followed_wrong}
 use Rattle.follow.proofs.follows.Statement.{statement}
 use Rattle.follow.proofs.follows.Tie as tie

@@ -3,8 +3,8 @@
 use native.Mathlib.Omega.{arith}
 use borrow.Author.Rules.{rules}
 use Rattle.position.proofs.Sides.{on_view}
-use Rattle.paint.proofs.Bytes.{round_room, blank_long, blank_all}
-use Rattle.routes.proofs.Windows.{window_is}
+use Rattle.paint.proofs.Bytes.{blank_long, blank_all}
+use Rattle.routes.proofs.Windows.{round_room, window_is}
 use Rattle.outlook.proofs.judge_by.Statement.{statement}
 use Rattle.outlook.proofs.judge_by.Tie as tie
 
@@ -17,7 +17,7 @@ round-requires c κs = (c.spot.ensures.0, omega arith)
 paint-blank-requires : tie.Need-paint-blank-requires
 paint-blank-requires c κs =
     let outset = c.before.before.before.before.before.before in
-    (outset.requires.0, round_room c.before.round.ensures (omega (arith, blank_long 56 outset.requires.4)), blank_all 56 outset.requires.4)
+    (outset.requires.0, round_room c.before.round.ensures (blank_long 56 outset.requires.4), blank_all 56 outset.requires.4)
 
 tell-requires : tie.Need-tell-requires
 tell-requires c κs =

@@ -6,7 +6,7 @@ use native.Mathlib.Omega.{arith}
 use Prim.Native.Nat.{ℕ}
 use borrow.Author.Rules.{rules}
 use borrow.Author.Tests.{not-false, not-true}
-use Rattle.survey.specs.Region.{Inside, place_of}
+use Rattle.grid.specs.Region.{Inside, place_of}
 use Rattle.position.specs.Board.{board}
 use Rattle.position.proofs.Sides.{on_view}
 use Rattle.routes.specs.Legal.{legal}

@@ -6,7 +6,7 @@ use native.Mathlib.Omega.{arith}
 use borrow.Author.Rules.{rules}
 use Rattle.position.specs.Board.{board}
 use Rattle.position.proofs.Sides.{on_view}
-use Rattle.survey.specs.Region.{Round, place_of}
+use Rattle.grid.specs.Region.{Round, place_of}
 use Rattle.grid.proofs.Walks.{same_zero}
 use Rattle.pushes.proofs.Judging.{as_on_board}
 use Rattle.pushes.proofs.judge.Statement.{statement}

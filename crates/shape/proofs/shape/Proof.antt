@@ -1,42 +1,35 @@
 -- `shape::shape` meets its contract: the view says where each body begins and how long it is, and the entries are asked to say the same.
 -- Assumes nothing.
-use mathlib.Core.Path.{refl, sym, subst}
+use mathlib.Core.Path.{refl, subst}
 use native.Mathlib.Omega.{arith}
 use borrow.Author.Rules.{rules}
 use Rattle.position.specs.Layout.{map_at}
-use Rattle.position.specs.Laid.{Sized}
-use Rattle.flaw.specs.Flaw as Flaw
-use Rattle.flaw.specs.Tells.{SizedOf, LaidOf}
+use Rattle.position.specs.Laid.{Sized, SizedOf}
 use Rattle.position.proofs.Answers.{said, unsaid}
 use Rattle.position.proofs.Shapes.{entry_is}
 use Rattle.shape.proofs.shape.Statement.{statement}
 use Rattle.shape.proofs.shape.Tie as tie
 
-known : (c : tie.After-known-told) → Sized c.before.before.before.before.before.args.p.now c.before.sizes.given.0.0
-known c = subst (SizedOf _) c.before.sizes.given.1 c.before.before.before.sized.ensures
+known : (c : tie.After-known-told) → Sized c.before.before.before.before.before.args.p.now c.before.v.given.0.0
+known c = subst (SizedOf _) c.before.v.given.1 c.before.before.before.sized.ensures
 
 sized-requires : tie.Need-sized-requires
 sized-requires c κs = search rules
 
-enum-known-sizes : tie.Need-enum-known-sizes
-enum-known-sizes c = search rules
+enum-known-v : tie.Need-enum-known-v
+enum-known-v c = search rules
 
 enum_told : tie.Need-enum-told
 enum_told c = search rules
 
 returns : tie.Need-returns
-returns c =
-    let e = c.enum_told.given.1 in
-    subst (LaidOf _) (sym e) (subst (SizedOf _) e c.before.before.sized.ensures)
+returns c = subst (SizedOf _) c.enum_told.given.1 c.before.before.sized.ensures
 
 entry-requires : tie.Need-entry-requires
 entry-requires c κs = let s = known c in (omega arith, omega arith)
 
 returns-2 : tie.Need-returns-2
-returns-2 c =
-    record {
-      breaks = Flaw.chart_entry refl refl (unsaid c.before.entry.result c.if1.true c.before.entry.ensures);
-    }
+returns-2 c = λ t. unsaid c.before.entry.result c.if1.true c.before.entry.ensures t.chart
 
 mul-entry : tie.Need-overflow-mul-entry
 mul-entry c = let s = known c.before.before.before in omega arith
@@ -50,11 +43,8 @@ entry-requires-2 c κs = let s = known c.before.before.before in (omega arith, o
 returns-3 : tie.Need-returns-3
 returns-3 c =
     let k = c.before.before.before.before.before in
-    let s = known k in
-    record {
-      breaks = Flaw.results_entry refl refl
-          (λ t. unsaid c.before.entry2.result c.if2.true c.before.entry2.ensures (entry_is refl (omega arith) t));
-    }
+    λ t. let s = known k in unsaid c.before.entry2.result c.if2.true c.before.entry2.ensures
+    (entry_is refl (omega arith) t.results)
 
 add-entry-2 : tie.Need-overflow-add-entry-2
 add-entry-2 c = search rules
@@ -80,11 +70,8 @@ returns-4 : tie.Need-returns-4
 unfolding map_at
 returns-4 c =
     let k = c.before.before.before.before.before.before.before.before.before in
-    let s = known k in
-    record {
-      breaks = Flaw.map_entry refl refl
-          (λ t. unsaid c.before.entry3.result c.if3.true c.before.entry3.ensures (entry_is (omega arith) (omega arith) t));
-    }
+    λ t. let s = known k in unsaid c.before.entry3.result c.if3.true c.before.entry3.ensures
+    (entry_is (omega arith) (omega arith) t.map)
 
 mul-entry-4 : tie.Need-overflow-mul-entry-4
 mul-entry-4 c =
@@ -104,11 +91,8 @@ entry-requires-4 c κs =
 returns-5 : tie.Need-returns-5
 returns-5 c =
     let k = c.before.before.before.before.before.before.before.before.before.before.before.before in
-    let s = known k in
-    record {
-      breaks = Flaw.units_entry refl refl
-          (λ t. unsaid c.before.entry4.result c.if4.true c.before.entry4.ensures (entry_is (omega arith) (omega arith) t));
-    }
+    λ t. let s = known k in unsaid c.before.entry4.result c.if4.true c.before.entry4.ensures
+    (entry_is (omega arith) (omega arith) t.units)
 
 add-entry-6 : tie.Need-overflow-add-entry-6
 add-entry-6 c =
@@ -123,11 +107,8 @@ entry-requires-5 c κs =
 returns-6 : tie.Need-returns-6
 returns-6 c =
     let k = c.before.before.before.before.before.before.before.before.before.before.before.before.before.before.before in
-    let s = known k in
-    record {
-      breaks = Flaw.desk_entry refl refl
-          (λ t. unsaid c.before.entry5.result c.if5.true c.before.entry5.ensures (entry_is (omega arith) (omega arith) t));
-    }
+    λ t. let s = known k in unsaid c.before.entry5.result c.if5.true c.before.entry5.ensures
+    (entry_is (omega arith) (omega arith) t.desk)
 
 returns-7 : tie.Need-returns-7
 unfolding map_at
@@ -162,7 +143,7 @@ shape-spec =
     tie.close
     (tie.spec
     sized-requires
-    enum-known-sizes
+    enum-known-v
     enum_told
     returns
     entry-requires

@@ -1,11 +1,10 @@
 -- `shape::sized` meets its contract: the columns' count is read first, the rest is `with_map`'s.
 -- Assumes nothing.
-use mathlib.Core.Path.{refl, sym}
+use mathlib.Core.Path.{sym}
 use native.Mathlib.Omega.{arith}
 use borrow.Author.Rules.{rules}
 use Rattle.position.specs.Layout.{columns, map_at, units_at, desk_at}
 use Rattle.position.proofs.Answers.{said, unsaid, carry}
-use Rattle.flaw.specs.Flaw as Flaw
 use Rattle.shape.proofs.sized.Statement.{statement}
 use Rattle.shape.proofs.sized.Tie as tie
 
@@ -14,7 +13,7 @@ add-if1 c = search rules
 
 returns : tie.Need-returns
 unfolding map_at units_at desk_at
-returns c = record { breaks = Flaw.whole refl refl (λ e. omega arith) }
+returns c = λ t. omega arith
 
 shared-slice-read-wide : tie.Need-shared-slice-read-wide
 shared-slice-read-wide c = search rules
@@ -28,11 +27,8 @@ within-requires c κs = search rules
 returns-2 : tie.Need-returns-2
 unfolding columns
 returns-2 c =
-    record {
-      breaks = Flaw.columns refl refl
-          (λ i. unsaid c.before.within.result c.if2.true c.before.within.ensures
-          (carry (sym c.before.before.wide.ensures.is) i));
-    }
+    λ t. unsaid c.before.within.result c.if2.true c.before.within.ensures
+    (carry (sym c.before.before.wide.ensures.is) t.columns)
 
 with-map-requires : tie.Need-with-map-requires
 unfolding columns

@@ -1,12 +1,11 @@
 -- `shape::with_map` meets its contract: width and height are read where the columns end.
 -- Assumes nothing.
-use mathlib.Core.Path.{refl, sym, ◌∙◌}
+use mathlib.Core.Path.{sym, ◌∙◌}
 use native.Mathlib.Omega.{arith}
 use borrow.Author.Rules.{rules}
 use Rattle.position.specs.Layout.{map_at, units_at, desk_at}
 use Rattle.position.proofs.Answers.{said, unsaid, carry}
 use Rattle.position.proofs.Shapes.{width_is, height_is}
-use Rattle.flaw.specs.Flaw as Flaw
 use Rattle.shape.proofs.with_map.Statement.{statement}
 use Rattle.shape.proofs.with_map.Tie as tie
 
@@ -24,7 +23,7 @@ add-if1 c = search rules
 
 returns : tie.Need-returns
 unfolding map_at units_at desk_at
-returns c = record { breaks = Flaw.whole refl refl (λ e. omega arith) }
+returns c = λ t. omega arith
 
 add_wide : tie.Need-overflow-add-wide
 add_wide c = search rules
@@ -50,11 +49,8 @@ within-requires c κs = search rules
 returns-2 : tie.Need-returns-2
 returns-2 c =
     let s = c.before.before.before.before.before.before.before.before in
-    record {
-      breaks = Flaw.width refl refl
-          (λ i. unsaid c.before.within.result c.if2.true c.before.within.ensures
-          (carry (sym (c.before.before.before.before.wide.ensures.is ∙ width_is _ s.requires.0)) i));
-    }
+    λ t. unsaid c.before.within.result c.if2.true c.before.within.ensures
+    (carry (sym (c.before.before.before.before.wide.ensures.is ∙ width_is _ s.requires.0)) t.width)
 
 within-requires-2 : tie.Need-within-requires-2
 within-requires-2 c κs = search rules
@@ -63,11 +59,8 @@ returns-3 : tie.Need-returns-3
 returns-3 c =
     let q2 = c.before.before in
     let s = q2.before.before.before.before.before.before.before.before in
-    record {
-      breaks = Flaw.height refl refl
-          (λ i. unsaid c.before.within2.result c.if3.true c.before.within2.ensures
-          (carry (sym (q2.before.before.wide2.ensures.is ∙ height_is _ s.requires.0)) i));
-    }
+    λ t. unsaid c.before.within2.result c.if3.true c.before.within2.ensures
+    (carry (sym (q2.before.before.wide2.ensures.is ∙ height_is _ s.requires.0)) t.height)
 
 with-units-requires : tie.Need-with-units-requires
 with-units-requires c κs =

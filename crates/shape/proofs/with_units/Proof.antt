@@ -1,12 +1,11 @@
 -- `shape::with_units` meets its contract: what the counts come to is where the bodies begin, and where the position ends.
 -- Assumes nothing.
 use Prim.Native.Nat.{◌*◌, ◌≤◌}
-use mathlib.Core.Path.{◌≡◌, refl, ◌∙◌}
+use mathlib.Core.Path.{◌≡◌, ◌∙◌}
 use native.Mathlib.Omega.{arith}
 use borrow.Author.Rules.{rules}
 use Rattle.position.specs.Layout.{map_at, hexes, units_at, count, desk_at}
 use Rattle.position.proofs.Answers.{carry}
-use Rattle.flaw.specs.Flaw as Flaw
 use Rattle.position.proofs.Shapes.{area, hexes_is, count_is, named_most}
 use Rattle.shape.proofs.with_units.Statement.{statement}
 use Rattle.shape.proofs.with_units.Tie as tie
@@ -48,13 +47,13 @@ add-if1 c = omega (arith, sizes c.before)
 
 returns : tie.Need-returns
 unfolding map_at units_at desk_at
-returns c = record { breaks = Flaw.whole refl refl (λ e. omega (arith, sizes c.before.before)) }
+returns c = λ t. omega (arith, sizes c.before.before)
 
 word-requires : tie.Need-word-requires
 word-requires c κs = search rules
 
 returns-2 : tie.Need-returns-2
-returns-2 c = record { breaks = Flaw.count refl refl (λ l. omega (arith, counted c.before)) }
+returns-2 c = λ t. omega (arith, counted c.before)
 
 mul-desk : tie.Need-overflow-mul-desk
 mul-desk c = search rules
@@ -76,11 +75,7 @@ add-if3-2 c = omega (arith, named_most _ c.players-named.ensures)
 
 returns-3 : tie.Need-returns-3
 unfolding map_at units_at desk_at
-returns-3 c =
-    record {
-      breaks = Flaw.whole refl refl
-          (λ e. omega (arith, sizes c.before.before.before.before.before.before, counted c.before.before.before));
-    }
+returns-3 c = λ t. omega (arith, sizes c.before.before.before.before.before.before, counted c.before.before.before)
 
 returns-4 : tie.Need-returns-4
 unfolding map_at units_at desk_at

@@ -46,7 +46,7 @@ returns-3 c =
     let few : c.before.before.before.before.force-of.result < 4 = omega (arith, f, c.before.before.before.before.before.before.before.before.before.before.requires.2) in
     seated_of c.adds.result
     (λ p. record { on = counts_low _ _ _ _ c.before.before.before.if3.true c.before.wide.ensures.is f few (omega (arith, c.before.before.before.before.before.before.before.hex.ensures.is)) c.adds.ensures p })
-    (λ z. record { there = omega (arith, c.before.before.before.before.before.before.before.hex.ensures.is); under = λ g o. refused_low _ _ _ _ c.before.before.before.if3.true c.before.wide.ensures.is f few z (omega arith) g o (omega (arith, c.before.before.before.before.before.before.before.hex.ensures.is)) c.adds.ensures })
+    (λ z. record { under = λ g o. refused_low _ _ _ _ c.before.before.before.if3.true c.before.wide.ensures.is f few z (omega arith) g o (omega (arith, c.before.before.before.before.before.before.before.hex.ensures.is)) c.adds.ensures })
 
 slice-read-wide-2 : tie.Need-slice-read-wide-2
 slice-read-wide-2 c = search rules
@@ -78,7 +78,7 @@ returns-4 c =
     let few : c.before.before.before.before.force-of.result < 4 = omega (arith, f, c.before.before.before.before.before.before.before.before.before.before.requires.2) in
     seated_of c.adds2.result
     (λ p. record { on = counts_high _ _ _ _ (omega arith) c.before.wide2.ensures.is f few (omega (arith, c.before.before.before.before.before.before.before.hex.ensures.is)) c.adds2.ensures p })
-    (λ z. record { there = omega (arith, c.before.before.before.before.before.before.before.hex.ensures.is); under = λ g o. refused_high _ _ _ _ (omega arith) c.before.wide2.ensures.is f few z (omega arith) g o (omega (arith, c.before.before.before.before.before.before.before.hex.ensures.is)) c.adds2.ensures })
+    (λ z. record { under = λ g o. refused_high _ _ _ _ (omega arith) c.before.wide2.ensures.is f few z (omega arith) g o (omega (arith, c.before.before.before.before.before.before.before.hex.ensures.is)) c.adds2.ensures })
 
 pub seat-spec : {M : Type 1} → statement M
 seat-spec =

@@ -1,13 +1,12 @@
--- `seat_all` meets its contract. The loop's invariant: the table counts the units below u. The measure is how many are left.
+-- `stacks_ok::seat_all` meets its contract. The loop's invariant: the table counts the units below u. The measure is how many are left.
 -- Assumes nothing.
 use Prim.Native.Nat.{◌-◌, ◌≤◌}
 use mathlib.Core.Path.{sym, ◌∙◌}
 use native.Mathlib.Omega.{arith}
 use borrow.Author.Rules.{rules}
 use Rattle.position.specs.Board.{board}
-use Rattle.acceptance.specs.Seats.{Seated, Crowded}
+use Rattle.acceptance.specs.Seats.{Seated}
 use Rattle.acceptance.proofs.Seating.{nobody_seated, counted, overfull, all_seated}
-use Rattle.flaw.proofs.Tellings.{fine, handed}
 use Rattle.stacks.proofs.seat_all.Statement.{statement}
 use Rattle.stacks.proofs.seat_all.Tie as tie
 
@@ -17,31 +16,17 @@ invariant-loop p v seats₀ base count u₀ seats u = (u ≤ count) × Seated (b
 abbrev decreases-loop : tie.decreases-loop
 decreases-loop p v seats₀ base count u₀ seats u = count - u
 
-refused : (c : tie.Then1 invariant-loop decreases-loop) → Crowded (board c.before.before.before.before.before.before.before.before.before.args.p.now) c.before.before.before.before.before.before.before.before.before.args.base c.before.before.before.before.before.before.loop.u c.before.before.before.before.before.before.loop.seats
-refused c = overfull _ c.before.before.before.seat.result c.if1.true c.before.before.before.seat.ensures
-
 loop-holds : tie.Need-loop-init invariant-loop decreases-loop
 loop-holds c = (omega arith, nobody_seated _ _ c.before.before.requires.2)
 
 seat-requires : tie.Need-seat-requires invariant-loop decreases-loop
 seat-requires c κs = (c.before.before.before.before.before.requires.0, omega arith, c.before.before.before.before.before.requires.1 _ (omega arith), c.before.before.loop.invariant.1.long)
 
-hex-requires : tie.Need-hex-requires invariant-loop decreases-loop
-hex-requires c κs = c.before.before.before.before.before.before.before.before.before.requires.0
-
-company-requires : tie.Need-company-requires invariant-loop decreases-loop
-company-requires c κs =
-    let r = refused c.before in (
-      c.before.before.before.before.before.before.before.before.before.before.requires.0,
-      omega (arith, r.there, c.before.before.before.before.before.before.before.before.before.before.requires.3, c.before.before.before.before.before.before.before.before.before.before.requires.0.fits.hexes, c.hex.ensures.is),
-      record { who = c.before.before.before.before.before.before.before.loop.u; there = omega arith; on = sym c.hex.ensures.is; without = r.under c.before.before.before.before.before.before.before.loop.invariant.1 },
-    )
-
 same_length : tie.Need-same-length invariant-loop decreases-loop
 same_length c = search rules
 
 returns : tie.Need-returns invariant-loop decreases-loop
-returns c = handed c.company.ensures (λ x. absurd x)
+returns c = λ o. overfull _ c.before.before.before.seat.result c.if1.true c.before.before.before.seat.ensures c.before.before.before.before.before.before.loop.invariant.1 o
 
 add-u : tie.Need-overflow-add-u invariant-loop decreases-loop
 add-u c = search rules
@@ -56,7 +41,20 @@ same-length-2 : tie.Need-same-length-2 invariant-loop decreases-loop
 same-length-2 c = c.before.loop.invariant.1.long ∙ sym c.before.before.before.before.requires.2.long
 
 returns-2 : tie.Need-returns-2 invariant-loop decreases-loop
-returns-2 c = fine (all_seated c.before.loop.invariant.1 (omega (arith, c.before.before.before.before.requires.0.view.count)))
+returns-2 c = all_seated c.before.loop.invariant.1 (omega (arith, c.before.before.before.before.requires.0.view.count))
 
 pub seat-all-spec : {M : Type 1} → statement M
-seat-all-spec = tie.close (tie.spec invariant-loop decreases-loop loop-holds seat-requires hex-requires company-requires same_length returns add-u loop-less loop-again same-length-2 returns-2)
+seat-all-spec =
+    tie.close
+    (tie.spec
+    invariant-loop
+    decreases-loop
+    loop-holds
+    seat-requires
+    same_length
+    returns
+    add-u
+    loop-less
+    loop-again
+    same-length-2
+    returns-2)

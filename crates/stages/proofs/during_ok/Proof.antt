@@ -1,8 +1,8 @@
--- `during_ok` meets its contract: the stage says whose answer it is.
+-- `desk_ok::during_ok` meets its contract: the stage says whose answer it is.
 -- Assumes nothing.
 use native.Mathlib.Omega.{arith}
 use borrow.Author.Rules.{rules}
-use Rattle.flaw.proofs.Tellings.{fine, handed}
+use Rattle.position.proofs.Answers.{told}
 use Rattle.stages.proofs.during_ok.Statement.{statement}
 use Rattle.stages.proofs.during_ok.Tie as tie
 
@@ -10,11 +10,11 @@ stage-requires : tie.Need-stage-requires
 stage-requires c κs = search rules
 
 quiet-ok-requires : tie.Need-quiet-ok-requires
-quiet-ok-requires c κs = (c.before.before.before.requires, omega arith)
+quiet-ok-requires c κs = search rules
 
 returns : tie.Need-returns
 returns c =
-    handed c.quiet_ok.ensures
+    told c.quiet_ok.result
     (λ s.
     record {
       quiet = λ e. s;
@@ -22,13 +22,15 @@ returns c =
       losses = λ e. absurd (omega arith);
       advances = λ e. absurd (omega arith);
     })
+    (λ t. t.quiet (omega arith))
+    c.quiet_ok.ensures
 
 retreats-ok-requires : tie.Need-retreats-ok-requires
-retreats-ok-requires c κs = (c.before.before.before.before.requires, omega arith)
+retreats-ok-requires c κs = search rules
 
 returns-2 : tie.Need-returns-2
 returns-2 c =
-    handed c.retreats-ok.ensures
+    told c.retreats-ok.result
     (λ s.
     record {
       quiet = λ e. absurd (omega arith);
@@ -36,13 +38,15 @@ returns-2 c =
       losses = λ e. absurd (omega arith);
       advances = λ e. absurd (omega arith);
     })
+    (λ t. t.retreats (omega arith))
+    c.retreats-ok.ensures
 
 losses-ok-requires : tie.Need-losses-ok-requires
-losses-ok-requires c κs = (c.before.before.before.before.before.requires, omega arith)
+losses-ok-requires c κs = search rules
 
 returns-3 : tie.Need-returns-3
 returns-3 c =
-    handed c.losses-ok.ensures
+    told c.losses-ok.result
     (λ s.
     record {
       quiet = λ e. absurd (omega arith);
@@ -50,13 +54,15 @@ returns-3 c =
       losses = λ e. s;
       advances = λ e. absurd (omega arith);
     })
+    (λ t. t.losses (omega arith))
+    c.losses-ok.ensures
 
 advances-ok-requires : tie.Need-advances-ok-requires
-advances-ok-requires c κs = (c.before.before.before.before.before.before.requires, omega arith)
+advances-ok-requires c κs = search rules
 
 returns-4 : tie.Need-returns-4
 returns-4 c =
-    handed c.advances-ok.ensures
+    told c.advances-ok.result
     (λ s.
     record {
       quiet = λ e. absurd (omega arith);
@@ -64,16 +70,29 @@ returns-4 c =
       losses = λ e. absurd (omega arith);
       advances = λ e. s;
     })
+    (λ t. t.advances (omega arith))
+    c.advances-ok.ensures
 
 returns-5 : tie.Need-returns-5
 returns-5 c =
-    fine
-    (record {
+    record {
       quiet = λ e. absurd (omega arith);
       retreats = λ e. absurd (omega arith);
       losses = λ e. absurd (omega arith);
       advances = λ e. absurd (omega arith);
-    })
+    }
 
 pub during-ok-spec : {M : Type 1} → statement M
-during-ok-spec = tie.close (tie.spec stage-requires quiet-ok-requires returns retreats-ok-requires returns-2 losses-ok-requires returns-3 advances-ok-requires returns-4 returns-5)
+during-ok-spec =
+    tie.close
+    (tie.spec
+    stage-requires
+    quiet-ok-requires
+    returns
+    retreats-ok-requires
+    returns-2
+    losses-ok-requires
+    returns-3
+    advances-ok-requires
+    returns-4
+    returns-5)

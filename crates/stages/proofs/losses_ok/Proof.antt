@@ -1,11 +1,9 @@
--- `losses_ok` meets its contract: need and owing units are counted and measured.
+-- `desk_ok::losses_ok` meets its contract: need and owing units are counted and measured.
 -- Assumes nothing.
-use mathlib.Core.Path.{refl, sym}
+use mathlib.Core.Path.{sym}
 use native.Mathlib.Omega.{arith}
 use borrow.Author.Rules.{rules}
 use Rattle.position.proofs.Answers.{said, unsaid, carry}
-use Rattle.flaw.specs.Flaw as Flaw
-use Rattle.flaw.proofs.Tellings.{fine, broken}
 use Rattle.stages.proofs.losses_ok.Statement.{statement}
 use Rattle.stages.proofs.losses_ok.Tie as tie
 
@@ -17,9 +15,8 @@ within-requires c κs = search rules
 
 returns : tie.Need-returns
 returns c =
-    broken
-    (Flaw.need refl refl c.before.before.before.before.requires.1
-    (λ i. unsaid c.before.within.result c.if1.true c.before.within.ensures (carry (sym c.before.before.need.ensures.is) i)))
+    λ t. unsaid c.before.within.result c.if1.true c.before.within.ensures
+    (carry (sym c.before.before.need.ensures.is) t.need)
 
 holders-requires : tie.Need-holders-requires
 holders-requires c κs = search rules
@@ -29,24 +26,37 @@ within-requires-2 c κs = search rules
 
 returns-2 : tie.Need-returns-2
 returns-2 c =
-    broken
-    (Flaw.owing refl refl c.before.before.before.before.before.before.before.requires.1
-    (λ i. unsaid c.before.within2.result c.if2.true c.before.within2.ensures (carry (sym c.before.before.holders.ensures.is) i)))
+    λ t. unsaid c.before.within2.result c.if2.true c.before.within2.ensures
+    (carry (sym c.before.before.holders.ensures.is) t.owing)
 
 holders-requires-2 : tie.Need-holders-requires-2
 holders-requires-2 c κs = search rules
 
 returns-3 : tie.Need-returns-3
-returns-3 c = broken (Flaw.losses_advancing refl refl c.before.before.before.before.before.before.before.before.before.requires.1 (λ e. omega arith))
+returns-3 c = search rules
 
 returns-4 : tie.Need-returns-4
 returns-4 c =
-    fine
-    (record {
-      need = carry c.before.before.before.before.before.before.before.need.ensures.is (said c.before.before.before.before.before.before.within.result c.before.before.before.before.before.if1.false c.before.before.before.before.before.before.within.ensures);
-      owing = carry c.before.before.before.before.holders.ensures.is (said c.before.before.before.within2.result c.before.before.if2.false c.before.before.before.within2.ensures);
+    let q2 = c.before.before in
+    let q1 = q2.before.before.before in
+    record {
+      need = carry q1.before.before.need.ensures.is
+          (said q1.before.within.result q1.if1.false q1.before.within.ensures);
+      owing = carry q2.before.before.holders.ensures.is
+          (said q2.before.within2.result q2.if2.false q2.before.within2.ensures);
       advancing = omega arith;
-    })
+    }
 
 pub losses-ok-spec : {M : Type 1} → statement M
-losses-ok-spec = tie.close (tie.spec need-requires within-requires returns holders-requires within-requires-2 returns-2 holders-requires-2 returns-3 returns-4)
+losses-ok-spec =
+    tie.close
+    (tie.spec
+    need-requires
+    within-requires
+    returns
+    holders-requires
+    within-requires-2
+    returns-2
+    holders-requires-2
+    returns-3
+    returns-4)

@@ -2,48 +2,40 @@
 -- Assumes nothing.
 use Prim.Native.Nat.{◌-◌}
 use mathlib.Core.Path.{◌∙◌}
-use native.Mathlib.Omega.{arith}
-use Rattle.survey.specs.Run.{RunOf, first_of}
+use borrow.Author.Rules.{rules}
 use Rattle.position.specs.Board.{ground}
 use Rattle.position.specs.Ground.{next}
-use Rattle.position.proofs.Sides.{area_view, on_first}
 use Rattle.walk.specs.Swept.{Swept}
 use Rattle.walk.proofs.Joins.{swept_none, swept_trans}
 use Rattle.sweeping.proofs.down.Statement.{statement}
 use Rattle.sweeping.proofs.down.Tie as tie
 
 abbrev invariant-loop : tie.invariant-loop
-invariant-loop p v buf₀ hexes r₀ reached₀ buf r reached = Swept (next (ground p)) buf₀ buf × RunOf v.width v.height r
+invariant-loop p v buf₀ h reached₀ row₀ buf reached row = Swept (next (ground p)) buf₀ buf
 
 abbrev decreases-loop : tie.decreases-loop
-decreases-loop p v buf₀ hexes r₀ reached₀ buf r reached = hexes - first_of v.width r
-
-top-requires : tie.Need-top-requires invariant-loop decreases-loop
-top-requires c κs = on_first c.before.before.requires.0
+decreases-loop p v buf₀ h reached₀ row₀ buf reached row = h - row
 
 loop-holds : tie.Need-loop-init invariant-loop decreases-loop
-loop-holds c = (swept_none _, c.top.ensures.0)
+loop-holds c = swept_none _
 
 pass-requires : tie.Need-pass-requires invariant-loop decreases-loop
-pass-requires c κs = (c.before.before.before.before.before.requires.0, c.before.loop.invariant.0.same ∙ c.before.before.before.before.before.requires.1, c.before.loop.invariant.1)
+pass-requires c κs = (c.before.before.before.before.before.requires.0, c.before.before.loop.invariant.same ∙ c.before.before.before.before.before.requires.1, c.before.loop-test.true)
 
-past-requires : tie.Need-past-requires invariant-loop decreases-loop
-past-requires c κs = c.before.before.before.before.loop.invariant.1
-
-same_length : tie.Need-same-length invariant-loop decreases-loop
-same_length c = (swept_trans c.before.before.before.before.before.before.loop.invariant.0 c.before.before.before.before.pass.ensures).same
-
-returns : tie.Need-returns invariant-loop decreases-loop
-returns c = swept_trans c.before.before.before.before.before.before.loop.invariant.0 c.before.before.before.before.pass.ensures
-
-after-requires : tie.Need-after-requires invariant-loop decreases-loop
-after-requires c κs = (c.before.before.before.before.before.before.loop.invariant.1, omega (arith, c.before.past.ensures.0, area_view c.before.before.before.before.before.before.before.before.before.before.requires.0.view))
+add_row : tie.Need-overflow-add-row invariant-loop decreases-loop
+add_row c = search rules
 
 loop-less : tie.Need-loop-smaller invariant-loop decreases-loop
-loop-less c = omega (arith, c.after.ensures.1, c.before.before.past.ensures.0, c.before.before.before.before.before.before.before.loop.invariant.1.on.wide)
+loop-less c = search rules
 
 loop-again : tie.Need-loop-preserved invariant-loop decreases-loop
-loop-again c = (swept_trans c.before.before.before.before.before.before.before.loop.invariant.0 c.before.before.before.before.before.pass.ensures, c.after.ensures.0)
+loop-again c = swept_trans c.before.before.before.before.before.loop.invariant c.before.before.pass.ensures
+
+same_length : tie.Need-same-length invariant-loop decreases-loop
+same_length c = c.before.loop.invariant.same
+
+returns : tie.Need-returns invariant-loop decreases-loop
+returns c = c.before.loop.invariant
 
 pub down-spec : {M : Type 1} → statement M
 down-spec =
@@ -51,12 +43,10 @@ down-spec =
     (tie.spec
     invariant-loop
     decreases-loop
-    top-requires
     loop-holds
     pass-requires
-    past-requires
-    same_length
-    returns
-    after-requires
+    add_row
     loop-less
-    loop-again)
+    loop-again
+    same_length
+    returns)

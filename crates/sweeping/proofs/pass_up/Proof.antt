@@ -1,14 +1,14 @@
--- `pass_up` meets its contract: what was swept in the run, or nothing.
+-- `pass_up` meets its contract: what was swept in the row, or nothing.
 -- Assumes nothing.
 use mathlib.Core.Path.{◌∙◌}
 use borrow.Author.Rules.{rules}
 use Rattle.position.proofs.Sides.{area_view}
-use Rattle.walk.proofs.Joins.{swept_none}
+use Rattle.walk.proofs.Joins.{map_on, swept_none}
 use Rattle.sweeping.proofs.pass_up.Statement.{statement}
 use Rattle.sweeping.proofs.pass_up.Tie as tie
 
 has-requires : tie.Need-has-requires
-has-requires c κs = let s = c.before.before.before.requires in (s.2, s.1 ∙ area_view s.0.view)
+has-requires c κs = let s = c.before.before.before in (map_on s.requires.0, s.requires.1 ∙ area_view s.requires.0.view, s.requires.2)
 
 same_length : tie.Need-same-length
 same_length c = search rules

@@ -3,7 +3,7 @@
 use mathlib.Core.Path.{◌∙◌}
 use borrow.Author.Rules.{rules}
 use Rattle.position.proofs.Sides.{area_view}
-use Rattle.walk.proofs.Joins.{swept_trans}
+use Rattle.walk.proofs.Joins.{map_on, swept_trans}
 use Rattle.sweeping.proofs.spread.Statement.{statement}
 use Rattle.sweeping.proofs.spread.Tie as tie
 
@@ -17,7 +17,7 @@ returns : tie.Need-returns
 returns c = search rules
 
 has-requires : tie.Need-has-requires
-has-requires c κs = let s = c.before.before.before.before.before.before.before.before.requires in (s.2, c.before.before.before.before.eastward.ensures.same ∙ s.1 ∙ area_view s.0.view)
+has-requires c κs = let s = c.before.before.before.before.before.before.before.before in (map_on s.requires.0, c.before.before.before.before.eastward.ensures.same ∙ s.requires.1 ∙ area_view s.requires.0.view, s.requires.2)
 
 same-length-2 : tie.Need-same-length-2
 same-length-2 c = search rules
@@ -30,9 +30,9 @@ westward-requires c κs = search rules
 
 mostly-requires : tie.Need-mostly-requires
 mostly-requires c κs =
-    let s = c.before.before.before.before.before.before.before.before.before.before.before.before.before.before.before.requires in
+    let s = c.before.before.before.before.before.before.before.before.before.before.before.before.before.before.before in
     let w = swept_trans c.before.before.before.before.before.before.before.before.before.before.before.eastward.ensures c.before.before.before.westward.ensures in
-    (s.2, w.same ∙ s.1 ∙ area_view s.0.view)
+    (map_on s.requires.0, w.same ∙ s.requires.1 ∙ area_view s.requires.0.view, s.requires.2)
 
 same-length-3 : tie.Need-same-length-3
 same-length-3 c = search rules

@@ -7,24 +7,24 @@ use borrow.Author.Rules.{rules}
 use Rattle.position.specs.Board.{ground}
 use Rattle.position.specs.Ground.{next}
 use Rattle.walk.specs.Swept.{Swept}
-use Rattle.walk.proofs.Joins.{swept_none, swept_trans}
+use Rattle.walk.proofs.Joins.{map_on, swept_none, swept_trans}
 use Rattle.sweeping.proofs.westward.Statement.{statement}
 use Rattle.sweeping.proofs.westward.Tie as tie
 
 abbrev invariant-loop : tie.invariant-loop
-invariant-loop p v buf₀ r i₀ buf i = Swept (next (ground p)) buf₀ buf × (i ≤ v.width)
+invariant-loop p v buf₀ row w c₀ buf c = Swept (next (ground p)) buf₀ buf × (c ≤ w)
 
 abbrev decreases-loop : tie.decreases-loop
-decreases-loop p v buf₀ r i₀ buf i = i
+decreases-loop p v buf₀ row w c₀ buf c = c
 
 loop-holds : tie.Need-loop-init invariant-loop decreases-loop
 loop-holds c = (swept_none _, omega arith)
 
-sub-i : tie.Need-overflow-sub-i invariant-loop decreases-loop
-sub-i c = search rules
+sub-c : tie.Need-overflow-sub-c invariant-loop decreases-loop
+sub-c c = search rules
 
 spot-requires : tie.Need-spot-requires invariant-loop decreases-loop
-spot-requires c κs = (c.before.before.before.before.before.requires.2, omega (arith, c.before.before.loop.invariant.1))
+spot-requires c κs = (map_on c.before.before.before.before.before.requires.0, c.before.before.before.before.before.requires.2, omega (arith, c.before.before.loop.invariant.1))
 
 join-east-requires : tie.Need-join-east-requires invariant-loop decreases-loop
 join-east-requires c κs = ((c.before.before.before.before.before.before.requires.0, c.spot.ensures.0), c.before.before.before.loop.invariant.0.same ∙ c.before.before.before.before.before.before.requires.1)
@@ -48,7 +48,7 @@ westward-spec =
     invariant-loop
     decreases-loop
     loop-holds
-    sub-i
+    sub-c
     spot-requires
     join-east-requires
     loop-less

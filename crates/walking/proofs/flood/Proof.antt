@@ -4,7 +4,7 @@
 use mathlib.Core.Path.{◌∙◌}
 use lib.ListN.{length-set}
 use borrow.Author.Rules.{rules}
-use Rattle.survey.specs.Spot.{SpotOf}
+use Rattle.grid.specs.Spot.{SpotOf}
 use Rattle.position.specs.Ground.{beside, next}
 use Rattle.position.specs.Board.{ground}
 use Rattle.walk.specs.Chain.{mark}

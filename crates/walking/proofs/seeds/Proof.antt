@@ -1,59 +1,47 @@
--- `seeds` meets its contract. The invariant: the walks from the hexes before run r.
+-- `seeds` meets its contract. The invariant: the walks from the hexes of the rows before row `row`.
 -- Assumes nothing.
-use Prim.Native.Nat.{◌-◌}
+use Prim.Native.Nat.{◌-◌, ◌*◌}
 use mathlib.Core.Path.{◌∙◌}
 use native.Mathlib.Omega.{arith}
-use Rattle.survey.specs.Run.{RunOf, first_of, past_of}
+use borrow.Author.Rules.{rules}
 use Rattle.position.specs.Board.{ground}
 use Rattle.position.specs.Ground.{next}
-use Rattle.position.proofs.Sides.{area_view, on_first}
+use Rattle.position.proofs.Sides.{area_view}
 use Rattle.walk.specs.Trail.{Sown}
+use Rattle.walk.proofs.Joins.{row_past, row_next}
 use Rattle.walk.proofs.Runs.{sown_none, sown_on, sown_all}
 use Rattle.walking.proofs.seeds.Statement.{statement}
 use Rattle.walking.proofs.seeds.Tie as tie
 
 abbrev invariant-loop : tie.invariant-loop
-invariant-loop p v buf₀ hexes r₀ buf r = Sown (next (ground p)) buf₀ 0 (first_of v.width r) buf × RunOf v.width v.height r
+invariant-loop p v buf₀ h row₀ buf row = Sown (next (ground p)) buf₀ 0 (row * v.width) buf
 
 abbrev decreases-loop : tie.decreases-loop
-decreases-loop p v buf₀ hexes r₀ buf r = hexes - first_of v.width r
-
-top-requires : tie.Need-top-requires invariant-loop decreases-loop
-top-requires c κs = on_first c.before.before.requires.0.0
+decreases-loop p v buf₀ h row₀ buf row = h - row
 
 loop-holds : tie.Need-loop-init invariant-loop decreases-loop
-loop-holds c =
-    let t = c.top.ensures in
-    (sown_none c.before.before.before.requires.1 (λ k p q. absurd (omega (arith, t.1))), t.0)
+loop-holds c = sown_none c.before.before.requires.1 (λ k p q. absurd (omega arith))
 
-seed-run-requires : tie.Need-seed-run-requires invariant-loop decreases-loop
-seed-run-requires c κs =
-    let s = c.before.before.before.before.before.requires.0 in
-    let a = c.before.loop.invariant in
-    ((s.0, a.0.kept.same ∙ s.1, a.1), a.0.rest)
+seed-row-requires : tie.Need-seed-row-requires invariant-loop decreases-loop
+seed-row-requires c κs = let s = c.before.before.before.before.before.requires.0 in ((s.0, c.before.before.loop.invariant.kept.same ∙ s.1, c.before.loop-test.true), c.before.before.loop.invariant.rest)
 
-past-requires : tie.Need-past-requires invariant-loop decreases-loop
-past-requires c κs = c.before.before.before.before.loop.invariant.1
+add_row : tie.Need-overflow-add-row invariant-loop decreases-loop
+add_row c = search rules
+
+loop-less : tie.Need-loop-smaller invariant-loop decreases-loop
+loop-less c = search rules
+
+loop-again : tie.Need-loop-preserved invariant-loop decreases-loop
+loop-again c = let z = row_next c.before.before.before.before.before.loop.row c.before.before.before.before.before.before.before.before.args.v.width in sown_on (omega arith) (omega arith) c.before.before.before.before.before.loop.invariant c.before.before.seed-row.ensures
 
 same_length : tie.Need-same-length invariant-loop decreases-loop
-same_length c = c.before.before.before.before.seed-run.ensures.kept.same ∙ c.before.before.before.before.before.before.loop.invariant.0.kept.same
+same_length c = c.before.loop.invariant.kept.same
 
 returns : tie.Need-returns invariant-loop decreases-loop
 returns c =
-    let s = c.before.before.before.before.before.before.before.before.before.before.requires.0 in
-    sown_all (past_of c.before.before.before.before.before.before.before.before.before.before.args.v.width c.before.before.before.before.before.before.loop.r) (omega (arith, s.1, c.before.past.ensures.0))
-    (sown_on (omega arith) (omega arith) c.before.before.before.before.before.before.loop.invariant.0 c.before.before.before.before.seed-run.ensures)
-
-after-requires : tie.Need-after-requires invariant-loop decreases-loop
-after-requires c κs = (c.before.before.before.before.before.before.loop.invariant.1, omega (arith, c.before.past.ensures.0, area_view c.before.before.before.before.before.before.before.before.before.before.requires.0.0.view))
-
-loop-less : tie.Need-loop-smaller invariant-loop decreases-loop
-loop-less c = omega (arith, c.after.ensures.1, c.before.before.past.ensures.0, c.before.before.before.before.before.before.before.loop.invariant.1.on.wide)
-
-loop-again : tie.Need-loop-preserved invariant-loop decreases-loop
-loop-again c =
-    let e = c.after.ensures in
-    (sown_on (omega arith) (omega (arith, e.1)) c.before.before.before.before.before.before.before.loop.invariant.0 c.before.before.before.before.before.seed-run.ensures, e.0)
+    let s = c.before.before.before.before.requires.0 in
+    let z = row_past c.before.before.before.before.args.v.width c.loop-test.false in
+    sown_all _ (omega (arith, s.1, area_view s.0.view)) c.before.loop.invariant
 
 pub seeds-spec : {M : Type 1} → statement M
 seeds-spec =
@@ -61,12 +49,10 @@ seeds-spec =
     (tie.spec
     invariant-loop
     decreases-loop
-    top-requires
     loop-holds
-    seed-run-requires
-    past-requires
-    same_length
-    returns
-    after-requires
+    seed-row-requires
+    add_row
     loop-less
-    loop-again)
+    loop-again
+    same_length
+    returns)

@@ -3,7 +3,7 @@
 use mathlib.Core.Path.{sym, ap, subst, ◌∙◌}
 use native.Mathlib.Omega.{arith}
 use Rattle.position.specs.Board.{board}
-use Rattle.survey.specs.Region.{Inside, place_of}
+use Rattle.grid.specs.Region.{Inside, place_of}
 use Rattle.position.proofs.Sides.{on_view}
 use Rattle.routes.proofs.Windows.{refuge_barred, refuge_free, window_marked}
 use borrow.Author.Rules.{rules}

@@ -1,7 +1,7 @@
 //! The stack that each call uses, in two ways: the most that `painted.c` found, which it prints on standard input here,
 //! and the most that is possible by the frames of the compiled library, whose disassembly is the file named.
 //! Ends with status 1 if a call may use more than its limit, or uses more than the frames allow, or if the library exports
-//! a function that is not measured. `ia_why`, which is no call, is bounded by its frames alone.
+//! a function that is not among the calls.
 
 use host::rules::order::{Call, CALLS};
 use host::rules::refusal::BROKEN_POSITION;
@@ -34,12 +34,9 @@ fn exported(call: Call) -> (&'static str, usize) {
     }
 }
 
-/// What is exported beside the calls, and the bytes that it may use.
-const WHY: (&str, usize) = ("ia_why", 1400);
-
 /// An exported function that no call stands for, and so is not measured. The exported ones have a name without a path.
 fn unmeasured(library: &[Function]) -> Option<&str> {
-    let known = |name: &str| name == WHY.0 || CALLS.iter().any(|&call| exported(call).0 == name);
+    let known = |name: &str| CALLS.iter().any(|&call| exported(call).0 == name);
     library.iter().map(|function| function.name.as_str()).find(|name| !name.contains("::") && !known(name))
 }
 
@@ -68,11 +65,6 @@ fn bound(frames: &HashMap<String, Frame>, call: Call) -> Result<Vec<Link>, Strin
     Ok(arguments.into_iter().chain(chain(frames, name)?).collect())
 }
 
-/// A chain in words.
-fn links(chain: &[Link]) -> String {
-    chain.iter().map(|(name, bytes)| format!("{name} {bytes}")).collect::<Vec<_>>().join(", ")
-}
-
 fn main() -> Result<(), Box<dyn Error>> {
     let disassembly = std::fs::read_to_string(std::env::args().nth(1).ok_or("no disassembly is named")?)?;
     let library = functions(&disassembly);
@@ -87,12 +79,10 @@ fn main() -> Result<(), Box<dyn Error>> {
     for call in CALLS {
         let chain = bound(&frames, call)?;
         let used = *most.get(&call).ok_or(format!("{} was not called", call.name()))?;
-        println!("| {} | {used} | {} | {} |", call.name(), bytes(&chain), links(&chain));
+        let links = chain.iter().map(|(name, bytes)| format!("{name} {bytes}")).collect::<Vec<_>>();
+        println!("| {} | {used} | {} | {} |", call.name(), bytes(&chain), links.join(", "));
         fits &= used <= bytes(&chain) && bytes(&chain) <= limit(call);
     }
-    let why = chain(&frames, WHY.0)?;
-    println!("| why | | {} | {} |", bytes(&why), links(&why));
-    fits &= bytes(&why) <= WHY.1;
     if fits {
         return Ok(());
     }
@@ -107,7 +97,7 @@ mod tests {
     fn an_exported_function_that_is_not_measured_is_named() {
         let library =
             |names: &[&str]| functions(&names.iter().map(|name| format!("00 <{name}>:\n")).collect::<String>());
-        assert_eq!(unmeasured(&library(&["checking::check", "ia_close", "ia_why"])), None);
+        assert_eq!(unmeasured(&library(&["checking::check", "ia_close"])), None);
         assert_eq!(unmeasured(&library(&["checking::check", "ia_close", "ia_new"])), Some("ia_new"));
     }
 }

@@ -3,11 +3,10 @@
 use Prim.Native.Nat.{◌-◌}
 use native.Mathlib.Omega.{arith}
 use borrow.Author.Rules.{rules}
+use Rattle.acceptance.specs.Accepted.{RouteOk}
 use Rattle.position.specs.Layout.{route_count}
 use Rattle.position.specs.Board.{board}
-use Rattle.position.proofs.Answers.{Passed, none_yet, one_more, all}
-use Rattle.acceptance.specs.Accepted.{RouteOk}
-use Rattle.flaw.proofs.Tellings.{fine, passed_on}
+use Rattle.position.proofs.Answers.{said, unsaid, Passed, none_yet, one_more, all, not_all}
 use Rattle.checking.proofs.routes_ok.routes_ok.Statement.{statement}
 use Rattle.checking.proofs.routes_ok.routes_ok.Tie as tie
 
@@ -24,7 +23,9 @@ route-ok-requires : tie.Need-route-ok-requires invariant-loop decreases-loop
 route-ok-requires c κs = (c.before.before.before.requires, omega arith)
 
 returns : tie.Need-returns invariant-loop decreases-loop
-returns c = passed_on c.before.route-ok.ensures c.if1.true
+returns c =
+    let l = c.before.before.before in
+    not_all l.loop.invariant (omega arith) (unsaid c.before.route-ok.result c.if1.true c.before.route-ok.ensures)
 
 add_r : tie.Need-overflow-add-r invariant-loop decreases-loop
 add_r c = search rules
@@ -33,10 +34,23 @@ loop-less : tie.Need-loop-smaller invariant-loop decreases-loop
 loop-less c = search rules
 
 loop-again : tie.Need-loop-preserved invariant-loop decreases-loop
-loop-again c = one_more c.before.before.before.loop.invariant (omega arith) (c.before.route-ok.ensures.kept c.if1.false)
+loop-again c =
+    let l = c.before.before.before in
+    one_more l.loop.invariant (omega arith) (said c.before.route-ok.result c.if1.false c.before.route-ok.ensures)
 
 returns-2 : tie.Need-returns-2 invariant-loop decreases-loop
-returns-2 c = fine (all c.before.loop.invariant (omega arith))
+returns-2 c = all c.before.loop.invariant (omega arith)
 
 pub routes-ok-spec : {M : Type 1} → statement M
-routes-ok-spec = tie.close (tie.spec invariant-loop decreases-loop loop-holds route-ok-requires returns add_r loop-less loop-again returns-2)
+routes-ok-spec =
+    tie.close
+    (tie.spec
+    invariant-loop
+    decreases-loop
+    loop-holds
+    route-ok-requires
+    returns
+    add_r
+    loop-less
+    loop-again
+    returns-2)

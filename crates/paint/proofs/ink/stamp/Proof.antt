@@ -3,7 +3,7 @@
 use mathlib.Core.Path.{sym, ap, ◌∙◌}
 use Rattle.paint.specs.Paint.{inked}
 use native.Mathlib.Omega.{arith}
-use Rattle.survey.proofs.Regions.{inside_facts, inside_not}
+use Rattle.grid.proofs.Regions.{inside_facts, inside_not}
 use Rattle.paint.proofs.Adding.{adds_set, adds_outside}
 use borrow.Author.Rules.{rules}
 use Rattle.paint.proofs.ink.stamp.Statement.{statement}

@@ -6,7 +6,7 @@ use native.Mathlib.Omega.{arith}
 use borrow.Author.Rules.{rules}
 use Rattle.position.specs.Board.{board}
 use Rattle.position.proofs.Sides.{on_first, area_view}
-use Rattle.survey.proofs.Regions.{place_one}
+use Rattle.grid.proofs.Regions.{place_one}
 use Rattle.pushes.specs.Drawn.{stand_number, byte_of}
 use Rattle.pushes.proofs.Drawing.{hex_here, hex_nowhere, byte-of}
 use Rattle.pushes.proofs.draw.byte_for.Statement.{statement}

@@ -5,9 +5,9 @@ use mathlib.Core.Path.{sym, ap₂, subst, ◌∙◌}
 use native.Mathlib.Omega.{arith}
 use borrow.Author.Rules.{rules}
 use Rattle.position.specs.Board.{board}
-use Rattle.paint.proofs.Bytes.{round_room, blank_long, blank_all}
+use Rattle.paint.proofs.Bytes.{blank_long, blank_all}
 use Rattle.pushes.specs.Drawn.{ShownIn, DrawnTo}
-use Rattle.pushes.proofs.Drawing.{drawing_none, shown_in, drawing_more, drawn}
+use Rattle.pushes.proofs.Drawing.{round_room, drawing_none, shown_in, drawing_more, drawn}
 use Rattle.pushes.proofs.draw.draw.Statement.{statement}
 use Rattle.pushes.proofs.draw.draw.Tie as tie
 
@@ -20,7 +20,7 @@ decreases-loop p v at f start room₀ i₀ room i = 182 - i
 show-requires : tie.Need-show-requires invariant-loop decreases-loop
 show-requires c κs =
     let outset = c.before.before.before in
-    (outset.requires.0, round_room outset.requires.1 (omega (arith, blank_long 182 outset.requires.2)), blank_all 182 outset.requires.2)
+    (outset.requires.0, round_room outset.requires.1 (blank_long 182 outset.requires.2), blank_all 182 outset.requires.2)
 
 loop-holds : tie.Need-loop-init invariant-loop decreases-loop
 loop-holds c = (omega arith, drawing_none (c.before.room.given ∙ blank_long 182 c.before.before.before.before.before.before.requires.2) c.before.before.show.ensures)

@@ -1,15 +1,13 @@
 -- `chart_ok::codes_ok` meets its contract. The loop's invariant: the codes of every die before this one are codes.
 -- Assumes nothing.
 use Prim.Native.Nat.{ℕ, ◌+◌, ◌-◌}
-use mathlib.Core.Path.{refl, sym}
+use mathlib.Core.Path.{sym}
 use mathlib.Core.List.{List}
 use native.Mathlib.Omega.{arith}
 use borrow.Author.Rules.{rules}
 use Rattle.position.specs.Shape.{In}
 use Rattle.position.specs.Layout.{code, die_faces}
-use Rattle.position.proofs.Answers.{said, unsaid, carry, Passed, none_yet, one_more, all}
-use Rattle.flaw.specs.Flaw as Flaw
-use Rattle.flaw.proofs.Tellings.{fine, broken_there}
+use Rattle.position.proofs.Answers.{said, unsaid, carry, Passed, none_yet, one_more, all, not_all}
 use Rattle.setting.proofs.chart_ok.codes_ok.Statement.{statement}
 use Rattle.setting.proofs.chart_ok.codes_ok.Tie as tie
 
@@ -29,28 +27,17 @@ add-code : tie.Need-overflow-add-code invariant-loop decreases-loop
 add-code c = search rules
 
 code-requires : tie.Need-code-requires invariant-loop decreases-loop
-code-requires c κs = c.before.before.before.requires.0
+code-requires c κs = search rules
 
 within-requires : tie.Need-within-requires invariant-loop decreases-loop
 within-requires c κs = search rules
 
-mul-result : tie.Need-overflow-mul-result invariant-loop decreases-loop
-mul-result c = omega (arith, c.before.before.before.before.before.before.requires.1, c.before.before.before.before.before.before.requires.0.shaped.columns)
-
-add-result : tie.Need-overflow-add-result invariant-loop decreases-loop
-add-result c = omega (arith, c.before.before.before.before.before.before.requires.1, c.before.before.before.before.before.before.requires.0.shaped.columns)
-
-mul-result-2 : tie.Need-overflow-mul-result-2 invariant-loop decreases-loop
-mul-result-2 c = omega (arith, c.before.before.before.before.before.before.requires.1, c.before.before.before.before.before.before.requires.0.shaped.columns)
-
-add-result-2 : tie.Need-overflow-add-result-2 invariant-loop decreases-loop
-add-result-2 c = omega (arith, c.before.before.before.before.before.before.requires.1, c.before.before.before.before.before.before.requires.0.shaped.columns)
-
 returns : tie.Need-returns invariant-loop decreases-loop
 returns c =
-    broken_there
-    (Flaw.code c.before.before.before.before.before.before.args.c c.before.before.before.before.loop.die refl refl c.before.before.before.before.before.before.requires.1 (omega arith)
-    (λ i. unsaid c.before.within.result c.if1.true c.before.within.ensures (carry (sym c.before.before.code.ensures.is) i)))
+    let l = c.before.before.before.before in
+    not_all l.loop.invariant (omega arith)
+    (λ i. unsaid c.before.within.result c.if1.true c.before.within.ensures
+    (carry (sym c.before.before.code.ensures.is) i))
 
 add-die : tie.Need-overflow-add-die invariant-loop decreases-loop
 add-die c = search rules
@@ -59,10 +46,26 @@ loop-less : tie.Need-loop-smaller invariant-loop decreases-loop
 loop-less c = search rules
 
 loop-again : tie.Need-loop-preserved invariant-loop decreases-loop
-loop-again c = one_more c.before.before.before.before.loop.invariant (omega arith) (carry c.before.before.code.ensures.is (said c.before.within.result c.if1.false c.before.within.ensures))
+loop-again c =
+    let l = c.before.before.before.before in
+    one_more l.loop.invariant (omega arith)
+    (carry c.before.before.code.ensures.is (said c.before.within.result c.if1.false c.before.within.ensures))
 
 returns-2 : tie.Need-returns-2 invariant-loop decreases-loop
-returns-2 c = fine (all c.before.loop.invariant (omega arith))
+returns-2 c = all c.before.loop.invariant (omega arith)
 
 pub codes-ok-spec : {M : Type 1} → statement M
-codes-ok-spec = tie.close (tie.spec invariant-loop decreases-loop loop-holds add-code code-requires within-requires mul-result add-result mul-result-2 add-result-2 returns add-die loop-less loop-again returns-2)
+codes-ok-spec =
+    tie.close
+    (tie.spec
+    invariant-loop
+    decreases-loop
+    loop-holds
+    add-code
+    code-requires
+    within-requires
+    returns
+    add-die
+    loop-less
+    loop-again
+    returns-2)

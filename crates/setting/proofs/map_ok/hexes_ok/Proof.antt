@@ -1,10 +1,10 @@
 -- `map_ok::hexes_ok` meets its contract. The loop's invariant: every hex before h is as it should be.
 -- Assumes nothing.
-use Prim.Native.Nat.{◌-◌}
+use Prim.Native.Nat.{◌+◌, ◌-◌}
 use native.Mathlib.Omega.{arith}
 use borrow.Author.Rules.{rules}
 use Rattle.position.specs.Board.{ground}
-use Rattle.position.proofs.Answers.{said, Passed, none_yet, several_more}
+use Rattle.position.proofs.Answers.{said, unsaid, Passed, none_yet, several_more}
 use Rattle.position.proofs.Shapes.{sizes}
 use Rattle.setting.specs.Setting.{HexOk}
 use Rattle.setting.proofs.map_ok.hexes_ok.Statement.{statement}
@@ -25,11 +25,11 @@ add-loop c = omega (arith, c.loop.invariant.most, (sizes c.before.before.require
 sixteen-ok-requires : tie.Need-sixteen-ok-requires invariant-loop decreases-loop
 sixteen-ok-requires c κs = (c.before.before.before.requires, c.loop-test.true)
 
-rest-ok-requires : tie.Need-rest-ok-requires invariant-loop decreases-loop
-rest-ok-requires c κs = (c.before.before.before.before.before.requires, c.before.before.before.loop.invariant.most, c.before.before.before.loop.invariant.held)
-
 returns : tie.Need-returns invariant-loop decreases-loop
-returns c = c.rest_ok.ensures
+returns c =
+    let l = c.before.before.before in
+    λ f. unsaid c.before.sixteen-ok.result c.if1.true c.before.sixteen-ok.ensures
+    (λ k j. f (l.loop.h + k) (omega arith))
 
 add-h : tie.Need-overflow-add-h invariant-loop decreases-loop
 add-h c = search rules
@@ -38,13 +38,28 @@ loop-less : tie.Need-loop-smaller invariant-loop decreases-loop
 loop-less c = search rules
 
 loop-again : tie.Need-loop-preserved invariant-loop decreases-loop
-loop-again c = several_more c.before.before.before.loop.invariant (omega arith) (said c.before.sixteen-ok.result c.if1.false c.before.sixteen-ok.ensures)
+loop-again c =
+    let l = c.before.before.before in
+    several_more l.loop.invariant (omega arith) (said c.before.sixteen-ok.result c.if1.false c.before.sixteen-ok.ensures)
 
-rest-ok-requires-2 : tie.Need-rest-ok-requires-2 invariant-loop decreases-loop
-rest-ok-requires-2 c κs = (c.before.before.before.requires, c.before.loop.invariant.most, c.before.loop.invariant.held)
+rest-ok-requires : tie.Need-rest-ok-requires invariant-loop decreases-loop
+rest-ok-requires c κs = let l = c.before in (l.before.before.requires, l.loop.invariant.most, l.loop.invariant.held)
 
 returns-2 : tie.Need-returns-2 invariant-loop decreases-loop
-returns-2 c = c.rest-ok2.ensures
+returns-2 c = c.rest_ok.ensures
 
 pub hexes-ok-spec : {M : Type 1} → statement M
-hexes-ok-spec = tie.close (tie.spec invariant-loop decreases-loop loop-holds add-loop sixteen-ok-requires rest-ok-requires returns add-h loop-less loop-again rest-ok-requires-2 returns-2)
+hexes-ok-spec =
+    tie.close
+    (tie.spec
+    invariant-loop
+    decreases-loop
+    loop-holds
+    add-loop
+    sixteen-ok-requires
+    returns
+    add-h
+    loop-less
+    loop-again
+    rest-ok-requires
+    returns-2)

@@ -5,7 +5,7 @@ use native.Mathlib.Omega.{arith}
 use borrow.Author.Rules.{rules}
 use Rattle.grid.specs.declared.Beside.TheVariants.{At}
 use Rattle.grid.specs.Map.{neighbour_of}
-use Rattle.survey.specs.Spot.{SpotOf}
+use Rattle.grid.specs.Spot.{SpotOf}
 use Rattle.walking.proofs.step.enter.Statement.{statement}
 use Rattle.walking.proofs.step.enter.Tie as tie
 

@@ -1,2 +1,0 @@
-pub mod Why
-pub mod Bare

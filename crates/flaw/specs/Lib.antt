@@ -1,3 +1,0 @@
-pub mod Line
-pub mod Flaw
-pub mod Tells

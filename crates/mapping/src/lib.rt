@@ -1,4 +1,0 @@
-// The map as a scenario tells it: the chart, the columns of the results, the size and the hexes.
-pub mod chart;
-pub mod column;
-pub mod land;

@@ -1,3 +1,0 @@
-// The desk as a scenario tells it: turn, force and phase; the players, and an open battle.
-pub mod table;
-pub mod time;

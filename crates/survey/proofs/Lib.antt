@@ -1,4 +1,0 @@
-pub mod Spots
-pub mod Rims
-pub mod Regions
-pub mod Runs

@@ -1,4 +1,0 @@
-pub mod Spot
-pub mod Region
-pub mod Rim
-pub mod Run
