@@ -1,4 +1,6 @@
 // The advance and the close: their questions in their order, and then the changes.
+#![tactic(auto)]
+
 ghost use Rattle.std.specs.Prelude.{◌≡◌, [], ◌≤◌, ◌<◌};
 ghost use Rattle.position.specs.Layout.{route_hexes};
 ghost use Rattle.position.specs.Tally.{any};

@@ -1,4 +1,6 @@
 // The attack: its questions, and then the battle.
+#![tactic(auto)]
+
 ghost use Rattle.std.specs.Prelude.{length};
 ghost use Rattle.position.specs.Board.{board};
 ghost use Rattle.acceptance.specs.Accepted.{Accepted};

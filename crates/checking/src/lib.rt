@@ -1,4 +1,6 @@
 // Whether a position keeps every line of document 01. Every call begins with `check`.
+#![tactic(auto)]
+
 ghost use Rattle.position.specs.Board.{board};
 ghost use Rattle.position.specs.Laid.{Laid, Says};
 ghost use Rattle.acceptance.specs.Accepted.{Lawful};

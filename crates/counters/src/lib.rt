@@ -1,4 +1,6 @@
 // Whether the units keep their lines of document 01: each alone, then their stacks and their roles.
+#![tactic(auto)]
+
 ghost use Rattle.std.specs.Prelude.{ℕ, ◌<◌};
 ghost use Rattle.position.specs.Layout.{count};
 ghost use Rattle.position.specs.Board.{board};

@@ -1,4 +1,6 @@
 // How many units: in a hex, with a role; and how many routes are filled.
+#![tactic(auto)]
+
 ghost use Rattle.std.specs.Prelude.{◌≡◌};
 ghost use Rattle.position.specs.Board.{board};
 ghost use Rattle.position.specs.Crowd.{crowd, others, holders, filled, routes};

@@ -1,4 +1,6 @@
 // Whether clock and players on the desk keep their lines of the documents.
+#![tactic(auto)]
+
 ghost use Rattle.std.specs.Prelude.{◌<◌};
 ghost use Rattle.position.specs.Board.{desk};
 ghost use Rattle.acceptance.specs.Accepted.{ClockOk, PlayerOk, PlayersOk};

@@ -1,4 +1,6 @@
 // The end of a phase: marks cleared, the clock moved on, and supply judged for the force whose phase begins.
+#![tactic(auto)]
+
 ghost use Rattle.std.specs.Prelude.{◌≡◌, ◌<◌, length};
 ghost use Rattle.position.specs.Board.{board};
 ghost use Rattle.position.specs.Change.{makes};

@@ -1,4 +1,6 @@
 // What comes of a group that owes: it is lost, goes along a vacant route, pushes friends, or what was sent is refused.
+#![tactic(auto)]
+
 ghost use Rattle.std.specs.Prelude.{◌≡◌, cond, false, not, ◌<◌, ◌≤◌, get_or};
 ghost use Rattle.position.specs.Tally.{any};
 ghost use Rattle.position.specs.Board.{board};

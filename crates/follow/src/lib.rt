@@ -1,4 +1,6 @@
 // The test of an order: its route step by step, each with the pushes that its chain takes.
+#![tactic(auto)]
+
 ghost use Rattle.std.specs.Prelude.{◌≡◌, ◌<◌, ◌≤◌, length};
 ghost use Rattle.grid.specs.Region.{RegionOk, place_in};
 ghost use Rattle.chains.specs.Chain.{leads};

@@ -1,4 +1,6 @@
 // Who belongs to whom.
+#![tactic(auto)]
+
 ghost use Rattle.std.specs.Prelude.{◌≡◌};
 ghost use Rattle.position.specs.Layout.{player};
 ghost use Rattle.position.specs.Board.{board, force_of, enemy, neutral, relates};

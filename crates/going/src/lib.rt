@@ -1,4 +1,6 @@
 // How a group leaves its hex: the route is written, each unit goes or is destroyed, and the stage passes on.
+#![tactic(auto)]
+
 ghost use Rattle.std.specs.Prelude.{◌≡◌, cond, [], ◌∷◌, map, ◌<◌, ◌≤◌, get_or};
 ghost use Rattle.position.specs.Board.{board, nowhere};
 ghost use Rattle.position.specs.Crowd.{owes_at};

@@ -1,4 +1,6 @@
 // Hexes of a map, their neighbours and distances.
+#![tactic(auto)]
+
 pub mod near;
 pub mod region;
 pub mod rim;
@@ -9,14 +11,14 @@ ghost use Rattle.grid.specs.Map.{On, one_to, on_map, hex_at, beside_of, neighbou
 ghost use Rattle.grid.specs.Walk.{gap_of, distance_of};
 
 // What lies beside a hex: another hex, or the map's edge.
-#[derive(Drop)]
+#[derive(Clone, Copy)]
 pub enum Beside {
     At(usize),
     Off,
 }
 
 // A hex with its column and its row, both counted from 0.
-#[derive(Drop)]
+#[derive(Clone, Copy)]
 pub struct Spot {
     pub hex: usize,
     column: usize,
@@ -24,14 +26,14 @@ pub struct Spot {
 }
 
 // What lies beside a hex, with its column and row.
-#[derive(Drop)]
+#[derive(Clone, Copy)]
 pub enum Nearby {
     At(Spot),
     Off,
 }
 
 // A column and a row, both counted from 1, so that 0 is off the map.
-#[derive(Drop)]
+#[derive(Clone, Copy)]
 struct Place {
     x: usize,
     y: usize,

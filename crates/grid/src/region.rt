@@ -10,7 +10,7 @@ use crate::{Beside, Spot, near};
 const MARGIN: usize = 8;
 
 // `wide` columns from `left` on and `high` rows from `top` on, with a place for each hex, row by row.
-#[derive(Drop)]
+#[derive(Clone, Copy)]
 pub struct Region {
     left: usize,
     top: usize,

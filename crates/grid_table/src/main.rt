@@ -1,4 +1,6 @@
 // Prints the neighbours of a few hexes, clockwise from the north with `-` for none, and a few distances.
+#![tactic(auto)]
+
 ghost use Rattle.grid.specs.Map.{On};
 
 use grid::Beside;

@@ -1,4 +1,6 @@
 // The ground: sides between hexes, steps over unblocked sides, and where a unit may stand.
+#![tactic(auto)]
+
 ghost use Rattle.std.specs.Prelude.{◌≡◌, cond, ◌<◌, ltb};
 ghost use Rattle.grid.specs.declared.Beside.TheVariants.{At};
 ghost use Rattle.position.specs.Board.{board, ground};

@@ -1,9 +1,11 @@
 // The battle line: one record for each participant, lent to the sums for odds and losses.
+#![tactic(auto)]
+
 ghost use Rattle.std.specs.Prelude.{◌≡◌, ◌+◌, ◌-◌, ◌≤◌, length, take, drop};
 ghost use Rattle.line.specs.Line.{places, most, fighting_total, printed_total, Comes, Sums};
 
 // A participant: the unit, its printed strength and what it fights with.
-#[derive(Drop)]
+#[derive(Clone, Copy)]
 pub struct Fighter {
     pub unit: u16,
     pub printed: u8,
@@ -11,7 +13,7 @@ pub struct Fighter {
 }
 
 // What a part of the line comes to.
-#[derive(Drop)]
+#[derive(Clone, Copy)]
 pub struct Totals {
     pub fighting: usize,
     pub printed: usize,

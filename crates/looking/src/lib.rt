@@ -1,4 +1,6 @@
 // Looking round from a hex for one with a mark, a direction after the other: 1 for one to enter, 2 for a source.
+#![tactic(auto)]
+
 ghost use Rattle.std.specs.Prelude.{◌≡◌, ◌<◌, length};
 ghost use Rattle.grid.specs.Spot.{SpotOf, NearOf};
 ghost use Rattle.position.specs.Board.{ground};

@@ -1,4 +1,6 @@
 // The roster of a position: a line for each unit on the map, by number: unit, hex, and S or O by supply as it is now.
+#![tactic(auto)]
+
 ghost use Rattle.std.specs.Prelude.{◌≡◌, ◌<◌, length};
 ghost use Rattle.position.specs.Laid.{Laid};
 

@@ -1,4 +1,6 @@
 // The odds: what multiplies the defence, and the column of the results.
+#![tactic(auto)]
+
 ghost use Rattle.std.specs.Prelude.{◌≡◌, map, ◌<◌, ◌≤◌, length};
 ghost use Rattle.position.specs.Board.{board, chart, results, ground};
 ghost use Rattle.position.specs.Laid.{Laid, Read};

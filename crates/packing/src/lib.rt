@@ -1,4 +1,6 @@
 // Answers as the one number that a call of the C library gives back.
+#![tactic(auto)]
+
 ghost use Rattle.std.specs.Prelude.{◌≡◌};
 ghost use Rattle.ruling.specs.Answers.{answer_as};
 ghost use Rattle.ruling.specs.Packed.{refusal_of, packed};

@@ -1,4 +1,6 @@
 // Output by way of a buffer. Each function takes how full the buffer is, and answers how full it is then.
+#![tactic(auto)]
+
 ghost use Rattle.io.specs.Counts.{IsPrefixLen};
 
 use libc::STDOUT_FILENO;

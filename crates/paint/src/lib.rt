@@ -1,4 +1,6 @@
 // Who stands where and whose zones lie where, painted into a lent buffer for a part of the map: one pass over the units.
+#![tactic(auto)]
+
 mod cast;
 pub mod ink;
 mod stand;

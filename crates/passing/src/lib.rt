@@ -1,4 +1,6 @@
 // How a battle's stages pass on, for every call that ends one.
+#![tactic(auto)]
+
 ghost use Rattle.std.specs.Prelude.{◌≡◌, cond, [], ◌∷◌, ◌<◌, eqb};
 ghost use Rattle.position.specs.Board.{board};
 ghost use Rattle.position.specs.Change.{makes};

@@ -1,4 +1,6 @@
 // A plot: a small map of its own on which pushes are searched for and tested, without a byte of the position.
+#![tactic(auto)]
+
 pub mod chain;
 
 ghost use Rattle.std.specs.Prelude.{◌≡◌, ◌<◌, ◌≤◌, length};
@@ -16,7 +18,7 @@ pub const HIGH: usize = 13;
 pub const PLACES: usize = 182;
 
 // What a chain takes of the pushes sent: up to its last place, and the number of the first push that it leaves.
-#[derive(Drop)]
+#[derive(Clone, Copy)]
 pub enum Took {
     UpTo(usize, usize),
     Wrong,

@@ -11,7 +11,7 @@ pub const CANADA: usize = 4;
 
 pub const HOME: usize = 3;
 
-#[derive(Drop)]
+#[derive(Clone, Copy)]
 pub struct Kind(pub usize);
 
 impl Kind {

@@ -1,4 +1,6 @@
 // A position as lent bytes: how its bodies lie, and each number read and written by name.
+#![tactic(auto)]
+
 pub mod bits;
 pub mod kind;
 pub mod layout;
@@ -8,7 +10,7 @@ pub mod stage;
 
 // What is handed on of a position whose bodies lie as they should: its counts, where its units and its desk begin, and how many
 // players the desk names.
-#[derive(Drop)]
+#[derive(Clone, Copy)]
 pub struct View {
     pub width: usize,
     pub height: usize,
@@ -21,14 +23,14 @@ pub struct View {
 }
 
 // The answer of a check: the view of what passed, or nothing of it.
-#[derive(Drop)]
+#[derive(Clone, Copy)]
 pub enum Checked {
     Whole(View),
     Broken,
 }
 
 // What another force is to a force: its player is another, or the same.
-#[derive(Drop)]
+#[derive(Clone, Copy)]
 pub enum Relation {
     Enemy,
     Neutral,

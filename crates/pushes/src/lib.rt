@@ -1,4 +1,6 @@
 // Whether pushes serve a group that has no vacant route, and whether those that were sent do.
+#![tactic(auto)]
+
 mod draw;
 mod stands;
 
@@ -16,7 +18,7 @@ use position::View;
 const FAR: usize = 6;
 
 // No series of pushes exists; one does, and what was sent is none; or it is one.
-#[derive(Drop)]
+#[derive(Clone, Copy)]
 pub enum Served {
     None,
     Wrong,

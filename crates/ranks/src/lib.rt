@@ -1,5 +1,7 @@
 // The battle line: who takes part, and what each brings. It is found in three arrays, of which the first `n` places count, and then drawn
 // up as one line of fighters, from which the units are read back for the result.
+#![tactic(auto)]
+
 ghost use Rattle.std.specs.Prelude.{◌≡◌, ◌+◌, ◌<◌, ◌≤◌, length};
 ghost use Rattle.position.specs.Tally.{any};
 ghost use Rattle.position.specs.Board.{board};

@@ -1,11 +1,13 @@
 // The lines of a record, read byte by byte: a line as far as it has been read.
+#![tactic(auto)]
+
 pub mod hex;
 pub mod number;
 pub mod rooms;
 pub mod words;
 
 // Where in a line the next byte stands.
-#[derive(Drop)]
+#[derive(Clone, Copy)]
 pub enum Stage {
     First,
     Start,
@@ -21,7 +23,7 @@ pub enum Stage {
 
 // The line's first word as a number of base 256, the number that is being read, how many there are (40 stands for more too),
 // after how many of them a slash stood, or `NONE`; how many bytes the hex digits have made, and the first digit of a pair, or 16.
-#[derive(Drop)]
+#[derive(Clone, Copy)]
 pub struct Line {
     pub stage: Stage,
     pub key: u64,

@@ -4,7 +4,7 @@ ghost use Rattle.std.specs.Prelude.{◌≤◌};
 use crate::rooms::Numbers;
 use crate::{Line, Stage};
 
-#[derive(Drop)]
+#[derive(Clone, Copy)]
 enum Grown {
     To(u16),
     Over,

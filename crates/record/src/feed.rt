@@ -7,7 +7,7 @@ use reading::rooms::{Numbers, Room};
 use reading::{Line, Stage, words};
 
 // The game, the line that is being read, and whether the record has ended.
-#[derive(Drop)]
+#[derive(Clone, Copy)]
 struct State {
     game: Game,
     line: Line,

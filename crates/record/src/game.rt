@@ -4,7 +4,7 @@ use reading::rooms::NONE;
 
 // The line's number from 1; the lengths of the position, of the buffer that the last call borrowed, and of the one
 // that the next call is to borrow, or `NONE`; how full the output is; and whether lines are echoed.
-#[derive(Drop)]
+#[derive(Clone, Copy)]
 pub struct Game {
     pub line: usize,
     pub size: usize,

@@ -1,4 +1,6 @@
 // A game record, read from standard input a line each; each call is answered with one line.
+#![tactic(auto)]
+
 mod answers;
 mod calls;
 mod echo;

@@ -1,4 +1,6 @@
 // The C library: each call exported with plain numbers and slices of numbers. It keeps nothing between calls.
+#![tactic(auto)]
+
 ghost use Rattle.std.specs.Prelude.{[]};
 ghost use Rattle.rules.specs.Order.{verdict};
 ghost use Rattle.rules.specs.Order.Order.{supply, move, end_phase, attack, retreat, losses, advance, close};

@@ -1,4 +1,6 @@
 // Retreat: a group that owes goes off along a vacant route, pushes friends out of its road, or is destroyed where it can go no further.
+#![tactic(auto)]
+
 ghost use Rattle.std.specs.Prelude.{[]};
 ghost use Rattle.position.specs.Board.{board};
 ghost use Rattle.position.specs.Laid.{Laid};

@@ -1,4 +1,6 @@
 // Whether each role is held by units of one force, and the two by different ones.
+#![tactic(auto)]
+
 ghost use Rattle.std.specs.Prelude.{◌≡◌, ℕ, ◌<◌};
 ghost use Rattle.position.specs.Layout.{count, role};
 ghost use Rattle.position.specs.Board.{board, force_of};

@@ -1,4 +1,6 @@
 // The roster's example with unit 1 destroyed: the line to the supply hex is open.
+#![tactic(auto)]
+
 fn main() {
     muster::run();
 }

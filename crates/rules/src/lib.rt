@@ -1,5 +1,7 @@
 // All calls of the referee in one place. Each takes anything: it checks the position, which no other place of the calls does, and forwards
 // to the crate of its rule.
+#![tactic(auto)]
+
 ghost use Rattle.std.specs.Prelude.{[]};
 ghost use Rattle.ruling.specs.Verdict.{Met};
 ghost use Rattle.ruling.specs.Answers.{answer_as};

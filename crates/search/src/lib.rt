@@ -1,4 +1,6 @@
 // The search for a series of pushes: step by step over the places further off, with every place in which the step's chain may end.
+#![tactic(auto)]
+
 ghost use Rattle.std.specs.Prelude.{◌≡◌, ◌+◌, ◌<◌, ◌≤◌, length};
 ghost use Rattle.plot.specs.Plot.{shifted};
 ghost use Rattle.plot.specs.Ends.{Blank};

@@ -1,4 +1,6 @@
 // The contents: five entries, and the bodies that they name, without gap or tail.
+#![tactic(auto)]
+
 ghost use Rattle.std.specs.Prelude.{◌≡◌, ◌+◌, ◌*◌, ◌<◌, ◌≤◌, length};
 ghost use Rattle.position.specs.Layout.{desk_body, chart_at, columns, width, height};
 ghost use Rattle.position.specs.Shape.{In, Entry};

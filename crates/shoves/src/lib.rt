@@ -1,4 +1,6 @@
 // How a group goes off along its route, pushing friends out of its road.
+#![tactic(auto)]
+
 pub mod clear;
 pub mod group;
 

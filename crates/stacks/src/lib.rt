@@ -1,4 +1,6 @@
 // Whether stacks are at most three units, of one force, in one pass over the units for each block of the map.
+#![tactic(auto)]
+
 ghost use Rattle.std.specs.Prelude.{◌≡◌, ℕ, ◌+◌, ◌<◌, length};
 ghost use Rattle.position.specs.Layout.{count, forces};
 ghost use Rattle.position.specs.Board.{board, force_of};

@@ -1,4 +1,6 @@
 // Whether the stage keeps its lines of the documents, and what it asks of roles and routes.
+#![tactic(auto)]
+
 ghost use Rattle.std.specs.Prelude.{◌≡◌, ◌<◌};
 ghost use Rattle.position.specs.Stage as Stage;
 ghost use Rattle.position.specs.Board.{board, desk};

@@ -1,4 +1,6 @@
 // One step of a move: what it costs, and its questions in their order.
+#![tactic(auto)]
+
 ghost use Rattle.std.specs.Prelude.{◌≡◌, ◌+◌, ◌<◌};
 ghost use Rattle.position.specs.Board.{board, ground, force_of};
 ghost use Rattle.position.specs.Ground.{bearing};

@@ -1,5 +1,7 @@
 // A position as people read it: the map as text, its units and its desk, and what a battle or a retreat came to. Each function takes
 // the output and how full it is, and answers how full it is then.
+#![tactic(auto)]
+
 mod rows;
 mod table;
 mod tiles;
@@ -11,7 +13,7 @@ use page::Output;
 use position::{Checked, View};
 
 // What is said of a unit. `shown` is its strength if it is tried, else 0: a strength that is face down is not here.
-#[derive(Drop)]
+#[derive(Clone, Copy)]
 pub struct Unit {
     pub number: usize,
     pub nationality: usize,
@@ -24,7 +26,7 @@ pub struct Unit {
 }
 
 // What is said of a hex: how many units stand there, and the cost of its terrain, 0 if it is prohibited.
-#[derive(Drop)]
+#[derive(Clone, Copy)]
 pub struct Tile {
     pub number: usize,
     pub surface: usize,
@@ -35,7 +37,7 @@ pub struct Tile {
 }
 
 // What is said of the desk.
-#[derive(Drop)]
+#[derive(Clone, Copy)]
 pub struct Desk {
     pub turn: usize,
     pub last: usize,
@@ -47,7 +49,7 @@ pub struct Desk {
 }
 
 // The odds of a column: a to d.
-#[derive(Drop)]
+#[derive(Clone, Copy)]
 pub struct Odds {
     pub a: usize,
     pub d: usize,

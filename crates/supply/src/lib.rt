@@ -1,4 +1,6 @@
 // Supply: which hexes are open for a nationality, which are its sources, and from which a chain leads to one; the supply call.
+#![tactic(auto)]
+
 mod grade;
 
 ghost use Rattle.std.specs.Prelude.{◌≡◌, ◌<◌, length};

@@ -1,5 +1,7 @@
 // Sweeps over the map, row by row, down and up again. Each makes a source of every open hex that has a source beside it already, so that two
 // of them reach most of a map at a fraction of the walk's price; the walk then has the rest.
+#![tactic(auto)]
+
 pub mod row;
 
 ghost use Rattle.std.specs.Prelude.{◌≡◌, true, ◌<◌, length};

@@ -2,6 +2,8 @@
 // come in, and has no other memory. First come two sweeps, which make sources of the hexes that they reach; then walks from the open hexes
 // that still have a source beside them. A hex that a walk has entered has a mark m of 8 or more: m / 8 - 1 is the direction home, to the hex
 // that it was entered from (6, in which nothing lies, where the walk began), and m % 8 is 0, or 7 once the walk has left the hex.
+#![tactic(auto)]
+
 mod step;
 
 ghost use Rattle.std.specs.Prelude.{◌≡◌, ◌+◌, ◌*◌, ◌<◌, length};

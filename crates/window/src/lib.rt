@@ -1,4 +1,6 @@
 // The search for a legal route, over a window of the hexes round its start that was painted before.
+#![tactic(auto)]
+
 ghost use Rattle.std.specs.Prelude.{◌≡◌, ◌+◌, ◌-◌, ◌<◌, ◌≤◌, eqb};
 ghost use Rattle.grid.specs.Walk.{distance_of};
 ghost use Rattle.position.specs.Layout.{width};

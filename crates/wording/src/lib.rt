@@ -1,5 +1,7 @@
 // The words: names, the rules that refusals are given by, and the lines of the record language. Each function takes the output and how
 // full it is, and answers how full it is then.
+#![tactic(auto)]
+
 mod language;
 pub mod names;
 mod reasons;
@@ -7,7 +9,7 @@ mod reasons;
 use page::Output;
 
 // The calls, as refusals name them.
-#[derive(Drop)]
+#[derive(Clone, Copy)]
 pub enum Call {
     Supply,
     Move,

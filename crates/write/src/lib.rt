@@ -1,4 +1,6 @@
 // All that a call may do to a position: one function for each kind of change. Each does nothing for a unit, a hex or a route that is not there.
+#![tactic(auto)]
+
 ghost use Rattle.std.specs.Prelude.{◌≡◌, ◌<◌};
 ghost use Rattle.position.specs.Layout.{route_count, route_hexes, set_hex, set_route_hex};
 ghost use Rattle.position.specs.Change.{make, turned};

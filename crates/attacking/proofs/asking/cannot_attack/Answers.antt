@@ -1,0 +1,23 @@
+-- `asking::cannot_attack` meets its contract: the type is asked first, then the mark.
+-- Assumes nothing.
+use mathlib.Core.Path.{◌∙◌, ◌≡◌, ap, sym}
+use borrow.Author.Rules.{rules}
+use borrow.Author.Tests.{not-true}
+use Rattle.position.specs.Bits.{fought, has}
+use Rattle.position.specs.Board.{board}
+use Rattle.position.specs.Kind.{may_attack}
+use Rattle.battle.proofs.Asks.{cannot_mark, cannot_type}
+use Rattle.position.proofs.Answers.{holds}
+use Rattle.attacking.proofs.asking.cannot_attack.Goals as goal
+
+-- the answer for the unit's type
+asked : (c : goal.After-may_attack) →
+    let a = c.args in
+    c.may_attack.result ≡ may_attack ((board a.p.now).units.counter.kind a.u)
+asked c = c.may_attack.ensures ∙ ap may_attack c.kind.ensures.is
+
+pub returns-then-not-may_attack : goal.returns-then-not-may_attack
+returns-then-not-may_attack c = sym (cannot_type _ _ (sym (asked c.before) ∙ not-true _ c.if-not-may_attack.true))
+
+pub returns : goal.returns
+returns c = c.has.ensures ∙ ap (has fought) c.marks.ensures.is ∙ sym (cannot_mark _ _ (holds (asked c.before.before.before) c.if-not-may_attack.false))

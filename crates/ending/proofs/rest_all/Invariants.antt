@@ -1,0 +1,18 @@
+-- `ending::rest_all` rests every unit. The loop's invariant: the units below u are rested.
+-- Assumes nothing.
+use Prim.Native.Nat.{ℕ, ◌-◌, ◌≤◌}
+use mathlib.Core.Path.{◌≡◌, refl, ap, ◌∙◌}
+use native.Mathlib.Omega.{arith}
+use Rattle.position.specs.Board.{board}
+use Rattle.position.specs.Change.{makes}
+use Rattle.position.specs.Laid.{Laid}
+use Rattle.position.proofs.Changes.{laid_make}
+use Rattle.march.specs.EndPhase.{rest_all}
+use Rattle.march.proofs.Ends.{rests_next}
+use Rattle.ending.proofs.rest_all.Given as goal
+
+abbrev pub invariant-loop-u : goal.invariant-loop-u
+invariant-loop-u l = (l.u ≤ l.count) × (l.p ≡ makes l.initial.p (rest_all (board l.initial.p) l.u)) × Laid l.p l.v
+
+abbrev pub decreases-loop-u : goal.decreases-loop-u
+decreases-loop-u l = l.count - l.u

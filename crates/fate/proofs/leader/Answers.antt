@@ -1,0 +1,28 @@
+-- `fate::leader` meets its contract. The loop's invariant: no unit passed owes there. The measure is how many are left.
+-- Assumes nothing.
+use Prim.Native.Nat.{◌-◌}
+use mathlib.Core.Path.{◌∙◌, ap, sym}
+use native.Mathlib.Omega.{arith}
+use borrow.Author.Rules.{rules}
+use Rattle.retreat.proofs.Groups.{first_owing_lem, none_owing}
+use Rattle.position.specs.Board.{board}
+use Rattle.position.specs.Tally.{any}
+use Rattle.position.specs.Crowd.{owes_at}
+use Rattle.field.proofs.Zones.{None, none_at_all, none_yet, one_more}
+use Rattle.fate.proofs.leader.Goals as goal
+
+pub loop-u-init : goal.loop-u-init
+loop-u-init c = none_yet
+
+pub returns-then-owes_at : goal.returns-then-owes_at
+returns-then-owes_at c =
+    first_owing_lem _ _ c.loop-u.u c.loop-u.invariant.none (omega arith) (sym c.owes_at.ensures ∙ c.if-owes_at.true)
+
+pub loop-u-preserved : goal.loop-u-preserved
+loop-u-preserved c = one_more c.loop-u.invariant (omega arith) (sym c.owes_at.ensures ∙ c.if-owes_at.false)
+
+pub returns : goal.returns
+returns c =
+    none_owing _ _
+    (ap (any (owes_at (board c.args.p.now) c.args.h)) (sym c.requires.view.count)
+    ∙ none_at_all c.loop-u.invariant (omega arith))

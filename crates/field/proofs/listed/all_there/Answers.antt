@@ -1,0 +1,33 @@
+-- `listed::all_there` meets its contract. The loop's invariant: what meets the tests from the next place on meets them all.
+-- The measure is how many places are left.
+-- Assumes nothing.
+use Prim.Native.Nat.{◌+◌, ◌-◌}
+use native.Mathlib.Omega.{arith}
+use borrow.Author.Rules.{rules}
+use lib.ListN.{get_or}
+use Rattle.position.specs.Board.{board}
+use Rattle.ruling.proofs.Going.{gone_end, gone_none, gone_stop}
+use Rattle.field.proofs.Lists.{There, is_none, there_more}
+use Rattle.field.specs.Listed.{all_there}
+use Rattle.field.proofs.listed.all_there.Goals as goal
+
+pub loop-i-init : goal.loop-i-init
+loop-i-init c = record { gone = gone_none; counted = λ j l. absurd (omega arith) }
+
+pub overflow_cast-units : goal.overflow_cast-units
+overflow_cast-units c = omega (arith, c.type_inv.units c.loop-i.i)
+
+pub returns-then-count-units : goal.returns-then-count-units
+unfolding all_there
+returns-then-count-units c =
+    let a = c.args in
+    λ l v.
+    gone_stop c.loop-i.invariant.gone (omega arith)
+    (is_none a.p.now (board a.p.now) 0 (get_or a.units.now c.loop-i.i 0) (c.loop-i.i + 1) (omega arith)) l (λ s. v)
+
+pub loop-i-preserved : goal.loop-i-preserved
+loop-i-preserved c = there_more c.loop-i.invariant (omega arith) (omega arith)
+
+pub returns : goal.returns
+unfolding all_there
+returns c = (λ l v a q m w. gone_end c.loop-i.invariant.gone (omega arith) l (λ s. v) a q m w, λ j l. c.loop-i.invariant.counted j (omega arith))

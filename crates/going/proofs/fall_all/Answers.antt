@@ -1,0 +1,30 @@
+-- `going::fall_all` meets its contract. The loop's invariant: the units passed that owed there are destroyed, the others are as they were.
+-- The measure is how many are left.
+-- Assumes nothing.
+use Prim.Native.Nat.{◌-◌}
+use mathlib.Core.Path.{◌∙◌, ap, refl}
+use native.Mathlib.Omega.{arith}
+use borrow.Author.Rules.{rules}
+use Rattle.position.specs.Change.{makes}
+use Rattle.shoves.proofs.Sweeps.{Sweep, alike_owing, owing, sweep_all, sweep_more, sweep_none}
+use Rattle.shoves.specs.Group.{group}
+use Rattle.retreat.proofs.Leaving.{falls, gather_falls, own_falls}
+use Rattle.going.proofs.fall_all.Goals as goal
+
+pub loop-u-init : goal.loop-u-init
+loop-u-init c = sweep_none c.requires
+
+pub fall_one-requires : goal.fall_one-requires
+fall_one-requires c = c.loop-u.invariant.laid
+
+pub loop-u-preserved : goal.loop-u-preserved
+loop-u-preserved c =
+    sweep_more (alike_owing _) own_falls c.loop-u.invariant (omega arith) _ refl c.fall_one.ensures
+
+pub shape_of-p : goal.shape_of-p
+shape_of-p c = omega (arith, c.loop-u.invariant.laid.fits.whole, c.requires.fits.whole)
+
+pub returns : goal.returns
+unfolding group
+returns c =
+    sweep_all c.loop-u.invariant (omega arith) c.requires.view.count ∙ ap (makes c.args.p.now) (gather_falls _)

@@ -1,0 +1,33 @@
+-- `going::leave_all` meets its contract. The loop's invariant: the units passed that owed there have left, the others are as they were.
+-- The measure is how many are left.
+-- Assumes nothing.
+use Prim.Native.Nat.{◌-◌}
+use mathlib.Core.Path.{◌∙◌, ap}
+use native.Mathlib.Omega.{arith}
+use borrow.Author.Rules.{rules}
+use Rattle.position.specs.Board.{board}
+use Rattle.position.specs.Change.{makes}
+use Rattle.retreat.specs.Retreat.{leaves}
+use Rattle.shoves.proofs.Sweeps.{Sweep, alike_owing, owing, sweep_all, sweep_more, sweep_none}
+use Rattle.shoves.specs.Group.{group}
+use Rattle.retreat.proofs.Leaving.{gather_leaves, leaves_same, own_leaves}
+use Rattle.going.proofs.leave_all.Goals as goal
+
+pub loop-u-init : goal.loop-u-init
+loop-u-init c = sweep_none c.requires
+
+pub leave_one-requires : goal.leave_one-requires
+leave_one-requires c = c.loop-u.invariant.laid
+
+pub loop-u-preserved : goal.loop-u-preserved
+loop-u-preserved c =
+    sweep_more (alike_owing _) (own_leaves _ _) c.loop-u.invariant (omega arith) _ (leaves_same _ _ _ _ c.loop-u.invariant.kinds)
+    c.leave_one.ensures
+
+pub shape_of-p : goal.shape_of-p
+shape_of-p c = omega (arith, c.loop-u.invariant.laid.fits.whole, c.requires.fits.whole)
+
+pub returns : goal.returns
+unfolding group
+returns c =
+    sweep_all c.loop-u.invariant (omega arith) c.requires.view.count ∙ ap (makes c.args.p.now) (gather_leaves _ _ _)

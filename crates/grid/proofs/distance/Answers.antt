@@ -1,0 +1,32 @@
+-- `grid::distance` meets its contract: rows and columns are small, so each sum fits, and the branch takes the larger of two.
+-- Assumes nothing.
+use native.Mathlib.Omega.{arith}
+use borrow.Author.Rules.{rules}
+use Rattle.grid.specs.Walk.{far, distance_of}
+use Rattle.grid.proofs.Arith.{row, column}
+use Rattle.grid.proofs.distance.Goals as goal
+
+pub overflow_mul-a : goal.overflow_mul-a
+overflow_mul-a c = omega (arith, row c.requires.on)
+
+pub overflow_add-a : goal.overflow_add-a
+overflow_add-a c = omega (arith, row c.requires.on)
+
+pub overflow_mul-b : goal.overflow_mul-b
+overflow_mul-b c = omega (arith, row c.requires.on_2)
+
+pub overflow_add-b : goal.overflow_add-b
+overflow_add-b c = omega (arith, row c.requires.on_2)
+
+pub overflow_add-result : goal.overflow_add-result
+overflow_add-result c =
+    let p = c.requires in
+    omega (arith, row p.0, row p.1, column p.0, column p.1, c.gap-x.ensures, c.gap-y.ensures)
+
+pub returns-then-x-y : goal.returns-then-x-y
+unfolding far distance_of
+returns-then-x-y c = rw (← c.gap-x.ensures, ← c.gap-y.ensures) (omega arith)
+
+pub returns : goal.returns
+unfolding far distance_of
+returns c = rw (← c.gap-x.ensures, ← c.gap-y.ensures) (omega arith)

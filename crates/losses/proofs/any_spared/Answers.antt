@@ -1,0 +1,26 @@
+-- `losses::any_spared` meets its contract. The loop's invariant: no unit passed is spared. The measure is how many are left.
+-- Assumes nothing.
+use Prim.Native.Nat.{◌-◌}
+use mathlib.Core.Path.{◌∙◌, ap, sym}
+use native.Mathlib.Omega.{arith}
+use borrow.Author.Rules.{rules}
+use Rattle.position.proofs.Tallies.{any_true}
+use Rattle.position.specs.Board.{board}
+use Rattle.position.specs.Tally.{any}
+use Rattle.field.proofs.Zones.{None, none_at_all, none_yet, one_more}
+use Rattle.aftermath.specs.Losses.{spared}
+use Rattle.losses.proofs.any_spared.Goals as goal
+
+pub loop-u-init : goal.loop-u-init
+loop-u-init c = none_yet
+
+pub returns-then-spared : goal.returns-then-spared
+returns-then-spared c = sym (any_true _ _ c.loop-u.u (omega arith) (sym c.spared.ensures ∙ c.if-spared.true))
+
+pub loop-u-preserved : goal.loop-u-preserved
+loop-u-preserved c = one_more c.loop-u.invariant (omega arith) (sym c.spared.ensures ∙ c.if-spared.false)
+
+pub returns : goal.returns
+returns c =
+    let a = c.args in
+    sym (ap (any (spared (board a.p.now) a.units.now)) (sym c.requires.view.count) ∙ none_at_all c.loop-u.invariant (omega arith))

@@ -1,0 +1,27 @@
+-- `moving::steps` meets its contract. The loop's invariant: what meets the tests from the next place on, where the move has come to
+-- and with what it has spent, meets them all, and it is known whether the next step leaves a zone. The measure is how many places
+-- are left.
+-- Assumes nothing.
+use Prim.Native.Nat.{ℕ, ◌+◌, ◌-◌, ◌<◌}
+use mathlib.Core.Path.{◌≡◌, refl, sym, subst, ◌∙◌}
+use native.Mathlib.Omega.{arith}
+use borrow.Author.Rules.{rules}
+use lib.ListN.{get_or}
+use Rattle.position.specs.Board.{board, force_of}
+use Rattle.field.specs.Scene.{scene}
+use Rattle.field.specs.Zone.{enemy_zone}
+use Rattle.march.specs.Move.{leg, leaves_zone, step, after_step, steps}
+use Rattle.march.specs.Judged.{Onward, WayOf}
+use Rattle.ruling.proofs.Going.{Gone, gone_none, gone_stop, gone_end}
+use Rattle.march.proofs.Steps.{leaves_first, leaves_later}
+use Rattle.march.proofs.Judging.{gone_step}
+use Rattle.moving.proofs.steps.Given as goal
+
+abbrev pub invariant-loop-i : goal.invariant-loop-i
+invariant-loop-i l =
+    Gone l.p (step (board l.p) l.u) (after_step (board l.p)) (leg ((board l.p).units.state.hex l.u) 0) l.path l.i (leg l.at l.spent)
+    × (l.spent < 256)
+    × (l.leaves ≡ leaves_zone (board l.p) l.u (leg l.at l.spent) (l.i + 1))
+
+abbrev pub decreases-loop-i : goal.decreases-loop-i
+decreases-loop-i l = l.i-end - l.i

@@ -1,0 +1,31 @@
+-- `odds::column` meets its contract. The loop's invariant: `last` is the last column below c that is reached.
+-- The measure is how many are left.
+-- Assumes nothing.
+use Prim.Native.Nat.{◌-◌}
+use mathlib.Core.Logic.{⊎_elim}
+use mathlib.Core.Path.{◌∙◌, sym}
+use native.Mathlib.Omega.{arith}
+use borrow.Author.Rules.{rules}
+use Rattle.grid.proofs.Arith.{small}
+use Rattle.position.specs.Board.{results}
+use Rattle.odds.proofs.Columns.{Highest, highest_all, highest_hit, highest_miss, highest_none}
+use Rattle.odds.specs.Odds.{column, last, reached}
+use Rattle.odds.proofs.column.Goals as goal
+
+pub loop-c-init : goal.loop-c-init
+loop-c-init c = highest_none
+
+pub loop-c-preserved : goal.loop-c-preserved
+loop-c-preserved c =
+    let o = c.loop-c.invariant in
+    let e = c.reached.ensures in
+    ⊎_elim
+    (λ w. highest_hit o (omega arith) (sym e ∙ w.0.taken) w.1)
+    (λ w. highest_miss o (omega arith) (sym e ∙ w.0.left) w.1)
+    c.if-reached.branch
+
+pub returns : goal.returns
+unfolding column
+returns c =
+    let v = c.requires.0 in
+    record { is = highest_all c.loop-c.invariant (omega arith) v.view.columns; small = omega (arith, c.loop-c.invariant.small, v.view.columns, v.shaped.columns.high) }

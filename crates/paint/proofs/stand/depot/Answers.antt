@@ -1,0 +1,35 @@
+-- `stand::depot` meets its contract: the mark is set where the unit stands, if it is a supply unit of the force.
+-- Assumes nothing.
+use Rattle.position.specs.Board.{board}
+use Rattle.field.specs.Scene.{scene}
+use native.Mathlib.Omega.{arith}
+use Rattle.field.proofs.Zones.{force_in_lem}
+use Rattle.paint.specs.Paint.{by_depot}
+use Rattle.paint.proofs.Adding.{adds_none, adds_as}
+use Rattle.paint.proofs.Units.{depot_stamp, shown_depot, shown_no_depot, shown_other_depot, part_none, part_only}
+use borrow.Author.Rules.{rules}
+use Rattle.paint.proofs.stand.depot.Goals as goal
+
+pub returns-then-force_of-f : goal.returns-then-force_of-f
+returns-then-force_of-f c =
+    let a = c.args in
+    let b = board a.p.now in
+    let q = force_in_lem b a.u in
+    adds_none (λ k h i. part_none (scene b) a.f a.u by_depot (shown_other_depot (scene b) a.f a.u (λ e. omega (arith, q, c.force_of.ensures, e))) k h)
+
+pub stamp-requires : goal.stamp-requires
+stamp-requires c =
+    (c.requires.2.spot, c.requires.1, depot_stamp)
+
+pub returns-then-kind-eq-SUPPLY : goal.returns-then-kind-eq-SUPPLY
+returns-then-kind-eq-SUPPLY c =
+    let a = c.args in
+    let b = board a.p.now in
+    let q = force_in_lem b a.u in
+    adds_as c.stamp.ensures (λ k h i. part_only (scene b) a.f a.u by_depot c.requires.2.here (shown_depot (scene b) a.f a.u (omega (arith, q, c.force_of.ensures)) (omega (arith, c.kind.ensures.is))) k h)
+
+pub returns-else-kind-eq-SUPPLY : goal.returns-else-kind-eq-SUPPLY
+returns-else-kind-eq-SUPPLY c =
+    let a = c.args in
+    let b = board a.p.now in
+    adds_none (λ k h i. part_none (scene b) a.f a.u by_depot (shown_no_depot (scene b) a.f a.u (λ e. omega (arith, c.kind.ensures.is, e))) k h)

@@ -1,0 +1,54 @@
+-- `ranks::join` meets its contract. The loop's invariant: the units passed that stand there have joined. The measure is how many are left.
+-- Assumes nothing.
+use Prim.Native.Nat.{◌+◌, ◌-◌, ◌<◌, ◌≤◌}
+use mathlib.Core.Logic.{⊎_elim}
+use mathlib.Core.Path.{◌∙◌, sym}
+use native.Mathlib.Omega.{arith}
+use borrow.Author.Rules.{rules}
+use lib.ListN.{length}
+use Rattle.position.specs.Board.{board}
+use Rattle.field.proofs.Zones.{stands_here, stands_off}
+use Rattle.field.specs.Scene.{scene}
+use Rattle.field.specs.Zone.{stands_on}
+use Rattle.battle.proofs.Lines.{Joining, joining_hit, joining_miss, joining_none, joining_room, joins_all}
+use Rattle.field.specs.Listed.{sieve}
+use Rattle.results.specs.Participants.{defenders}
+use Rattle.line.specs.Line.{places}
+use Rattle.ranks.proofs.join.Goals as goal
+
+-- there is room for all that stand there
+room : (c : goal.Start) →
+    let a = c.args in
+    a.m + length (sieve (stands_on (scene (board a.p.now)) a.target) a.v.count) ≤ places
+unfolding defenders
+room c = rw c.requires.0.view.count c.requires.1
+
+-- so there is a place for the one at hand
+place : (c : goal.Then-hex-target) → c.loop-u.n < places
+place c =
+    joining_room c.loop-u.invariant (omega arith) (room c.before.before.before.before.before) (stands_here _ _ _ (sym c.hex.ensures.is ∙ c.if-hex-target.true))
+
+pub loop-u-init : goal.loop-u-init
+loop-u-init c = joining_none c.requires.2
+
+pub overflow_cast-who : goal.overflow_cast-who
+overflow_cast-who c = omega (arith, c.requires.0.view.count, c.requires.0.shaped.count)
+
+pub offset_bounds-who-n : goal.offset_bounds-who-n
+offset_bounds-who-n c = omega (arith, place c)
+
+pub bounds-who-n : goal.bounds-who-n
+bounds-who-n c = place c
+
+pub overflow_add-n : goal.overflow_add-n
+overflow_add-n c = omega (arith, place c)
+
+pub loop-u-preserved : goal.loop-u-preserved
+loop-u-preserved c =
+    ⊎_elim
+    (λ w. joining_hit c.loop-u.invariant (omega arith) (room c.before.before.before.before.before) (stands_here _ _ _ (sym c.hex.ensures.is ∙ w.0.taken)) w.1 w.2)
+    (λ w. joining_miss c.loop-u.invariant (omega arith) (stands_off _ _ _ (λ e. w.0.left (c.hex.ensures.is ∙ e))) w.1 w.2)
+    c.if-hex-target.branch
+
+pub returns : goal.returns
+returns c = joins_all c.loop-u.invariant (omega arith) c.requires.0.view.count

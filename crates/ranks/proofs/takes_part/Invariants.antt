@@ -1,0 +1,19 @@
+-- `ranks::takes_part` meets its contract. The loop's invariant: none of those passed is of the nationality. The measure is how many are left.
+-- Assumes nothing.
+use Prim.Native.Nat.{◌-◌, ℕ}
+use mathlib.Core.Path.{◌∙◌, ◌≡◌, ap, sym}
+use native.Mathlib.Omega.{arith}
+use borrow.Author.Rules.{rules}
+use borrow.Author.Tests.{eq-eqb, ne_eqb}
+use lib.Dec.{eqb}
+use Rattle.position.proofs.Tallies.{any_true}
+use Rattle.position.specs.Board.{board}
+use Rattle.battle.specs.Mustered.{nation_at}
+use Rattle.field.proofs.Zones.{None, none_yet, one_more, none_at_all}
+use Rattle.ranks.proofs.takes_part.Given as goal
+
+abbrev pub invariant-loop-i : goal.invariant-loop-i
+invariant-loop-i l = None (nation_at (board l.p) l.nation l.who) l.i l.n
+
+abbrev pub decreases-loop-i : goal.decreases-loop-i
+decreases-loop-i l = l.n - l.i

@@ -1,0 +1,63 @@
+-- `settling::settle` meets its contract: all that is written, one after the other.
+-- Assumes nothing.
+use Prim.Native.Nat.{ℕ}
+use mathlib.Core.List.{List, map}
+use mathlib.Core.Path.{◌∙◌, ap}
+use native.Mathlib.Omega.{arith}
+use borrow.Author.Rules.{rules}
+use Rattle.position.specs.Change.{makes}
+use Rattle.position.specs.Laid.{Laid}
+use Rattle.position.proofs.Changes.{laid_makes}
+use Rattle.results.proofs.Settles.{all_behind, all_long, all_settled, likened_refl, turned_over}
+use Rattle.results.specs.Results.{suffers}
+use Rattle.results.proofs.settling.settle.Goals as goal
+
+-- the layout stays, from one part to the next
+laid-1 : (c : goal.After-turn_all) → Laid c.turn_all.new.0 c.args.v
+laid-1 c = rw c.turn_all.ensures (turned_over c.requires.0 c.args.all.now).laid
+
+laid-2 : (c : goal.After-mark_all) → Laid c.mark_all.new.0 c.args.v
+laid-2 c = laid_makes _ (laid-1 c.before.before.before.before) (c.mark_all.ensures.made _ (likened_refl _))
+
+laid-3 : (c : goal.After-write_routes) → Laid c.write_routes.new.0 c.args.v
+laid-3 c = laid_makes _ (laid-2 c.before.before.before.before) c.write_routes.ensures
+
+laid-4 : (c : goal.After-suffer) → Laid c.suffer.new.0 c.args.v
+laid-4 c = laid_makes _ (laid-3 c.before.before.before.before) c.suffer.ensures
+
+laid-5 : (c : goal.After-suffer-2) → Laid c.suffer-2.new.0 c.args.v
+laid-5 c = laid_makes _ (laid-4 c.before.before.before.before.before) c.suffer-2.ensures
+
+pub turn_all-requires : goal.turn_all-requires
+turn_all-requires c = c.requires.0
+
+pub mark_all-requires : goal.mark_all-requires
+mark_all-requires c = laid-1 c.before.before.before
+
+pub write_routes-requires : goal.write_routes-requires
+write_routes-requires c = (laid-2 c.before.before.before, c.requires.1, c.requires.2)
+
+pub suffer-requires : goal.suffer-requires
+suffer-requires c = (laid-3 c.before.before.before, c.requires.4.attackers)
+
+pub slice_bounds-suffer-count : goal.slice_bounds-suffer-count
+slice_bounds-suffer-count c = omega (arith, all_long _ _ _ _ c.requires.3)
+
+pub suffer-requires-2 : goal.suffer-requires-2
+suffer-requires-2 c = (laid-4 c.before.before.before.before, c.requires.4.defenders)
+
+pub set_stage-requires : goal.set_stage-requires
+set_stage-requires c = (laid-5 c.before.before.before, c.requires.4.stage, c.requires.4.owed, c.requires.5)
+
+pub returns : goal.returns
+returns c =
+    let a = c.args in
+    all_settled c.requires.0 a.target a.units.now a.all.now a.o a.need c.requires.3
+    (record {
+      turning = c.turn_all.ensures;
+      marking = c.mark_all.ensures;
+      routing = c.write_routes.ensures;
+      striking = c.suffer.ensures;
+      standing = c.suffer-2.ensures ∙ ap (λ (x : List ℕ). makes c.suffer.new.0 (map (suffers a.o.defenders) x)) (all_behind a.units.now a.all.now);
+      staging = c.set_stage.ensures;
+    })

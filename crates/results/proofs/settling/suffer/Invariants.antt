@@ -1,0 +1,15 @@
+-- `settling::suffer` meets its contract. The loop's invariant: the units passed have suffered. The measure is how many are left.
+-- Assumes nothing.
+use Prim.Native.Nat.{◌-◌}
+use mathlib.Core.Path.{refl}
+use native.Mathlib.Omega.{arith}
+use borrow.Author.Rules.{rules}
+use Rattle.field.proofs.Making.{Making, making_all, making_more, making_none}
+use Rattle.results.specs.Results.{suffers}
+use Rattle.results.proofs.settling.suffer.Given as goal
+
+abbrev pub invariant-loop-i : goal.invariant-loop-i
+invariant-loop-i l = Making (suffers l.fate) l.initial.p l.v l.us l.i l.p
+
+abbrev pub decreases-loop-i : goal.decreases-loop-i
+decreases-loop-i l = l.i-end - l.i

@@ -1,0 +1,28 @@
+-- `roles_ok::all_of` meets its contract. The loop's invariant: every unit before u that has the role is of the force.
+-- Assumes nothing.
+use Prim.Native.Nat.{ℕ, ◌-◌}
+use mathlib.Core.Path.{◌≡◌}
+use mathlib.Core.List.{List}
+use native.Mathlib.Omega.{arith}
+use borrow.Author.Rules.{rules}
+use Rattle.position.specs.Layout.{role}
+use Rattle.position.specs.Board.{board, force_of}
+use Rattle.position.proofs.Answers.{said, unsaid, Passed, none_yet, one_more, all, not_all}
+use Rattle.roles.proofs.all_of.Goals as goal
+
+abbrev IsOf : List ℕ → ℕ → ℕ → ℕ → Type 0
+IsOf p r f u = role p u ≡ r → force_of (board p) u ≡ f
+
+pub loop-u-init : goal.loop-u-init
+loop-u-init c = none_yet
+
+pub returns-then-not-is_of : goal.returns-then-not-is_of
+returns-then-not-is_of c =
+    not_all c.loop-u.invariant (omega arith) (unsaid c.is_of.result c.if-not-is_of.true c.is_of.ensures)
+
+pub loop-u-preserved : goal.loop-u-preserved
+loop-u-preserved c =
+    one_more c.loop-u.invariant (omega arith) (said c.is_of.result c.if-not-is_of.false c.is_of.ensures)
+
+pub returns : goal.returns
+returns c = all c.loop-u.invariant (omega arith)

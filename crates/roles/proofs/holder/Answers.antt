@@ -1,0 +1,25 @@
+-- `roles_ok::holder` meets its contract. The loop's invariant: no unit before u has the role. The measure is how many units are left.
+-- Assumes nothing.
+use Prim.Native.Nat.{ℕ, ◌-◌}
+use mathlib.Core.Path.{◌≡◌}
+use mathlib.Core.List.{List}
+use native.Mathlib.Omega.{arith}
+use borrow.Author.Rules.{rules}
+use Rattle.position.specs.Layout.{role}
+use Rattle.position.proofs.Answers.{Passed, none_yet, one_more}
+use Rattle.roles.proofs.holder.Goals as goal
+
+abbrev Lacks : List ℕ → ℕ → ℕ → Type 0
+Lacks p r u = role p u ≡ r → ⊥
+
+pub loop-u-init : goal.loop-u-init
+loop-u-init c = none_yet
+
+pub returns-then-role-r : goal.returns-then-role-r
+returns-then-role-r c = record { most = omega arith; none = c.loop-u.invariant.held; holds = λ l. omega arith }
+
+pub loop-u-preserved : goal.loop-u-preserved
+loop-u-preserved c = one_more c.loop-u.invariant (omega arith) (λ e. c.if-role-r.false (omega arith))
+
+pub returns : goal.returns
+returns c = record { most = omega arith; none = c.loop-u.invariant.held; holds = λ l. absurd (omega arith) }

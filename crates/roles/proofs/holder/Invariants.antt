@@ -1,0 +1,16 @@
+-- `roles_ok::holder` meets its contract. The loop's invariant: no unit before u has the role. The measure is how many units are left.
+-- Assumes nothing.
+use Prim.Native.Nat.{ℕ, ◌-◌}
+use mathlib.Core.Path.{◌≡◌}
+use mathlib.Core.List.{List}
+use native.Mathlib.Omega.{arith}
+use borrow.Author.Rules.{rules}
+use Rattle.position.specs.Layout.{role}
+use Rattle.position.proofs.Answers.{Passed, none_yet, one_more}
+use Rattle.roles.proofs.holder.Given as goal
+
+abbrev pub invariant-loop-u : goal.invariant-loop-u
+invariant-loop-u l = Passed (Lacks l.p l.r) l.u l.count
+
+abbrev pub decreases-loop-u : goal.decreases-loop-u
+decreases-loop-u l = l.count - l.u

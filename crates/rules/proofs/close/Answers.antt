@@ -1,0 +1,16 @@
+-- `rules::close` meets its promise: refusal 1, or on a checked position that of the call it forwards to.
+-- Assumes nothing.
+use borrow.Author.Rules.{rules}
+use Rattle.ruling.proofs.Checks.{checked, unchecked, whole}
+use Rattle.rules.specs.Order.{rule_of}
+use Rattle.rules.proofs.close.Goals as goal
+
+pub returns-in_default : goal.returns-in_default
+returns-in_default c = unchecked _ c.check.ensures c.in_default.is
+
+pub close-requires : goal.close-requires
+close-requires c = (whole c.check.ensures c.in-Whole.is).1
+
+pub returns : goal.returns
+unfolding rule_of
+returns c = checked (whole c.check.ensures c.in-Whole.is).0 c.close.ensures

@@ -1,0 +1,16 @@
+-- `plot::search::last` meets its contract.
+-- Assumes nothing.
+use Prim.Native.Nat.{◌-◌}
+use mathlib.Core.Path.{refl, sym, ◌∙◌}
+use native.Mathlib.Omega.{arith}
+use borrow.Author.Rules.{rules}
+use Rattle.position.proofs.Tallies.{any_zero}
+use Rattle.plot.proofs.Plots.{next_below}
+use Rattle.plot.proofs.Searching.{Unserved, served, unserved, unserved_off, unserved_over}
+use Rattle.search.proofs.last.Given as goal
+
+abbrev pub invariant-loop-d : goal.invariant-loop-d
+invariant-loop-d l = Unserved l.home l.plot 1 l.i l.a l.plot l.d
+
+abbrev pub decreases-loop-d : goal.decreases-loop-d
+decreases-loop-d l = 6 - l.d

@@ -1,0 +1,31 @@
+-- `chart_ok::codes_ok` meets its contract. The loop's invariant: the codes of every die before this one are codes.
+-- Assumes nothing.
+use Prim.Native.Nat.{ℕ, ◌+◌, ◌-◌}
+use mathlib.Core.Path.{sym}
+use mathlib.Core.List.{List}
+use native.Mathlib.Omega.{arith}
+use borrow.Author.Rules.{rules}
+use Rattle.position.specs.Shape.{In}
+use Rattle.position.specs.Layout.{code, die_faces}
+use Rattle.position.proofs.Answers.{said, unsaid, carry, Passed, none_yet, one_more, all, not_all}
+use Rattle.setting.proofs.chart_ok.codes_ok.Goals as goal
+
+abbrev Coded : List ℕ → ℕ → ℕ → Type 0
+Coded p c die = In 1 (code p c (die + 1)) 10
+
+pub loop-die-init : goal.loop-die-init
+loop-die-init c = none_yet
+
+pub returns-then-not-within : goal.returns-then-not-within
+returns-then-not-within c =
+    not_all c.loop-die.invariant (omega arith)
+    (λ i. unsaid c.within.result c.if-not-within.true c.within.ensures
+    (carry (sym c.code.ensures.is) i))
+
+pub loop-die-preserved : goal.loop-die-preserved
+loop-die-preserved c =
+    one_more c.loop-die.invariant (omega arith)
+    (carry c.code.ensures.is (said c.within.result c.if-not-within.false c.within.ensures))
+
+pub returns : goal.returns
+returns c = all c.loop-die.invariant (omega arith)

@@ -1,0 +1,9 @@
+-- `story::battle` is safe: past the check the position is laid out.
+-- Assumes nothing.
+use mathlib.Core.Path.{subst}
+use Rattle.acceptance.specs.Checked.{CheckedOf}
+use borrow.Author.Rules.{rules}
+use Rattle.story.proofs.battle.Goals as goal
+
+pub battle-requires : goal.battle-requires
+battle-requires c = (subst (CheckedOf _) c.in-Whole.is c.check.ensures).1

@@ -1,0 +1,18 @@
+-- `grade::regrade` meets its contract. The loop's invariant: the hexes below h hold their grades, and the others what was traced.
+-- Assumes nothing.
+use Prim.Native.Nat.{◌-◌, ◌≤◌}
+use mathlib.Core.Path.{ap, ◌∙◌}
+use native.Mathlib.Omega.{arith}
+use borrow.Author.Rules.{rules}
+use Rattle.position.specs.Board.{board}
+use Rattle.field.specs.Scene.{scene}
+use Rattle.paint.proofs.Bytes.{Pass, pass_none, pass_set}
+use Rattle.supply.specs.Traced.{regrade_by}
+use Rattle.supply.proofs.Grading.{all_regraded}
+use Rattle.supply.proofs.grade.regrade.Given as goal
+
+abbrev pub invariant-loop-h : goal.invariant-loop-h
+invariant-loop-h l = (l.h ≤ l.hexes) × Pass (regrade_by (scene (board l.p))) l.h l.initial.buf l.buf
+
+abbrev pub decreases-loop-h : goal.decreases-loop-h
+decreases-loop-h l = l.hexes - l.h

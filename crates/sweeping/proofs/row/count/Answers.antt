@@ -1,0 +1,22 @@
+-- `count` meets its contract. The invariant: it has counted at most as many as it has passed.
+-- Assumes nothing.
+use Prim.Native.Nat.{◌+◌, ◌-◌, ◌≤◌}
+use mathlib.Core.Logic.{⊎_elim}
+use native.Mathlib.Omega.{arith}
+use borrow.Author.Rules.{rules}
+use Rattle.sweeping.proofs.row.count.Goals as goal
+
+pub loop-i-init : goal.loop-i-init
+loop-i-init c = (omega arith, omega arith)
+
+pub bounds-buf-i : goal.bounds-buf-i
+bounds-buf-i c = omega (arith, c.requires.0)
+
+pub overflow_add-many : goal.overflow_add-many
+overflow_add-many c = let s = c.requires in let a = c.loop-i.invariant in omega (arith, s.1, a.0)
+
+pub loop-i-preserved : goal.loop-i-preserved
+loop-i-preserved c = let s = c.requires in let a = c.loop-i.invariant in ⊎_elim (λ w. (omega (arith, w.1, a.0), omega (arith, s.1))) (λ w. (omega (arith, w.1, a.0), omega (arith, s.1))) c.if-buf-i.branch
+
+pub returns : goal.returns
+returns c = let a = c.loop-i.invariant in omega (arith, a.0, a.1)

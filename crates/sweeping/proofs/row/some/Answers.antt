@@ -1,0 +1,26 @@
+-- `some` meets its contract. The invariant: as long as none is found, none of the hexes below hex i has the mark.
+-- Assumes nothing.
+use Prim.Native.Nat.{◌-◌}
+use mathlib.Core.Path.{◌≡◌, sym, ◌∙◌}
+use mathlib.Core.Bool.{false}
+use mathlib.Core.Logic.{⊎_elim}
+use native.Mathlib.Omega.{arith}
+use borrow.Author.Rules.{rules}
+use Rattle.walk.specs.Chain.{mark}
+use Rattle.walk.specs.Swept.{None}
+use Rattle.walk.proofs.Joins.{none_more, found_one}
+use Rattle.sweeping.proofs.row.some.Goals as goal
+
+pub loop-i-init : goal.loop-i-init
+loop-i-init c = λ e k p q r. absurd (omega arith)
+
+pub loop-i-preserved : goal.loop-i-preserved
+unfolding mark
+loop-i-preserved c =
+    ⊎_elim
+    (λ w e. found_one (sym w.1 ∙ e))
+    (λ w e. none_more _ _ (c.loop-i.invariant (sym w.1 ∙ e)) w.0.left)
+    c.if-buf-i.branch
+
+pub returns : goal.returns
+returns c = λ e k p q. c.loop-i.invariant e k p (omega arith)

@@ -1,0 +1,25 @@
+-- `settle` meets its contract. The invariant: the marks below hex i are settled, and the others are as they were.
+-- Assumes nothing.
+use Prim.Native.Nat.{◌-◌}
+use mathlib.Core.Path.{refl}
+use mathlib.Core.Logic.{⊎_elim, inl, inr}
+use lib.ListN.{length}
+use borrow.Author.Rules.{rules}
+use Rattle.walk.specs.Chain.{mark}
+use Rattle.walk.proofs.Runs.{Settling, settle_none, settle_turn, settle_all}
+use Rattle.walking.proofs.settle.Goals as goal
+
+pub loop-i-init : goal.loop-i-init
+loop-i-init c = settle_none _
+
+pub loop-i-preserved : goal.loop-i-preserved
+unfolding mark
+loop-i-preserved c =
+    let a = c.loop-i in
+    ⊎_elim
+    (λ w. settle_turn 1 w.1 c.loop-i-test.true a.invariant (inl (w.0.taken, refl)))
+    (λ w. settle_turn 0 w.1 c.loop-i-test.true a.invariant (inr (w.0.left, refl)))
+    c.if-m-ge2.branch
+
+pub returns : goal.returns
+returns c = settle_all c.loop-i-test.false c.loop-i.invariant
