@@ -8,7 +8,7 @@ use Rattle.position.specs.Layout.{strength}
 use Rattle.position.specs.Board.{board}
 use Rattle.position.specs.Shape.{Shaped}
 use Rattle.acceptance.specs.Accepted.{Lawful, StrengthsOk, Accepted}
-use Rattle.position.specs.Change.{Change, makes, turned}
+use Rattle.position.specs.Change.{Change, make, makes, turned}
 use Rattle.position.specs.Effect.{changes, turned_up}
 use Rattle.position.proofs.Front.{Front, shaped_kept, count_kept}
 use Rattle.position.proofs.Changes.{made, turned_made, front_makes, board_makes}
@@ -20,7 +20,7 @@ strengths_kept f e s w l = rw (e w) (s w (omega (arith, count_kept f)))
 strengths_makes : {p : List ℕ} → Shaped p → (xs : List Change) → StrengthsOk p → StrengthsOk (makes p xs)
 unfolding makes
 strengths_makes a [] s = s
-strengths_makes a (x ∷ xs) s = let m = made a x in strengths_makes (shaped_kept m.front a) xs (strengths_kept m.front m.strengths s)
+strengths_makes {p = p} a (x ∷ xs) s = let m = made a x in strengths_makes {p = make p x} (shaped_kept m.front a) xs (strengths_kept m.front m.strengths s)
 
 pub accepted_makes : {p : List ℕ} → Accepted p → (xs : List Change) → Lawful (changes (board p) xs) → Accepted (makes p xs)
 accepted_makes a xs l =

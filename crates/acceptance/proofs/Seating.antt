@@ -234,18 +234,18 @@ nobody_seated b base {s} e = record { long = e.long; seat = λ k l. rw (none k) 
 
 -- the answer of counting one unit more, past `if !r { return .. }` and in it
 module _ {b : Board} {base u : ℕ} {s : List ℕ} (t : List ℕ) (r : Bool) where
-  pub counted : not r ≡ false → SeatedOf b base u s t r → Seated b base u s → Seated b base (u + 1) t
+  pub counted : r ≡ true → SeatedOf b base u s t r → Seated b base u s → Seated b base (u + 1) t
   counted e a g = at r e a
     where
-      at : (r : Bool) → not r ≡ false → SeatedOf b base u s t r → Seated b base (u + 1) t
+      at : (r : Bool) → r ≡ true → SeatedOf b base u s t r → Seated b base (u + 1) t
       at true e a = a.on g
-      at false e a = not_both true refl e
+      at false e a = cc
 
-  pub overfull : not r ≡ true → SeatedOf b base u s t r → Seated b base u s → StacksIn b base (base + block) → ⊥
+  pub overfull : r ≡ false → SeatedOf b base u s t r → Seated b base u s → StacksIn b base (base + block) → ⊥
   overfull e a g o = at r e a
     where
-      at : (r : Bool) → not r ≡ true → SeatedOf b base u s t r → ⊥
-      at true e a = not_both false e refl
+      at : (r : Bool) → r ≡ false → SeatedOf b base u s t r → ⊥
+      at true e a = cc
       at false e a = a.under g o
 
 -- all units are counted

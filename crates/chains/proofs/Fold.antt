@@ -162,8 +162,8 @@ module _ {g g' : Land} {at : ℕ → ℕ} {Near : ℕ → ℕ → Type 0} (f : F
   follows_at : {s s' : Stands} → Agrees at Near s s' → (i a : ℕ) (route ps : List ℕ) → i + length route ≤ 3 → Near i a
       → follows g' s' i (at a) (map at route) (map at ps) ≡ follows g s i a route ps
   unfolding follows
-  follows_at w i a [] ps l n = none_at ps
-  follows_at {s} {s'} w i a (x ∷ route) ps l n =
+  follows_at {s = s} {s' = s'} w i a [] ps l n = none_at ps
+  follows_at {s = s} {s' = s'} w i a (x ∷ route) ps l n =
       either (leads g.next a x)
       (λ e.
       let q = leads_steps g.next a x e in
@@ -175,10 +175,10 @@ module _ {g g' : Land} {at : ℕ → ℕ} {Near : ℕ → ℕ → Type 0} (f : F
         f.far x v,
         w.same x v,
         takes_at w (a ∷ []) most (suc i) x ps (omega arith) m,
-        follows_at w (suc i) x route ps (omega arith) m,
+        follows_at {s = s} {s' = s'} w (suc i) x route ps (omega arith) m,
         taken_at (λ y qs. follows g (after s x y) (suc i) x route qs)
             (λ y qs. follows g' (after s' (at x) y) (suc i) (at x) (map at route) qs)
-            (λ y qs. follows_at (after_at w x y) (suc i) x route qs (omega arith) m)
+            (λ y qs. follows_at {s = after s x y} {s' = after s' (at x) (at y)} (after_at w x y) (suc i) x route qs (omega arith) m)
             (takes g.next s (a ∷ []) most x ps),
       )
       refl)

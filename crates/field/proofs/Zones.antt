@@ -170,7 +170,7 @@ module _ (s : Scene) (f h : ℕ) where
   pub from_casts : CastFrom s f h → casts s f h ≡ true
   from_casts c =
       let o = over_from s f h c.direction c.hex c.thin c.next ∙ c.held in
-      casts_around s f h c.not-sea ∙ any_true (casts_over s f h) 6 c.direction c.turned o
+      casts_around s f h c.not_sea ∙ any_true (casts_over s f h) 6 c.direction c.turned o
 
 module _ (s : Scene) (f h : ℕ) where
   pub zone_from : enemy_zone s f h ≡ true → ZoneFrom s f h

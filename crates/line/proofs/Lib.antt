@@ -1,5 +1,2 @@
 pub mod Filling
 pub mod Sums
-pub mod Summing
-pub mod Totalling
-pub mod Rows

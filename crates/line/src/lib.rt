@@ -1,7 +1,7 @@
 // The battle line: one record for each participant, lent to the sums for odds and losses.
 #![tactic(auto)]
 
-ghost use Rattle.std.specs.Prelude.{◌≡◌, ◌+◌, ◌-◌, ◌≤◌, length, take, drop};
+ghost use Rattle.std.specs.Prelude.{◌≡◌, ◌+◌, ◌-◌, ◌<◌, ◌≤◌, length, take, drop};
 ghost use Rattle.line.specs.Line.{places, most, fighting_total, printed_total, Comes, Sums};
 
 // A participant: the unit, its printed strength and what it fights with.
@@ -37,7 +37,7 @@ const FIRST: usize = 0;
 // One fighter more in the odds.
 fn add_fighting(total: usize, f: Fighter) -> usize
     requires { total ≤ most }
-    ensures { result ≡ total + f.fighting }
+    ensures { (result ≡ total + f.fighting) × (f.fighting < 256) }
 {
     total + f.fighting as usize
 }
@@ -45,7 +45,7 @@ fn add_fighting(total: usize, f: Fighter) -> usize
 // One fighter more in the losses.
 fn add_printed(total: usize, f: Fighter) -> usize
     requires { total ≤ most }
-    ensures { result ≡ total + f.printed }
+    ensures { (result ≡ total + f.printed) × (f.printed < 256) }
 {
     total + f.printed as usize
 }

@@ -64,7 +64,7 @@ all_marked none l e = record { lawful = l; hex = refl; desk = refl }
 all_marked {b} {c} (more {u} {m} k s) l e =
     let h : c.units.state.hex u ≡ b.units.state.hex u = λ i. e i u in
     let o = lawful_marked l u m (record { marks = k.marks; destroyed = λ z. k.destroyed (sym h ∙ z) }) in
-    let r = all_marked s o e in
+    let r = all_marked {c = change c (marked u m)} s o e in
     record { lawful = r.lawful; hex = r.hex; desk = r.desk }
 
 -- marks without moved and fought, and then with or without supplied

@@ -140,7 +140,7 @@ module _ (m : Map) (n h d : ℕ) where
 
   is_cover : Cover m n h d → covers m n h d ≡ true
   unfolding covers
-  is_cover c = simp (at_is c.next, lt-ltb (side m n d) 2 c.thin, ne_eqb (m.surface h) 2 c.not-sea)
+  is_cover c = simp (at_is c.next, lt-ltb (side m n d) 2 c.thin, ne_eqb (m.surface h) 2 c.not_sea)
 
 module _ (s : Scene) (f h : ℕ) where
   holds_it : (u : ℕ) → u < s.count → casts_zone (s.kind u) ≡ true → holds_caster s (force_in s u) (s.hex u) ≡ true
@@ -161,7 +161,7 @@ module _ (s : Scene) (f h : ℕ) where
           direction = (d + 3) % 6;
           hex = s.hex u;
           turned = omega arith;
-          not_sea = k.not-sea;
+          not_sea = k.not_sea;
           thin = omega (arith, k.thin, side_symmetric m (s.hex u) d h k.next);
           next = opposite m.width m.height (s.hex u) d h k.next;
           held = holds_it u l c.casts;
@@ -196,7 +196,7 @@ module _ (s : Scene) (f h : ℕ) where
       record {
         next = opposite m.width m.height h c.direction c.hex c.next;
         thin = omega (arith, c.thin, side_symmetric m h c.direction c.hex c.next);
-        not_sea = c.not-sea;
+        not_sea = c.not_sea;
       }
 
   unit_covers : (u : ℕ) (z : ZoneFrom s f h) → Who z.force z.from.hex u → zone_by s f h u ≡ true

@@ -1,6 +1,6 @@
 -- Laws of the test of an order on a plot.
 -- Assumes nothing.
-use Prim.Native.Nat.{ℕ, suc, ◌+◌, ◌-◌, ◌<◌, ◌≤◌}
+use Prim.Native.Nat.{ℕ, suc, ◌+◌, ◌<◌, ◌≤◌}
 use mathlib.Core.Path.{◌≡◌, refl, sym, ap, ap₂, ◌∙◌}
 use mathlib.Core.Bool.{true, false, and-false}
 use mathlib.Core.List.{List, [], ◌∷◌}
@@ -135,10 +135,10 @@ module _ {place : ℕ → ℕ} {home : ℕ} {l route pushes m : List ℕ} {a k i
         ≡ goes_on place home n (suc i) x (places_from place (i + 1) route) pushes r
     unfolding follows_in
     stepped_on =
-        u.left-to-ask
+        u.left_to_ask
         ∙ ap (λ (rest : List ℕ). follows (land_in home m) (stand_in m) i a rest (places_from place k pushes))
         (places_next place i route x b e)
-        ∙ t.left-to-ask (places_from place (i + 1) route)
+        ∙ t.left_to_ask (places_from place (i + 1) route)
 
     pub followed_more : {y j : ℕ} → r ≡ T.UpTo y j → Followed place home l route pushes n x j (i + 1)
     unfolding follows_in
@@ -159,7 +159,7 @@ module _ {place : ℕ → ℕ} {home : ℕ} {l route pushes m : List ℕ} {a k i
   pub followed_all : length route ≤ i → follows_in place home l 0 home route 0 pushes ≡ eqb k (length pushes)
   unfolding follows_in follows
   followed_all b =
-      u.left-to-ask
+      u.left_to_ask
       ∙ ap (λ (rest : List ℕ). follows (land_in home m) (stand_in m) i a rest (places_from place k pushes))
       (places_none place i route b)
       ∙ none_left place k pushes u.few

@@ -5,15 +5,12 @@ use mathlib.Core.Path.{◌≡◌, refl, sym, ap, ap₂, ◌∙◌}
 use mathlib.Core.Bool.{Bool, true, false, not, and-false}
 use mathlib.Core.List.{List, [], ◌∷◌}
 use native.Mathlib.Omega.{arith}
-use types.Run.{OneOf, miss}
-use denote.Enum.Declared.{tag_of}
 use lib.Dec.{eqb}
 use borrow.Author.Tests.{eq-eqb, ne_eqb}
 use Rattle.position.proofs.Tallies.{same_or, not_both, both_yes, but, but_other, tally_but_hit, tally_le}
 use Rattle.field.specs.Listed.{named}
 use Rattle.field.proofs.Named.{named_here, named_past}
 use Rattle.field.proofs.Lists.{named_nil}
-use Rattle.chains.specs.contracts.Stand as S
 use Rattle.chains.specs.declared.Stand.{Stand}
 use Rattle.chains.specs.declared.Stand.TheVariants.{Shut, Free, Loose}
 use Rattle.chains.specs.Stand.{is_free, is_loose}
@@ -107,16 +104,16 @@ module _ (t h left u : ℕ) (o : TrailOk t left) (l : 2 ≤ left) (p : h < place
     three = λ q. absurd (omega (arith, o.few));
   }
 
--- what a stand is not, by the number of its kind
-pub not_free : (s : Stand) → OneOf (0 ∷ 2 ∷ []) (tag_of S.the_type s) → is_free s ≡ false
+-- a stand of another kind
+pub not_free : (s : Stand) → (s ≡ Free → ⊥) → is_free s ≡ false
 not_free Shut k = refl
-not_free Free k = absurd (miss (0 ∷ 2 ∷ []) 1 tt k)
+not_free Free k = absurd (k refl)
 not_free Loose k = refl
 
-pub not_loose : (s : Stand) → OneOf (0 ∷ 1 ∷ []) (tag_of S.the_type s) → is_loose s ≡ false
+pub not_loose : (s : Stand) → (s ≡ Loose → ⊥) → is_loose s ≡ false
 not_loose Shut k = refl
 not_loose Free k = refl
-not_loose Loose k = absurd (miss (0 ∷ 1 ∷ []) 2 tt k)
+not_loose Loose k = absurd (k refl)
 
 -- whether a stack may go into a place, or push the stack there, test by test
 module _ (s : Stands) (h : ℕ) (used : List ℕ) (z : ℕ) where

@@ -12,12 +12,12 @@ use Rattle.position.specs.Laid.{Says}
 use Rattle.position.proofs.Tallies.{not_both}
 
 -- past `if !b { return .. }`, and in it
-pub said : {A : Type 0} (b : Bool) → not b ≡ false → Says b A → A
+pub said : {A : Type 0} (b : Bool) → b ≡ true → Says b A → A
 said true e s = s
-said false e s = not_both true refl e
+said false e s = cc
 
-pub unsaid : {A : Type 0} (b : Bool) → not b ≡ true → Says b A → A → ⊥
-unsaid true e s = not_both true refl (sym e)
+pub unsaid : {A : Type 0} (b : Bool) → b ≡ false → Says b A → A → ⊥
+unsaid true e s = cc
 unsaid false e s = s
 
 -- an answer handed on: what it speaks of and what is asked follow from each other
@@ -32,11 +32,11 @@ says false f g = λ x. not_both false (g x) refl
 
 -- the same two places, where the test's answer is another truth value
 module _ {b t : Bool} (e : b ≡ t) where
-  pub holds : not b ≡ false → t ≡ true
-  holds l = sym e ∙ not-false b l
+  pub holds : b ≡ true → t ≡ true
+  holds l = sym e ∙ l
 
-  pub fails : not b ≡ true → t ≡ true → ⊥
-  fails l h = not_both t h (sym e ∙ not-true b l)
+  pub fails : b ≡ false → t ≡ true → ⊥
+  fails l h = not_both t h (sym e ∙ l)
 
 -- a number within limits, by another name of it
 pub carry : {lo n m hi : ℕ} → n ≡ m → In lo n hi → In lo m hi

@@ -149,7 +149,7 @@ strength_make s x w = (made s x).strengths w
 pub front_makes : {p : List ℕ} → Shaped p → (xs : List Change) → Front p (makes p xs)
 unfolding makes
 front_makes {p} s [] = front_refl p
-front_makes s (x ∷ xs) = let f = front_make s x in front_trans f (front_makes (shaped_kept f s) xs)
+front_makes {p = p} s (x ∷ xs) = let f = front_make s x in front_trans f (front_makes {p = make p x} (shaped_kept f s) xs)
 
 pub laid_makes : {p q : List ℕ} {v : View} (xs : List Change) → Laid p v → q ≡ makes p xs → Laid q v
 laid_makes xs l e = rw e (laid_kept (front_makes l.shaped xs) l)
@@ -158,7 +158,7 @@ pub board_makes : {p : List ℕ} → Shaped p → (xs : List Change) → board (
 unfolding makes changes
 board_makes s [] = refl
 board_makes {p} s (x ∷ xs) =
-    board_makes (shaped_kept (front_make s x) s) xs ∙ ap (λ (b : Board). changes b xs) (board_make s x)
+    board_makes {p = make p x} (shaped_kept (front_make s x) s) xs ∙ ap (λ (b : Board). changes b xs) (board_make s x)
 
 pub makes_snoc : (xs : List Change) (x : Change) (p : List ℕ) → makes p (xs ++ (x ∷ [])) ≡ make (makes p xs) x
 unfolding makes

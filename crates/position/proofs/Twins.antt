@@ -89,4 +89,4 @@ module _ {R : List ℕ → List ℕ → Type 0} (t : Twin R) where
   pub twin_makes : {p q : List ℕ} → R p q → (xs : List Change) → R (makes p xs) (makes q xs)
   unfolding makes
   twin_makes s [] = s
-  twin_makes s (x ∷ xs) = twin_makes (twin_make s x) xs
+  twin_makes {p = p} {q = q} s (x ∷ xs) = twin_makes {p = make p x} {q = make q x} (twin_make s x) xs

@@ -132,7 +132,7 @@ unfolding turned_all
 turned_all_lem o [] = o
 turned_all_lem {b} {q} {v} o (u ∷ us) =
     let e = (turned_made o.laid.shaped u).board in
-    turned_all_lem
+    turned_all_lem {q = turned q u}
     (record {
       laid = laid_turned o.laid u;
       likened = rw e (likened_turned o.likened u (strength q u));

@@ -93,5 +93,5 @@ unfolding judged reveal_all turned_all
 seen_all s [] k = refl
 seen_all {p} s (u ∷ us) k =
     let t = turned_made s u in
-    seen_all (shaped_kept t.front s) us (λ ss. k (strength p u ∷ ss))
+    seen_all {p = turned p u} (shaped_kept t.front s) us (λ ss. k (strength p u ∷ ss))
     ∙ ap (λ (ss : List ℕ). judged (turned_all (turned p u) us) (k (strength p u ∷ ss))) (map_same t.strengths us)

@@ -31,7 +31,7 @@ uncovered {p} a [] = record { accepted = a; still = still_refl (board p); seen =
 uncovered {p} a (u ∷ us) =
     let x = strength p u in
     let m = turned_made a.shaped u in
-    let r = uncovered (accepted_turned a u (lawful_turned (board p) u x a.lawful)) us in
+    let r = uncovered {p = turned p u} (accepted_turned a u (lawful_turned (board p) u x a.lawful)) us in
     let s : Still (board p) (board (turned p u)) = rw m.board (turned_still (board p) u x) in
     let t = still_trans s r.still in
     record {

@@ -106,6 +106,7 @@ module _ (next home : ℕ → ℕ → Beside) where
       (trail_kept r (ap (λ (n : ℕ). n / 8) z) (λ k x. m k (there x)) t)
 
   trail_in : {f : ℕ → ℕ} {a : ℕ} {s : List ℕ} → Trail f a s → (k : ℕ) → Mem k s → 8 ≤ f k
+  trail_in {f = f} (first {a = a} _) k x5 = elim x5 [ ]
   trail_in {f} (from e n p o w r) k (here q) = subst (λ (x : ℕ). 8 ≤ f x) (sym q) p
   trail_in (from e n p o w r) k (there m) = trail_in r k m
 

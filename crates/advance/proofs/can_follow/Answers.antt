@@ -1,24 +1,18 @@
 -- `advance::can_follow` meets its contract: where the route starts is asked first, then whether it leads to the hex.
 -- Assumes nothing.
-use mathlib.Core.Path.{◌≡◌, ap₂, sym, ◌∙◌}
-use borrow.Author.Rules.{rules}
-use borrow.Author.Tests.{not-false, not-true}
+use mathlib.Core.Path.{ap₂, sym, ◌∙◌}
 use Rattle.position.specs.Board.{board}
 use Rattle.position.specs.Ground.{joined}
 use Rattle.aftermath.proofs.Advancing.{follow_apart, follow_beside}
 use Rattle.advance.proofs.can_follow.Goals as goal
 
 -- where the route starts was asked
-beside : (c : goal.After-joined) →
-    let a = c.args in
-    joined (board a.p.now).map ((board a.p.now).units.state.hex a.u) ((board a.p.now).desk.route a.r 0) ≡ c.joined.result
-beside c =
-    let a = c.args in
-    sym (c.joined.ensures
-    ∙ ap₂ (joined (board a.p.now).map) c.hex.ensures.is c.route.ensures.is)
-
 pub returns-then-not-joined : goal.returns-then-not-joined
-returns-then-not-joined c = sym (follow_apart _ _ _ _ (beside c.before ∙ not-true _ c.if-not-joined.true))
+returns-then-not-joined c = sym (follow_apart _ _ _ _ ((let a = c.args in
+    sym (c.joined.ensures
+    ∙ ap₂ (joined (board a.p.now).map) c.hex.ensures.is c.route.ensures.is)) ∙ c.if-not-joined.true))
 
 pub returns : goal.returns
-returns c = c.leads_to.ensures ∙ sym (follow_beside _ _ _ _ (beside c.before.before ∙ not-false _ c.if-not-joined.false))
+returns c = c.leads_to.ensures ∙ sym (follow_beside _ _ _ _ ((let a = c.args in
+    sym (c.joined.ensures
+    ∙ ap₂ (joined (board a.p.now).map) c.hex.ensures.is c.route.ensures.is)) ∙ c.if-not-joined.false))

@@ -3,7 +3,6 @@
 use mathlib.Core.Bool.{not}
 use mathlib.Core.Path.{ap, sym, ◌∙◌}
 use native.Mathlib.Omega.{arith}
-use borrow.Author.Rules.{rules}
 use Rattle.aftermath.proofs.Advancing.{clear_other, clear_there}
 use Rattle.advance.proofs.clear_to.Goals as goal
 

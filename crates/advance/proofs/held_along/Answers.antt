@@ -1,13 +1,9 @@
 -- `advance::held_along` meets its contract. The loop's invariant: no Enemy stands on the numbers passed. The measure is how many are left.
 -- Assumes nothing.
-use Prim.Native.Nat.{◌-◌}
 use mathlib.Core.Path.{◌∙◌, sym}
 use native.Mathlib.Omega.{arith}
-use borrow.Author.Rules.{rules}
 use Rattle.position.proofs.Tallies.{any_true}
-use Rattle.position.specs.Board.{board}
-use Rattle.field.proofs.Zones.{None, none_at_all, none_yet, one_more}
-use Rattle.aftermath.specs.Advance.{held_at}
+use Rattle.field.proofs.Zones.{none_at_all, none_yet, one_more}
 use Rattle.advance.proofs.held_along.Goals as goal
 
 pub loop-i-init : goal.loop-i-init

@@ -1,12 +1,8 @@
 -- `advance::held_along` meets its contract. The loop's invariant: no Enemy stands on the numbers passed. The measure is how many are left.
 -- Assumes nothing.
 use Prim.Native.Nat.{◌-◌}
-use mathlib.Core.Path.{◌∙◌, sym}
-use native.Mathlib.Omega.{arith}
-use borrow.Author.Rules.{rules}
-use Rattle.position.proofs.Tallies.{any_true}
 use Rattle.position.specs.Board.{board}
-use Rattle.field.proofs.Zones.{None, none_at_all, none_yet, one_more}
+use Rattle.field.proofs.Zones.{None}
 use Rattle.aftermath.specs.Advance.{held_at}
 use Rattle.advance.proofs.held_along.Given as goal
 

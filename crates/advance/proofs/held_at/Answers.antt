@@ -1,7 +1,6 @@
 -- `advance::held_at` meets its contract: the hex is read, and then asked.
 -- Assumes nothing.
 use mathlib.Core.Path.{ap, ◌∙◌}
-use borrow.Author.Rules.{rules}
 use Rattle.position.specs.Board.{board}
 use Rattle.aftermath.specs.Advance.{shut, held_at}
 use Rattle.advance.proofs.held_at.Goals as goal

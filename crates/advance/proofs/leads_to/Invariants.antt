@@ -1,13 +1,9 @@
 -- `advance::leads_to` meets its contract. The loop's invariant: no number passed is the hex and clear. The measure is how many are left.
 -- Assumes nothing.
 use Prim.Native.Nat.{◌-◌}
-use mathlib.Core.Path.{◌∙◌, sym}
-use native.Mathlib.Omega.{arith}
-use borrow.Author.Rules.{rules}
-use Rattle.position.proofs.Tallies.{any_true}
 use Rattle.position.specs.Layout.{route_hexes}
 use Rattle.position.specs.Board.{board}
-use Rattle.field.proofs.Zones.{None, none_at_all, none_yet, one_more}
+use Rattle.field.proofs.Zones.{None}
 use Rattle.aftermath.specs.Advance.{clear_to}
 use Rattle.advance.proofs.leads_to.Given as goal
 

@@ -1,34 +1,30 @@
 -- `advance::step_up` meets its contract: the three writes are the changes of an advance and the stage that follows.
 -- Assumes nothing.
-use borrow.Author.Rules.{rules}
 use native.Mathlib.Omega.{arith}
 use Rattle.position.proofs.Changes.{laid_make}
 use Rattle.position.specs.Board.{board}
 use Rattle.position.specs.Change.Change.{assigned, placed}
-use Rattle.position.specs.Laid.{Laid}
 use Rattle.position.specs.Role as Role
 use Rattle.aftermath.proofs.Advancing.{both_made}
 use Rattle.aftermath.proofs.Stages.{then_on_lem}
 use Rattle.aftermath.specs.Advance.{advance_changes}
 use Rattle.advance.proofs.step_up.Goals as goal
 
-laid : (c : goal.After-place) →
-    let a = c.args in
-    Laid c.place.new.0 a.v
-laid c =
-    let a = c.args in
-    rw c.place.ensures (laid_make c.requires (placed a.u a.hex))
-
 pub place-requires : goal.place-requires
 place-requires c = c.requires
 
 pub assign-requires : goal.assign-requires
-assign-requires c = (laid c.before.before.before, omega arith)
+assign-requires c = (
+  (let a = c.args in
+      rw c.place.ensures (laid_make c.requires (placed a.u a.hex))),
+  omega arith,
+)
 
 pub pass_on-requires : goal.pass_on-requires
 pass_on-requires c =
     let a = c.args in
-    rw c.assign.ensures (laid_make (laid c.before.before.before.before.before.before.before) (assigned a.u Role.none))
+    rw c.assign.ensures (laid_make (let a = c.args in
+    rw c.place.ensures (laid_make c.requires (placed a.u a.hex))) (assigned a.u Role.none))
 
 pub returns : goal.returns
 returns c =

@@ -21,14 +21,11 @@ use Rattle.results.specs.declared.Upshot.{Upshot}
 use Rattle.attacking.proofs.fight.Goals as goal
 
 -- the map is small
-small : (c : goal.Start) → (board c.args.p.now).map.hexes ≤ 4096
-small c = hexes_most c.requires.0.shaped
-
 pub muster-n-requires : goal.muster-n-requires
-muster-n-requires c = (c.requires.0, c.requires.2.range.most, few_defend c.requires.1.lawful (small c.before.before.before.before) c.args.target c.requires.2.range.aimed, refl)
+muster-n-requires c = (c.requires.0, c.requires.2.range.most, few_defend c.requires.1.lawful (hexes_most c.requires.0.shaped) c.args.target c.requires.2.range.aimed, refl)
 
 pub arm_all-requires : goal.arm_all-requires
-arm_all-requires c = (c.requires.0, c.muster-n.ensures.most, all_standing c.requires.1.lawful (small c.before.before.before.before.before.before.before.before.before.before.before.before) c.requires.2 c.muster-n.ensures, refl, c.requires.2.range.scratch ∙ sym c.requires.0.view.hexes)
+arm_all-requires c = (c.requires.0, c.muster-n.ensures.most, all_standing c.requires.1.lawful (hexes_most c.requires.0.shaped) c.requires.2 c.muster-n.ensures, refl, c.requires.2.range.scratch ∙ sym c.requires.0.view.hexes)
 
 pub multiple_at-requires : goal.multiple_at-requires
 multiple_at-requires c = (c.requires.0, c.requires.2.range.some, all_adjacent c.requires.2)
@@ -49,14 +46,14 @@ pub settle-requires : goal.settle-requires
 settle-requires c = (
   c.requires.0,
   c.requires.2.range.most,
-  omega (arith, small c.before.before.before.before.before.before.before.before.before.before.before.before.before.before.before.before.before.before.before.before.before.before.before.before.before.before.before.before.before.before.before, c.requires.2.range.aimed),
+  omega (arith, (hexes_most c.requires.0.shaped), c.requires.2.range.aimed),
   lent_all _ _ c.muster-n.ensures c.draw_up-fighters.ensures c.units_of.ensures,
   rw c.upshot-o.ensures (upshot_fits c.code-code.result c.code-code.ensures.small),
   rw c.need_of-need.ensures (need_fits c.upshot-o.result c.sum_up-attackers.result.printed c.sum_up-defenders.result.printed c.sum_up-attackers.ensures.printed.small c.sum_up-defenders.ensures.printed.small),
 )
 
 pub shape_of-scratch : goal.shape_of-scratch
-shape_of-scratch c = omega (arith, c.clear.auto.0, c.arm_all.auto.1.1.1.1.1.1.0)
+shape_of-scratch c = omega (arith, c.clear.auto.buf, c.arm_all.auto.scratch)
 
 pub returns : goal.returns
 returns c =
@@ -73,4 +70,4 @@ returns c =
     (c.need_of-need.ensures ∙ ap (λ (o : Upshot). need_of o c.sum_up-attackers.result.printed c.sum_up-defenders.result.printed) c.upshot-o.ensures))
     (c.settle.ensures
     ∙ ap₂ (λ (x : List ℕ) (o : Upshot). makes (turned_all p x) (battle_changes b a.target a.units.now o c.need_of-need.result)) (lent_all _ _ c.muster-n.ensures c.draw_up-fighters.ensures c.units_of.ensures) c.upshot-o.ensures)
-    (all_clear c.arm_all.new.1.1.1.1.1.1.0 b.map.hexes c.clear.ensures (omega (arith, c.requires.2.range.scratch, c.arm_all.auto.1.1.1.1.1.1.0)))
+    (all_clear c.arm_all.new.scratch b.map.hexes c.clear.ensures (omega (arith, c.requires.2.range.scratch, c.arm_all.auto.scratch)))

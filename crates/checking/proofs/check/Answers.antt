@@ -1,25 +1,21 @@
 -- `check` meets its contract: the shape is asked for first, then what the board shows, and the strengths last.
 -- Assumes nothing.
 use mathlib.Core.Path.{subst}
-use borrow.Author.Rules.{rules}
-use Rattle.position.specs.Laid.{Laid, LaidOf}
+use Rattle.position.specs.Laid.{LaidOf}
 use Rattle.position.proofs.Answers.{said, unsaid}
 use Rattle.checking.proofs.check.Goals as goal
-
-laid : (c : goal.In-Whole) → Laid c.args.p.now c.in-Whole.v
-laid c = subst (LaidOf _) c.in-Whole.is c.shape.ensures
 
 pub returns-in_default : goal.returns-in_default
 returns-in_default c = λ t. subst (LaidOf _) c.in_default.is c.shape.ensures t.shaped
 
 pub lawful-requires : goal.lawful-requires
-lawful-requires c = laid c
+lawful-requires c = (subst (LaidOf _) c.in-Whole.is c.shape.ensures)
 
 pub returns-then-not-lawful : goal.returns-then-not-lawful
 returns-then-not-lawful c = λ t. unsaid c.lawful.result c.if-not-lawful.true c.lawful.ensures t.lawful
 
 pub strengths_ok-requires : goal.strengths_ok-requires
-strengths_ok-requires c = laid c.before.before
+strengths_ok-requires c = (subst (LaidOf _) c.in-Whole.is c.shape.ensures)
 
 pub returns-then-not-strengths_ok : goal.returns-then-not-strengths_ok
 returns-then-not-strengths_ok c =
@@ -27,7 +23,7 @@ returns-then-not-strengths_ok c =
 
 pub returns : goal.returns
 returns c =
-    let l = laid c.before.before.before.before in (
+    let l = (subst (LaidOf _) c.in-Whole.is c.shape.ensures) in (
       record {
         shaped = l.shaped;
         strengths = said c.strengths_ok.result c.if-not-strengths_ok.false c.strengths_ok.ensures;

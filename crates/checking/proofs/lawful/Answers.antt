@@ -1,6 +1,5 @@
 -- `lawful` meets its contract: all eight questions are asked.
 -- Assumes nothing.
-use borrow.Author.Rules.{rules}
 use Rattle.position.proofs.Answers.{said, unsaid}
 use Rattle.checking.proofs.lawful.Goals as goal
 

@@ -1,6 +1,5 @@
 -- `units_ok::alone_ok` meets its contract: all three questions are asked.
 -- Assumes nothing.
-use borrow.Author.Rules.{rules}
 use Rattle.position.proofs.Answers.{said, unsaid}
 use Rattle.counters.proofs.alone_ok.Goals as goal
 

@@ -26,18 +26,6 @@ allows c =
     c.may_allow.ensures ∙ ap₂ may_allow c.kind.ensures.is
     c.allowance.ensures.is
 
-is-tried : (c : goal.After-has) →
-    let a = c.args in
-    has tried (Layout.marks a.p.now a.u) ≡ c.has.result
-is-tried c =
-    sym (c.has.ensures ∙ ap (has tried) c.marks-marks.ensures.is)
-
-is-always : (c : goal.After-always_tried) →
-    let a = c.args in
-    always_tried (Layout.kind a.p.now a.u) ≡ c.always_tried.result
-is-always c =
-    sym (c.always_tried.ensures ∙ ap always_tried c.kind.ensures.is)
-
 -- all but the last question
 counter : (c : goal.Else-marks-ge-MARKS_END) →
     let p = c.args.p.now in
@@ -58,11 +46,11 @@ pub returns-then-not-may_allow : goal.returns-then-not-may_allow
 returns-then-not-may_allow c = λ t. fails (allows c.before) c.if-not-may_allow.true t.allows
 
 pub returns-then-has : goal.returns-then-has
-returns-then-has c = counter c.before.before (λ e. is-tried c.before ∙ c.if-has.true)
+returns-then-has c = counter c.before.before (λ e. (sym (c.has.ensures ∙ ap (has tried) c.marks-marks.ensures.is)) ∙ c.if-has.true)
 
 pub returns-then-always_tried : goal.returns-then-always_tried
 returns-then-always_tried c =
-    λ t. not_both _ (t.always (is-always c.before ∙ c.if-always_tried.true)) (is-tried c.before.before.before ∙ c.if-has.false)
+    λ t. not_both _ (t.always ((sym (c.always_tried.ensures ∙ ap always_tried c.kind.ensures.is)) ∙ c.if-always_tried.true)) ((sym (c.has.ensures ∙ ap (has tried) c.marks-marks.ensures.is)) ∙ c.if-has.false)
 
 pub returns : goal.returns
-returns c = counter c.before.before.before.before (λ e. not_both _ e (is-always c.before ∙ c.if-always_tried.false))
+returns c = counter c.before.before.before.before (λ e. not_both _ e ((sym (c.always_tried.ensures ∙ ap always_tried c.kind.ensures.is)) ∙ c.if-always_tried.false))

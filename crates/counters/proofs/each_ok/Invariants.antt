@@ -1,11 +1,9 @@
 -- `units_ok::each_ok` meets its contract. The loop's invariant: every unit before u is as it should be.
 -- Assumes nothing.
 use Prim.Native.Nat.{◌-◌}
-use native.Mathlib.Omega.{arith}
-use borrow.Author.Rules.{rules}
 use Rattle.acceptance.specs.Asked.{AloneOk}
 use Rattle.position.specs.Board.{board}
-use Rattle.position.proofs.Answers.{said, unsaid, Passed, none_yet, one_more, all, not_all}
+use Rattle.position.proofs.Answers.{Passed}
 use Rattle.counters.proofs.each_ok.Given as goal
 
 abbrev pub invariant-loop-u : goal.invariant-loop-u

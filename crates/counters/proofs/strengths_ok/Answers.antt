@@ -1,17 +1,9 @@
 -- `units_ok::strengths_ok` meets its contract. The loop's invariant: the strength of every unit before u is 1..60.
 -- Assumes nothing.
-use Prim.Native.Nat.{ℕ, ◌-◌}
 use mathlib.Core.Path.{sym}
-use mathlib.Core.List.{List}
 use native.Mathlib.Omega.{arith}
-use borrow.Author.Rules.{rules}
-use Rattle.position.specs.Shape.{In}
-use Rattle.position.specs.Layout.{strength}
-use Rattle.position.proofs.Answers.{said, unsaid, carry, Passed, none_yet, one_more, all, not_all}
+use Rattle.position.proofs.Answers.{said, unsaid, carry, none_yet, one_more, all, not_all}
 use Rattle.counters.proofs.strengths_ok.Goals as goal
-
-abbrev Strong : List ℕ → ℕ → Type 0
-Strong p u = In 1 (strength p u) 60
 
 pub loop-u-init : goal.loop-u-init
 loop-u-init c = none_yet

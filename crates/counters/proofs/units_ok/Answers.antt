@@ -1,7 +1,6 @@
 -- `units_ok::units_ok` meets its contract: each unit, the stacks and the roles are asked for, and that is all.
 -- Assumes nothing.
 use native.Mathlib.Omega.{arith}
-use borrow.Author.Rules.{rules}
 use Rattle.position.proofs.Answers.{said, unsaid}
 use Rattle.acceptance.proofs.Asking.{units_asked, alone_of, stacks_of, roles_of}
 use Rattle.counters.proofs.units_ok.Goals as goal

@@ -3,7 +3,6 @@
 -- Assumes nothing.
 use Prim.Native.Nat.{◌-◌, ◌≤◌}
 use mathlib.Core.Path.{◌≡◌, sym, ap, ◌∙◌}
-use mathlib.Core.Logic.{⊎_elim}
 use native.Mathlib.Omega.{arith}
 use borrow.Author.Rules.{rules}
 use Rattle.position.specs.Tally.{tally}
@@ -12,6 +11,7 @@ use Rattle.position.specs.Layout.{hex}
 use Rattle.position.proofs.Tallies.{equals, equals_yes, equals_no, tally_zero, tally_hit, tally_miss}
 use Rattle.position.proofs.Crowds.{crowd_is}
 use Rattle.crowd.proofs.crowd.Goals as goal
+use Rattle.crowd.proofs.crowd.Goals.{then-hex-h, else-hex-h}
 
 pub loop-u-init : goal.loop-u-init
 loop-u-init c = (omega arith, omega arith, sym (tally_zero _))
@@ -21,10 +21,10 @@ loop-u-preserved c =
     let a = c.args in
     let u = c.loop-u.u in
     let f = hex a.p.now in
-    ⊎_elim
-    (λ w. omega (arith, tally_hit (equals f a.h) u (equals_yes f a.h u (omega arith))))
-    (λ w. omega (arith, tally_miss (equals f a.h) u (equals_no f a.h u (λ e. w.0.left (omega arith)))))
-    c.if-hex-h.branch
+    elim c.if-hex-h.branch [
+      then-hex-h w ↦ omega (arith, tally_hit (equals f a.h) u (equals_yes f a.h u (omega arith)))
+    | else-hex-h w ↦ omega (arith, tally_miss (equals f a.h) u (equals_no f a.h u (λ e. w.if-hex-h.false (omega arith))))
+    ]
 
 pub returns : goal.returns
 returns c =

@@ -3,7 +3,6 @@
 -- Assumes nothing.
 use Prim.Native.Nat.{◌-◌, ◌≤◌}
 use mathlib.Core.Path.{◌≡◌, sym, ap, ◌∙◌}
-use mathlib.Core.Logic.{⊎_elim}
 use native.Mathlib.Omega.{arith}
 use borrow.Author.Rules.{rules}
 use Rattle.position.specs.Tally.{tally}
@@ -12,6 +11,7 @@ use Rattle.position.specs.Layout.{role}
 use Rattle.position.proofs.Tallies.{equals, equals_yes, equals_no, tally_zero, tally_hit, tally_miss}
 use Rattle.position.proofs.Crowds.{holders_is}
 use Rattle.crowd.proofs.holders.Goals as goal
+use Rattle.crowd.proofs.holders.Goals.{then-role-r, else-role-r}
 
 pub loop-u-init : goal.loop-u-init
 loop-u-init c = (omega arith, omega arith, sym (tally_zero _))
@@ -21,10 +21,10 @@ loop-u-preserved c =
     let a = c.args in
     let u = c.loop-u.u in
     let f = role a.p.now in
-    ⊎_elim
-    (λ w. omega (arith, tally_hit (equals f a.r) u (equals_yes f a.r u (omega arith))))
-    (λ w. omega (arith, tally_miss (equals f a.r) u (equals_no f a.r u (λ e. w.0.left (omega arith)))))
-    c.if-role-r.branch
+    elim c.if-role-r.branch [
+      then-role-r w ↦ omega (arith, tally_hit (equals f a.r) u (equals_yes f a.r u (omega arith)))
+    | else-role-r w ↦ omega (arith, tally_miss (equals f a.r) u (equals_no f a.r u (λ e. w.if-role-r.false (omega arith))))
+    ]
 
 pub returns : goal.returns
 returns c =

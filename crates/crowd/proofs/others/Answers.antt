@@ -3,7 +3,6 @@
 -- Assumes nothing.
 use Prim.Native.Nat.{◌-◌, ◌≤◌}
 use mathlib.Core.Path.{◌≡◌, sym, ap, ◌∙◌}
-use mathlib.Core.Logic.{⊎_elim}
 use native.Mathlib.Omega.{arith}
 use borrow.Author.Rules.{rules}
 use Rattle.position.specs.Tally.{tally}
@@ -12,6 +11,7 @@ use Rattle.position.specs.Layout.{hex}
 use Rattle.position.proofs.Tallies.{equals, equals_yes, equals_no, but, but_other, but_self, but_fails, tally_zero, tally_hit, tally_miss}
 use Rattle.position.proofs.Crowds.{others_is}
 use Rattle.crowd.proofs.others.Goals as goal
+use Rattle.crowd.proofs.others.Goals.{then-hex-h+then-u-w, then-hex-h+else-u-w, else-hex-h}
 
 pub loop-u-init : goal.loop-u-init
 loop-u-init c = (omega arith, omega arith, sym (tally_zero _))
@@ -22,12 +22,11 @@ loop-u-preserved c =
     let u = c.loop-u.u in
     let f = hex a.p.now in
     let t = equals f a.h in
-    ⊎_elim
-    (λ w. omega (arith, tally_hit (but t a.w) u (but_other t a.w u w.1.taken ∙ equals_yes f a.h u (omega arith))))
-    (⊎_elim
-    (λ w. omega (arith, tally_miss (but t a.w) u (but_self t a.w u w.1.left)))
-    (λ w. omega (arith, tally_miss (but t a.w) u (but_fails t a.w u (equals_no f a.h u (λ e. w.0.left (omega arith)))))))
-    c.if-hex-h.branch
+    elim c.if-hex-h.branch [
+      then-hex-h+then-u-w w ↦ omega (arith, tally_hit (but t a.w) u (but_other t a.w u w.if-u-w.true ∙ equals_yes f a.h u (omega arith)))
+    | then-hex-h+else-u-w w ↦ omega (arith, tally_miss (but t a.w) u (but_self t a.w u w.if-u-w.false))
+    | else-hex-h w ↦ omega (arith, tally_miss (but t a.w) u (but_fails t a.w u (equals_no f a.h u (λ e. w.if-hex-h.false (omega arith)))))
+    ]
 
 pub returns : goal.returns
 returns c =

@@ -3,7 +3,6 @@
 -- Assumes nothing.
 use Prim.Native.Nat.{◌-◌, ◌≤◌}
 use mathlib.Core.Path.{◌≡◌, sym, ap, ◌∙◌}
-use mathlib.Core.Logic.{⊎_elim}
 use native.Mathlib.Omega.{arith}
 use borrow.Author.Rules.{rules}
 use Rattle.position.specs.Tally.{tally}
@@ -12,6 +11,7 @@ use Rattle.position.specs.Board.{board}
 use Rattle.position.specs.Crowd.{filled, routes}
 use Rattle.position.proofs.Tallies.{tally_zero, tally_hit, tally_miss}
 use Rattle.crowd.proofs.routes.Goals as goal
+use Rattle.crowd.proofs.routes.Goals.{then-filled, else-filled}
 
 pub loop-r-init : goal.loop-r-init
 loop-r-init c = (omega arith, omega arith, sym (tally_zero _))
@@ -21,10 +21,10 @@ loop-r-preserved c =
     let a = c.args in
     let r = c.loop-r.r in
     let e = sym c.filled.ensures in
-    ⊎_elim
-    (λ w. omega (arith, tally_hit (filled (board a.p.now)) r (e ∙ w.0.taken)))
-    (λ w. omega (arith, tally_miss (filled (board a.p.now)) r (e ∙ w.0.left)))
-    c.if-filled.branch
+    elim c.if-filled.branch [
+      then-filled w ↦ omega (arith, tally_hit (filled (board a.p.now)) r (e ∙ w.if-filled.true))
+    | else-filled w ↦ omega (arith, tally_miss (filled (board a.p.now)) r (e ∙ w.if-filled.false))
+    ]
 
 pub returns : goal.returns
 unfolding routes

@@ -10,22 +10,6 @@ use Rattle.position.proofs.Answers.{said, unsaid, carry, carry_both}
 use Rattle.clock.specs.Phase as Phase
 use Rattle.desk.proofs.clock_ok.Goals as goal
 
--- all but the last question
-clock : (c : goal.Else-stage-gt-ADVANCES) →
-    let d = desk c.args.p.now in
-    ((d.battle.stage ≡ Stage.quiet → ⊥) → d.clock.phase ≡ Phase.combat) → ClockOk d
-clock c combat =
-    record {
-      turn = carry c.turn-turn.ensures.is
-          (said c.within.result c.if-not-within.false c.within.ensures);
-      last_turn = carry_both c.turn-turn.ensures.is c.last_turn.ensures.is
-          (said c.within-2.result c.if-not-within-2.false c.within-2.ensures);
-      force = omega arith;
-      phase = omega arith;
-      stage = omega arith;
-      combat = combat;
-    }
-
 pub returns-then-not-within : goal.returns-then-not-within
 returns-then-not-within c =
     λ t. unsaid c.within.result c.if-not-within.true c.within.ensures
@@ -38,10 +22,30 @@ returns-then-not-within-2 c =
     (sym c.last_turn.ensures.is) t.last_turn)
 
 pub returns-then-stage-eq-QUIET : goal.returns-then-stage-eq-QUIET
-returns-then-stage-eq-QUIET c = clock c.before (λ n. absurd (n (omega arith)))
+returns-then-stage-eq-QUIET c =
+    record {
+      turn = carry c.turn-turn.ensures.is
+          (said c.within.result c.if-not-within.false c.within.ensures);
+      last_turn = carry_both c.turn-turn.ensures.is c.last_turn.ensures.is
+          (said c.within-2.result c.if-not-within-2.false c.within-2.ensures);
+      force = omega arith;
+      phase = omega arith;
+      stage = omega arith;
+      combat = λ n. absurd (n (omega arith));
+    }
 
 pub returns-then-phase-ne-COMBAT : goal.returns-then-phase-ne-COMBAT
 returns-then-phase-ne-COMBAT c = λ t. omega (arith, t.combat (λ e. omega arith))
 
 pub returns : goal.returns
-returns c = clock c.before.before.before (λ n. omega arith)
+returns c =
+    record {
+      turn = carry c.turn-turn.ensures.is
+          (said c.within.result c.if-not-within.false c.within.ensures);
+      last_turn = carry_both c.turn-turn.ensures.is c.last_turn.ensures.is
+          (said c.within-2.result c.if-not-within-2.false c.within-2.ensures);
+      force = omega arith;
+      phase = omega arith;
+      stage = omega arith;
+      combat = λ n. omega arith;
+    }

@@ -14,42 +14,33 @@ use Rattle.march.proofs.Ends.{with_byte, without_byte, left_other, left_off, jud
 use Rattle.ending.proofs.judge_unit.Goals as goal
 
 -- past the first test unit u is of nationality n, and past the second it is on the map
-nation : (c : goal.Else-nationality-n) → let a = c.args in nationality a.p.now a.u ≡ a.n
-nation c = sym c.nationality.ensures.is ∙ c.if-nationality-n.false
-
-mapped : (c : goal.Else-hexes-h) → let a = c.args in hex a.p.now a.u < hexes a.p.now
-mapped c =
-    omega (arith, c.hex-h.ensures.is, c.requires.0.view.hexes)
-
 pub returns-then-nationality-n : goal.returns-then-nationality-n
 returns-then-nationality-n c = (c.requires.0, left_other (λ e. c.if-nationality-n.true (c.nationality.ensures.is ∙ e)))
 
 pub returns-then-hexes-h : goal.returns-then-hexes-h
 returns-then-hexes-h c =
-    (c.requires.0, left_off (nation c.before.before.before) (omega (arith, c.hex-h.ensures.is, c.requires.0.view.hexes)))
+    (c.requires.0, left_off (sym c.nationality.ensures.is ∙ c.if-nationality-n.false) (omega (arith, c.hex-h.ensures.is, c.requires.0.view.hexes)))
 
 pub mark-requires : goal.mark-requires
 mark-requires c = (c.requires.0, rw c.with.ensures (with_byte _ c.marks-m.ensures.small))
 
 pub returns-then-map-h-ge2 : goal.returns-then-map-h-ge2
 unfolding mark
-returns-then-map-h-ge2 c =
-    (
-      rw c.mark.ensures (laid_make c.requires.0 _),
-      judged_in (nation c.before.before.before.before.before.before.before.before.before.before.before.before) c.requires.0.shaped (mapped c.before.before.before.before.before.before.before.before.before)
-          (rw (sym c.hex-h.ensures.is) c.if-map-h-ge2.true)
-          (c.mark.ensures ∙ ap (λ x. make c.args.p.now (marked c.args.u x)) (c.with.ensures ∙ ap (with supplied) c.marks-m.ensures.is)),
-    )
+returns-then-map-h-ge2 c = (
+  rw c.mark.ensures (laid_make c.requires.0 _),
+  judged_in (sym c.nationality.ensures.is ∙ c.if-nationality-n.false) c.requires.0.shaped (omega (arith, c.hex-h.ensures.is, c.requires.0.view.hexes))
+      (rw (sym c.hex-h.ensures.is) c.if-map-h-ge2.true)
+      (c.mark.ensures ∙ ap (λ x. make c.args.p.now (marked c.args.u x)) (c.with.ensures ∙ ap (with supplied) c.marks-m.ensures.is)),
+)
 
 pub mark-requires-2 : goal.mark-requires-2
 mark-requires-2 c = (c.requires.0, rw c.without.ensures (without_byte _ c.marks-m.ensures.small))
 
 pub returns : goal.returns
 unfolding mark
-returns c =
-    (
-      rw c.mark-2.ensures (laid_make c.requires.0 _),
-      judged_out (nation c.before.before.before.before.before.before.before.before.before.before.before.before) c.requires.0.shaped (mapped c.before.before.before.before.before.before.before.before.before)
-          (rw (sym c.hex-h.ensures.is) c.if-map-h-ge2.false)
-          (c.mark-2.ensures ∙ ap (λ x. make c.args.p.now (marked c.args.u x)) (c.without.ensures ∙ ap (without supplied) c.marks-m.ensures.is)),
-    )
+returns c = (
+  rw c.mark-2.ensures (laid_make c.requires.0 _),
+  judged_out (sym c.nationality.ensures.is ∙ c.if-nationality-n.false) c.requires.0.shaped (omega (arith, c.hex-h.ensures.is, c.requires.0.view.hexes))
+      (rw (sym c.hex-h.ensures.is) c.if-map-h-ge2.false)
+      (c.mark-2.ensures ∙ ap (λ x. make c.args.p.now (marked c.args.u x)) (c.without.ensures ∙ ap (without supplied) c.marks-m.ensures.is)),
+)

@@ -12,15 +12,12 @@ use Rattle.march.proofs.Ends.{next_bytes, all_ended}
 use Rattle.ending.proofs.pass_on.Goals as goal
 
 -- the clock that is set is the board's next
-upcoming : (c : goal.After-moved_on-next) → c.moved_on-next.result ≡ next_clock (board c.args.p.now).desk.clock
-upcoming c = c.moved_on-next.ensures ∙ ap next_clock c.clock_of-now.ensures.is
-
 pub moved_on-next-requires : goal.moved_on-next-requires
 moved_on-next-requires c = let k = c.clock_of-now.ensures in (k.turn, k.force, k.phase)
 
 pub set_clock-requires : goal.set_clock-requires
 set_clock-requires c =
-    let e = upcoming c.before.before.before.before.before in
+    let e = (c.moved_on-next.ensures ∙ ap next_clock c.clock_of-now.ensures.is) in
     let k = next_bytes c.requires.1.lawful in
     (laid_makes _ c.requires.0 c.rest_all.ensures, rw e k.turn, rw e k.force, rw e k.phase)
 
@@ -33,6 +30,6 @@ returns c =
     let g = c.enter in
     let v = c.requires.0.view in
     record {
-      made = all_ended c.requires.1 v.count (upcoming c.before.before.before.before.before.before.before.before.before.before.before.before.before.before.before.before.before.before.before) c.rest_all.ensures c.set_clock.ensures g.ensures;
-      clear = all_clear g.new.1.1.1.0 (hexes c.args.p.now) c.clear.ensures (omega (arith, c.requires.2, v.hexes));
+      made = all_ended c.requires.1 v.count (c.moved_on-next.ensures ∙ ap next_clock c.clock_of-now.ensures.is) c.rest_all.ensures c.set_clock.ensures g.ensures;
+      clear = all_clear g.new.scratch (hexes c.args.p.now) c.clear.ensures (omega (arith, c.requires.2, v.hexes));
     }

@@ -21,12 +21,12 @@ walks :
     (c : goal.Else-not-any_walks)
     → let s = c.args in
     any (walks_from (board s.p.now) s.h) (board s.p.now).units.count ≡ true
-walks c = sym c.any_walks.ensures ∙ not-false _ c.if-not-any_walks.false
+walks c = sym c.any_walks.ensures ∙ c.if-not-any_walks.false
 
 pub returns-then-not-any_walks : goal.returns-then-not-any_walks
 returns-then-not-any_walks c =
     let s = c.args in
-    let e = sym c.any_walks.ensures ∙ not-true _ c.if-not-any_walks.true in
+    let e = sym c.any_walks.ensures ∙ c.if-not-any_walks.true in
     c.by_part.ensures ∙ fate_supply (board s.p.now) s.h s.route.now s.pushes.now e
 
 -- what the outlook says

@@ -10,9 +10,9 @@ use Rattle.retreat.proofs.Groups.{walks_kind, walks_not}
 use Rattle.fate.proofs.walks_from.Goals as goal
 
 pub returns-then-not-owes_at : goal.returns-then-not-owes_at
-returns-then-not-owes_at c = sym (walks_not _ _ _ (sym c.owes_at.ensures ∙ not-true _ c.if-not-owes_at.true))
+returns-then-not-owes_at c = sym (walks_not _ _ _ (sym c.owes_at.ensures ∙ c.if-not-owes_at.true))
 
 pub returns : goal.returns
 returns c =
     ap (λ (k : ℕ). not (eqb k 5)) c.kind.ensures.is
-    ∙ sym (walks_kind _ _ _ (sym c.owes_at.ensures ∙ not-false _ c.if-not-owes_at.false))
+    ∙ sym (walks_kind _ _ _ (sym c.owes_at.ensures ∙ c.if-not-owes_at.false))

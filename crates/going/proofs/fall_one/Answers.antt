@@ -8,9 +8,9 @@ use Rattle.retreat.proofs.Leaving.{falls_made}
 use Rattle.going.proofs.fall_one.Goals as goal
 
 pub returns-then-not-owes_at : goal.returns-then-not-owes_at
-returns-then-not-owes_at c = left_alone _ _ _ (sym c.owes_at.ensures ∙ not-true _ c.if-not-owes_at.true)
+returns-then-not-owes_at c = left_alone _ _ _ (sym c.owes_at.ensures ∙ c.if-not-owes_at.true)
 
 pub returns : goal.returns
 returns c =
-    dealt_with _ _ _ (sym c.owes_at.ensures ∙ not-false _ c.if-not-owes_at.false)
+    dealt_with _ _ _ (sym c.owes_at.ensures ∙ c.if-not-owes_at.false)
     (falls_made _ _ c.destroy.ensures)

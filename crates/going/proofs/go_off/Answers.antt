@@ -18,11 +18,10 @@ pass_on-requires c =
     c.leave_all.ensures
 
 pub returns : goal.returns
-returns c =
-    (
-      c.end_of-end.ensures,
-      then_on_lem c.requires.0.shaped (retreat_changes (board c.args.p.now) c.args.h c.args.route.now)
-          (gone_off c.requires.0.shaped c.args.h c.args.route.now c.end_of-end.ensures c.note.ensures
-          c.leave_all.ensures)
-          c.pass_on.ensures,
-    )
+returns c = (
+  c.end_of-end.ensures,
+  then_on_lem c.requires.0.shaped (retreat_changes (board c.args.p.now) c.args.h c.args.route.now)
+      (gone_off c.requires.0.shaped c.args.h c.args.route.now c.end_of-end.ensures c.note.ensures
+      c.leave_all.ensures)
+      c.pass_on.ensures,
+)

@@ -18,11 +18,10 @@ pass_on-requires c =
     c.march_off.ensures
 
 pub returns : goal.returns
-returns c =
-    (
-      c.end_of-end.ensures,
-      then_on_lem c.requires.0.shaped (push_changes (board c.args.p.now) c.args.h c.args.route.now c.args.pushes.now)
-          (pushed_off c.requires.0.shaped c.args.h c.args.route.now c.args.pushes.now c.note.ensures
-          c.march_off.ensures)
-          c.pass_on.ensures,
-    )
+returns c = (
+  c.end_of-end.ensures,
+  then_on_lem c.requires.0.shaped (push_changes (board c.args.p.now) c.args.h c.args.route.now c.args.pushes.now)
+      (pushed_off c.requires.0.shaped c.args.h c.args.route.now c.args.pushes.now c.note.ensures
+      c.march_off.ensures)
+      c.pass_on.ensures,
+)

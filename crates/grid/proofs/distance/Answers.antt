@@ -21,7 +21,7 @@ overflow_add-b c = omega (arith, row c.requires.on_2)
 pub overflow_add-result : goal.overflow_add-result
 overflow_add-result c =
     let p = c.requires in
-    omega (arith, row p.0, row p.1, column p.0, column p.1, c.gap-x.ensures, c.gap-y.ensures)
+    omega (arith, row p.on, row p.on_2, column p.on, column p.on_2, c.gap-x.ensures, c.gap-y.ensures)
 
 pub returns-then-x-y : goal.returns-then-x-y
 unfolding far distance_of

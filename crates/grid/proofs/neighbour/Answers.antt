@@ -9,31 +9,28 @@ use Rattle.grid.proofs.Arith.{column, row}
 use Rattle.grid.proofs.Tests.{on_facts, on_test}
 use Rattle.grid.proofs.neighbour.Goals as goal
 
-placed : (c : goal.Else-not-on_map) → let a = c.args in On a.w a.h a.hex
-placed c = on_facts _ _ _ (sym c.on_map.ensures ∙ not-false _ c.if-not-on_map.false)
-
 pub returns-then-not-on_map : goal.returns-then-not-on_map
 unfolding neighbour_of
-returns-then-not-on_map c = simp (sym c.on_map.ensures ∙ not-true _ c.if-not-on_map.true)
+returns-then-not-on_map c = simp (sym c.on_map.ensures ∙ c.if-not-on_map.true)
 
 pub nonzero_rem-c : goal.nonzero_rem-c
-nonzero_rem-c c = (placed c).wide
+nonzero_rem-c c = (on_facts _ _ _ (sym c.on_map.ensures ∙ c.if-not-on_map.false)).wide
 
 pub nonzero_div-r : goal.nonzero_div-r
-nonzero_div-r c = (placed c).wide
+nonzero_div-r c = (on_facts _ _ _ (sym c.on_map.ensures ∙ c.if-not-on_map.false)).wide
 
 pub overflow_add-c : goal.overflow_add-c
-overflow_add-c c = let o = placed c in omega (arith, column o)
+overflow_add-c c = let o = (on_facts _ _ _ (sym c.on_map.ensures ∙ c.if-not-on_map.false)) in omega (arith, column o)
 
 pub overflow_add-r : goal.overflow_add-r
-overflow_add-r c = let o = placed c in omega (arith, row o)
+overflow_add-r c = let o = (on_facts _ _ _ (sym c.on_map.ensures ∙ c.if-not-on_map.false)) in omega (arith, row o)
 
 pub place_beside-p-requires : goal.place_beside-p-requires
-place_beside-p-requires c = let o = placed c in omega (arith, column o, row o)
+place_beside-p-requires c = let o = (on_facts _ _ _ (sym c.on_map.ensures ∙ c.if-not-on_map.false)) in omega (arith, column o, row o)
 
 pub hex_at-requires : goal.hex_at-requires
-hex_at-requires c = let o = placed c.before in (o.wide64, o.high64)
+hex_at-requires c = let o = (on_facts _ _ _ (sym c.on_map.ensures ∙ c.if-not-on_map.false)) in (o.wide64, o.high64)
 
 pub returns : goal.returns
 unfolding neighbour_of
-returns c = simp (on_test _ _ _ (placed c.before.before)) (c.hex_at.ensures ∙ ap (hex_at _ _) (sym c.place_beside-p.ensures))
+returns c = simp (on_test _ _ _ (on_facts _ _ _ (sym c.on_map.ensures ∙ c.if-not-on_map.false))) (c.hex_at.ensures ∙ ap (hex_at _ _) (sym c.place_beside-p.ensures))

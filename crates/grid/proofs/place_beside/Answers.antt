@@ -7,26 +7,23 @@ use Rattle.grid.specs.Map.{beside_of}
 use Rattle.grid.proofs.Step.{one_table, one_table_lem, nowhere}
 use Rattle.grid.proofs.place_beside.Goals as goal
 
-table : (c : goal.Start) → let a = c.args in beside_of a.low a.x a.y a.dir ≡ one_table a.low a.x a.y a.dir
-table c = one_table_lem _ _ _ _ c.requires.low_bound c.requires.le_x.2
-
 pub returns-in-0 : goal.returns-in-0
-returns-in-0 c = table c.before ∙ rw c.in-0.is
+returns-in-0 c = (one_table_lem _ _ _ _ c.requires.low_bound c.requires.le_x.2) ∙ rw c.in-0.is
 
 pub returns-in-1 : goal.returns-in-1
-returns-in-1 c = table c.before ∙ rw c.in-1.is
+returns-in-1 c = (one_table_lem _ _ _ _ c.requires.low_bound c.requires.le_x.2) ∙ rw c.in-1.is
 
 pub returns-in-2 : goal.returns-in-2
-returns-in-2 c = table c.before ∙ rw c.in-2.is
+returns-in-2 c = (one_table_lem _ _ _ _ c.requires.low_bound c.requires.le_x.2) ∙ rw c.in-2.is
 
 pub returns-in-3 : goal.returns-in-3
-returns-in-3 c = table c.before ∙ rw c.in-3.is
+returns-in-3 c = (one_table_lem _ _ _ _ c.requires.low_bound c.requires.le_x.2) ∙ rw c.in-3.is
 
 pub returns-in-4 : goal.returns-in-4
-returns-in-4 c = table c.before ∙ rw c.in-4.is
+returns-in-4 c = (one_table_lem _ _ _ _ c.requires.low_bound c.requires.le_x.2) ∙ rw c.in-4.is
 
 pub returns-in-5 : goal.returns-in-5
-returns-in-5 c = table c.before ∙ rw c.in-5.is
+returns-in-5 c = (one_table_lem _ _ _ _ c.requires.low_bound c.requires.le_x.2) ∙ rw c.in-5.is
 
 pub returns-in_default : goal.returns-in_default
 returns-in_default c = nowhere _ _ _ _ c.requires.low_bound c.requires.le_x.2 (omega arith)

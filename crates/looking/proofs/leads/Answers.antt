@@ -15,10 +15,6 @@ returns-in_default c =
     shut_off _ _ _ _ _ (near_none c.requires.laid.0.view c.args.s.hex c.args.dir c.requires.laid.2 c.in_default.is)
 
 -- what is known of the hex there
-there : (c : goal.In-At) → Ground.beside (ground c.args.p.now) c.args.s.hex c.args.dir ≡ At c.in-At.t.hex
-there c =
-    near_beside c.requires.laid.0.view c.args.s.hex c.args.dir c.requires.laid.2 c.in-At.is
-
 pub bounds-buf-n : goal.bounds-buf-n
 bounds-buf-n c =
     let n = near_inside c.requires.laid.0.view c.args.s.hex c.args.dir c.requires.laid.2 c.in-At.is in
@@ -26,11 +22,11 @@ bounds-buf-n c =
 
 pub returns-then-buf-n : goal.returns-then-buf-n
 unfolding mark
-returns-then-buf-n c = shut_other _ _ _ _ _ _ (there c.before.before) c.if-buf-n.true
+returns-then-buf-n c = shut_other _ _ _ _ _ _ (near_beside c.requires.laid.0.view c.args.s.hex c.args.dir c.requires.laid.2 c.in-At.is) c.if-buf-n.true
 
 pub between-requires : goal.between-requires
 between-requires c =
-    (c.requires.laid.0, c.requires.laid.1, there c.before.before)
+    (c.requires.laid.0, c.requires.laid.1, (near_beside c.requires.laid.0.view c.args.s.hex c.args.dir c.requires.laid.2 c.in-At.is))
 
 pub returns-then-between-eq-BLOCKED : goal.returns-then-between-eq-BLOCKED
 returns-then-between-eq-BLOCKED c = shut_blocked _ _ _ _ _ (sym c.between.ensures.is ∙ c.if-between-eq-BLOCKED.true)
@@ -38,4 +34,4 @@ returns-then-between-eq-BLOCKED c = shut_blocked _ _ _ _ _ (sym c.between.ensure
 pub returns : goal.returns
 unfolding mark
 returns c =
-    opens _ _ _ _ _ _ (there c.before.before.before.before) (λ q. c.if-between-eq-BLOCKED.false (c.between.ensures.is ∙ q)) c.if-buf-n.false
+    opens _ _ _ _ _ _ (near_beside c.requires.laid.0.view c.args.s.hex c.args.dir c.requires.laid.2 c.in-At.is) (λ q. c.if-between-eq-BLOCKED.false (c.between.ensures.is ∙ q)) c.if-buf-n.false

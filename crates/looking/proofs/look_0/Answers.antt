@@ -1,10 +1,10 @@
 -- `look_0` meets its contract: it is the first direction if a step leads to such a hex there, and else the first one after it is.
 -- Assumes nothing.
-use mathlib.Core.Logic.{⊎_elim}
 use native.Mathlib.Omega.{arith}
 use borrow.Author.Rules.{rules}
 use Rattle.walk.proofs.Looks.{first_here, first_on}
 use Rattle.looking.proofs.look_0.Goals as goal
+use Rattle.looking.proofs.look_0.Goals.{then-from-le0+else-leads, else-from-le0}
 
 pub returns-then-leads : goal.returns-then-leads
 returns-then-leads c = first_here 0 (omega arith) (rw c.if-leads.true at c.leads.ensures)
@@ -12,5 +12,5 @@ returns-then-leads c = first_here 0 (omega arith) (rw c.if-leads.true at c.leads
 pub returns : goal.returns
 returns c =
     first_on 0
-    (λ q. ⊎_elim (λ x. rw x.3.left at x.2.ensures) (λ x. absurd (omega arith)) c.if-from-le0.branch)
+    (λ q. elim c.if-from-le0.branch [ then-from-le0+else-leads w ↦ rw w.if-leads.false at w.leads.ensures | else-from-le0 w ↦ absurd (omega arith) ])
     c.look_1.ensures

@@ -1,13 +1,11 @@
 -- `losses::any_spared` meets its contract. The loop's invariant: no unit passed is spared. The measure is how many are left.
 -- Assumes nothing.
-use Prim.Native.Nat.{◌-◌}
 use mathlib.Core.Path.{◌∙◌, ap, sym}
 use native.Mathlib.Omega.{arith}
-use borrow.Author.Rules.{rules}
 use Rattle.position.proofs.Tallies.{any_true}
 use Rattle.position.specs.Board.{board}
 use Rattle.position.specs.Tally.{any}
-use Rattle.field.proofs.Zones.{None, none_at_all, none_yet, one_more}
+use Rattle.field.proofs.Zones.{none_at_all, none_yet, one_more}
 use Rattle.aftermath.specs.Losses.{spared}
 use Rattle.losses.proofs.any_spared.Goals as goal
 

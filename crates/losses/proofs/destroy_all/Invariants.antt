@@ -1,10 +1,7 @@
 -- `losses::destroy_all` meets its contract. The loop's invariant: the units passed are destroyed. The measure is how many are left.
 -- Assumes nothing.
 use Prim.Native.Nat.{◌-◌}
-use mathlib.Core.Path.{refl}
-use native.Mathlib.Omega.{arith}
-use borrow.Author.Rules.{rules}
-use Rattle.field.proofs.Making.{Making, making_all, making_more, making_none}
+use Rattle.field.proofs.Making.{Making}
 use Rattle.position.specs.Change.Change.{destroyed}
 use Rattle.losses.proofs.destroy_all.Given as goal
 

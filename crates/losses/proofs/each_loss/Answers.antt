@@ -1,18 +1,12 @@
 -- `losses::each_loss` meets its contract. The loop's invariant: what meets the tests from the next place on meets them all.
 -- The measure is how many places are left.
 -- Assumes nothing.
-use Prim.Native.Nat.{◌-◌}
-use mathlib.Core.List.{[]}
 use mathlib.Core.Path.{subst}
 use native.Mathlib.Omega.{arith}
-use borrow.Author.Rules.{rules}
-use lib.ListN.{take}
-use Rattle.position.specs.Board.{board}
-use Rattle.ruling.proofs.Going.{Gone, gone_end, gone_none, gone_stop}
+use Rattle.ruling.proofs.Going.{gone_end, gone_none, gone_stop}
 use Rattle.ruling.specs.Judged.{TestedOf}
-use Rattle.field.specs.Listed.{and_then}
 use Rattle.aftermath.proofs.Losing.{gone_behind}
-use Rattle.aftermath.specs.Losses.{loss, losses}
+use Rattle.aftermath.specs.Losses.{losses}
 use Rattle.losses.proofs.each_loss.Goals as goal
 
 pub loop-i-init : goal.loop-i-init

@@ -3,16 +3,11 @@
 -- Assumes nothing.
 use Prim.Native.Nat.{◌-◌}
 use mathlib.Core.List.{[]}
-use mathlib.Core.Path.{subst}
-use native.Mathlib.Omega.{arith}
-use borrow.Author.Rules.{rules}
 use lib.ListN.{take}
 use Rattle.position.specs.Board.{board}
-use Rattle.ruling.proofs.Going.{Gone, gone_end, gone_none, gone_stop}
-use Rattle.ruling.specs.Judged.{TestedOf}
+use Rattle.ruling.proofs.Going.{Gone}
 use Rattle.field.specs.Listed.{and_then}
-use Rattle.aftermath.proofs.Losing.{gone_behind}
-use Rattle.aftermath.specs.Losses.{loss, losses}
+use Rattle.aftermath.specs.Losses.{loss}
 use Rattle.losses.proofs.each_loss.Given as goal
 
 abbrev pub invariant-loop-i : goal.invariant-loop-i

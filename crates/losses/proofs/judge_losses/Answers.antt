@@ -1,9 +1,11 @@
 -- `losses::judge_losses` meets its contract: each test's answer is its function's, one after the other.
 -- Assumes nothing.
-use mathlib.Core.Bool.{false, not}
+use Prim.Native.Nat.{ℕ, ◌≤◌}
+use mathlib.Core.Bool.{not}
+use mathlib.Core.List.{List}
+use lib.ListN.{length}
 use mathlib.Core.Path.{◌∙◌, ◌≡◌, ap, subst, sym}
 use native.Mathlib.Omega.{arith}
-use borrow.Author.Rules.{rules}
 use borrow.Author.Tests.{eq-eqb, ne_eqb}
 use lib.Dec.{eqb}
 use Rattle.position.specs.Board.{board}
@@ -17,40 +19,22 @@ use Rattle.aftermath.specs.Losses.{loss_checks, losses}
 use Rattle.losses.proofs.judge_losses.Goals as goal
 
 -- the tests passed so far: of the length, along the list, of the stage, and of each unit
-fits : (c : goal.Else-units-gt18) →
-    let a = c.args in
-    not (list_length a.units.now) ≡ false
-fits c = ap not (list_fits _ (omega arith) (omega arith))
+module _ (p units : List ℕ) where
+  there : 1 ≤ length units → length units ≤ 18 → Passes p (all_there (board p) units)
+      → Passes p (λ v. refuse_if (not (list_length units)) 3 0 (all_there (board p) units v))
+  there lo hi f l v r q m w = pass (ap not (list_fits _ lo hi)) (f l v r q m w)
 
-there : (c : goal.In_default) →
-    let a = c.args in
-    Passes a.p.now
-    (λ v. refuse_if (not (list_length a.units.now)) 3 0
-    (all_there (board a.p.now) a.units.now v))
-there c l v r q m w =
-    pass (fits c.before.before.before)
-    ((subst (TestedOf _ _ _) c.in_default.is c.all_there.ensures).0 l v r q m w)
+  timed : 1 ≤ length units → length units ≤ 18 → Passes p (all_there (board p) units) → (board p).desk.battle.stage ≡ Stage.losses
+      → Passes p (λ v. refuse_if (not (list_length units)) 3 0
+      (all_there (board p) units (refuse_if (not (eqb (board p).desk.battle.stage Stage.losses)) 2 0 v)))
+  timed lo hi f e l v r q m w =
+      there lo hi f l _ r q m (pass (ap not (eq-eqb (board p).desk.battle.stage Stage.losses e)) w)
 
-timed : (c : goal.Else-stage-ne-LOSSES) →
-    let a = c.args in
-    Passes a.p.now
-    (λ v. refuse_if (not (list_length a.units.now)) 3 0
-    (all_there (board a.p.now) a.units.now
-    (refuse_if (not (eqb (board a.p.now).desk.battle.stage Stage.losses)) 2 0 v)))
-timed c l v r q m w =
-    let a = c.args in
-    there c.before.before l _ r q m
-    (pass (ap not (eq-eqb (board a.p.now).desk.battle.stage Stage.losses (sym c.stage.ensures.is ∙ c.if-stage-ne-LOSSES.false))) w)
-
-owed : (c : goal.In_default-each_loss) →
-    let a = c.args in
-    Passes a.p.now
-    (λ v. refuse_if (not (list_length a.units.now)) 3 0
-    (all_there (board a.p.now) a.units.now
-    (refuse_if (not (eqb (board a.p.now).desk.battle.stage Stage.losses)) 2 0 (losses (board a.p.now) a.units.now v))))
-owed c l v r q m w =
-    timed c.before.before.before l _ r q m
-    ((subst (TestedOf _ _ _) c.in_default-each_loss.is c.each_loss.ensures).0 l v r q m w)
+  owed : 1 ≤ length units → length units ≤ 18 → Passes p (all_there (board p) units) → (board p).desk.battle.stage ≡ Stage.losses
+      → Passes p (losses (board p) units)
+      → Passes p (λ v. refuse_if (not (list_length units)) 3 0
+      (all_there (board p) units (refuse_if (not (eqb (board p).desk.battle.stage Stage.losses)) 2 0 (losses (board p) units v))))
+  owed lo hi f e g l v r q m w = timed lo hi f e l _ r q m (g l v r q m w)
 
 pub returns-then-units-lt1 : goal.returns-then-units-lt1
 unfolding loss_checks
@@ -65,28 +49,28 @@ all_there-requires c = (c.requires, omega arith)
 
 pub returns-in-Stopped : goal.returns-in-Stopped
 unfolding loss_checks
-returns-in-Stopped c = λ l v. pass (fits c.before.before.before.before) (subst (TestedOf _ _ _) c.in-Stopped.is c.all_there.ensures l _)
+returns-in-Stopped c = λ l v. pass (ap not (list_fits _ (omega arith) (omega arith))) (subst (TestedOf _ _ _) c.in-Stopped.is c.all_there.ensures l _)
 
 pub returns-then-stage-ne-LOSSES : goal.returns-then-stage-ne-LOSSES
 unfolding loss_checks
 returns-then-stage-ne-LOSSES c =
     let a = c.args in
-    λ l v. there c.before.before l _ _ _ _ (stop (ap not (ne_eqb (board a.p.now).desk.battle.stage Stage.losses (λ e. c.if-stage-ne-LOSSES.true (c.stage.ensures.is ∙ e)))))
+    λ l v. there a.p.now a.units.now (omega arith) (omega arith) (subst (TestedOf _ _ _) c.in_default.is c.all_there.ensures).0 l _ _ _ _ (stop (ap not (ne_eqb (board a.p.now).desk.battle.stage Stage.losses (λ e. c.if-stage-ne-LOSSES.true (c.stage.ensures.is ∙ e)))))
 
 pub each_loss-requires : goal.each_loss-requires
 each_loss-requires c = (c.requires, omega arith)
 
 pub returns-in-Stopped-each_loss : goal.returns-in-Stopped-each_loss
 unfolding loss_checks
-returns-in-Stopped-each_loss c = λ l v. timed c.before.before.before.before l _ _ _ _ (subst (TestedOf _ _ _) c.in-Stopped-each_loss.is c.each_loss.ensures l _)
+returns-in-Stopped-each_loss c = λ l v. timed c.args.p.now c.args.units.now (omega arith) (omega arith) (subst (TestedOf _ _ _) c.in_default.is c.all_there.ensures).0 (sym c.stage.ensures.is ∙ c.if-stage-ne-LOSSES.false) l _ _ _ _ (subst (TestedOf _ _ _) c.in-Stopped-each_loss.is c.each_loss.ensures l _)
 
 pub short-requires : goal.short-requires
 short-requires c = (c.requires, omega arith)
 
 pub returns-then-short : goal.returns-then-short
 unfolding loss_checks
-returns-then-short c = λ l v. owed c.before.before l _ _ _ _ (stop (sym c.short.ensures ∙ c.if-short.true))
+returns-then-short c = λ l v. owed c.args.p.now c.args.units.now (omega arith) (omega arith) (subst (TestedOf _ _ _) c.in_default.is c.all_there.ensures).0 (sym c.stage.ensures.is ∙ c.if-stage-ne-LOSSES.false) (subst (TestedOf _ _ _) c.in_default-each_loss.is c.each_loss.ensures).0 l _ _ _ _ (stop (sym c.short.ensures ∙ c.if-short.true))
 
 pub returns : goal.returns
 unfolding loss_checks
-returns c = (λ l v r q m w. owed c.before.before l _ r q m (pass (sym c.short.ensures ∙ c.if-short.false) w), tt)
+returns c = (λ l v r q m w. owed c.args.p.now c.args.units.now (omega arith) (omega arith) (subst (TestedOf _ _ _) c.in_default.is c.all_there.ensures).0 (sym c.stage.ensures.is ∙ c.if-stage-ne-LOSSES.false) (subst (TestedOf _ _ _) c.in_default-each_loss.is c.each_loss.ensures).0 l _ r q m (pass (sym c.short.ensures ∙ c.if-short.false) w), tt)

@@ -2,7 +2,6 @@
 -- Assumes nothing.
 use native.Mathlib.Omega.{arith}
 use mathlib.Core.List.{map}
-use borrow.Author.Rules.{rules}
 use Rattle.position.specs.Change.Change.{destroyed}
 use Rattle.position.specs.Board.{board}
 use Rattle.position.proofs.Changes.{laid_makes}
@@ -10,23 +9,20 @@ use Rattle.aftermath.proofs.Losing.{lost_then}
 use Rattle.aftermath.proofs.Stages.{then_on_lem}
 use Rattle.aftermath.specs.Losses.{loss_changes}
 use Rattle.aftermath.specs.Stage.{reassigned}
-use Rattle.position.specs.Laid.{Laid}
 use Rattle.position.specs.Role as Role
 use Rattle.losses.proofs.lose.Goals as goal
 
 -- the layout stays
-laid : (c : goal.After-destroy_all) →
-    let a = c.args in
-    Laid c.destroy_all.new.0 a.v
-laid c =
-    let a = c.args in
-    laid_makes (map destroyed a.units.now) c.requires c.destroy_all.ensures
-
 pub reassign-requires : goal.reassign-requires
-reassign-requires c = (laid c.before.before.before, omega arith)
+reassign-requires c = (
+  (let a = c.args in
+      laid_makes (map destroyed a.units.now) c.requires c.destroy_all.ensures),
+  omega arith,
+)
 
 pub pass_on-requires : goal.pass_on-requires
-pass_on-requires c = laid_makes (reassigned (board c.destroy_all.new.0) Role.owes Role.advances) (laid c.before.before.before.before.before.before.before) c.reassign.ensures
+pass_on-requires c = laid_makes (reassigned (board c.destroy_all.new.p) Role.owes Role.advances) (let a = c.args in
+    laid_makes (map destroyed a.units.now) c.requires c.destroy_all.ensures) c.reassign.ensures
 
 pub returns : goal.returns
 returns c =

@@ -1,14 +1,10 @@
 -- `losses::loss_line` meets its contract. The loop's invariant: the places passed are filled. The measure is how many are left.
 -- Assumes nothing.
-use Prim.Native.Nat.{◌-◌}
 use mathlib.Core.Path.{refl}
 use native.Mathlib.Omega.{arith}
-use borrow.Author.Rules.{rules}
 use Rattle.position.specs.Board.{board}
 use Rattle.line.proofs.Filling.{filled_all, filled_more, filled_none}
-use Rattle.line.specs.Line.{Filled}
 use Rattle.aftermath.proofs.Losing.{loss_place}
-use Rattle.aftermath.specs.Losses.{loss_at}
 use Rattle.losses.proofs.loss_line.Goals as goal
 
 pub loop-i-init : goal.loop-i-init

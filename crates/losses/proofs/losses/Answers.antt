@@ -2,7 +2,6 @@
 -- Assumes nothing.
 use mathlib.Core.Path.{subst}
 use mathlib.Core.List.{[]}
-use borrow.Author.Rules.{rules}
 use Rattle.ruling.proofs.Meets.{ruled}
 use Rattle.ruling.specs.Judged.{TestedOf}
 use Rattle.aftermath.specs.Losses.{losses_rule}

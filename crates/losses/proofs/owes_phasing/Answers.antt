@@ -2,16 +2,14 @@
 -- Assumes nothing.
 use Prim.Native.Nat.{ℕ}
 use mathlib.Core.Path.{ap₂, sym, ◌∙◌}
-use borrow.Author.Rules.{rules}
-use borrow.Author.Tests.{not-false, not-true}
 use lib.Dec.{eqb}
 use Rattle.aftermath.proofs.Losing.{phasing_not, phasing_owes}
 use Rattle.losses.proofs.owes_phasing.Goals as goal
 
 pub returns-then-not-owes : goal.returns-then-not-owes
-returns-then-not-owes c = sym (phasing_not _ _ (sym c.owes.ensures ∙ not-true _ c.if-not-owes.true))
+returns-then-not-owes c = sym (phasing_not _ _ (sym c.owes.ensures ∙ c.if-not-owes.true))
 
 pub returns : goal.returns
 returns c =
     ap₂ (λ (f g : ℕ). eqb f g) c.force_of.ensures c.phasing.ensures.is
-    ∙ sym (phasing_owes _ _ (sym c.owes.ensures ∙ not-false _ c.if-not-owes.false))
+    ∙ sym (phasing_owes _ _ (sym c.owes.ensures ∙ c.if-not-owes.false))

@@ -1,7 +1,6 @@
 -- `losses::short` meets its contract: the total is asked first, then special infantry.
 -- Assumes nothing.
 use mathlib.Core.Path.{sym, ◌∙◌}
-use borrow.Author.Tests.{not-false, not-true}
 use Rattle.aftermath.proofs.Losing.{short_need, short_special}
 use Rattle.losses.proofs.short.Goals as goal
 
@@ -9,10 +8,10 @@ pub enough-requires : goal.enough-requires
 enough-requires c = (c.requires.0, c.requires.1)
 
 pub returns-then-not-enough : goal.returns-then-not-enough
-returns-then-not-enough c = sym (short_need _ _ (sym c.enough.ensures ∙ not-true _ c.if-not-enough.true))
+returns-then-not-enough c = sym (short_need _ _ (sym c.enough.ensures ∙ c.if-not-enough.true))
 
 pub passed_over-requires : goal.passed_over-requires
 passed_over-requires c = c.requires.0
 
 pub returns : goal.returns
-returns c = c.passed_over.ensures ∙ sym (short_special _ _ (sym c.enough.ensures ∙ not-false _ c.if-not-enough.false))
+returns c = c.passed_over.ensures ∙ sym (short_special _ _ (sym c.enough.ensures ∙ c.if-not-enough.false))

@@ -33,5 +33,5 @@ returns c =
     let p = a.p.now in
     pass (lt-leb 3 (others (board p) a.u a.h) (omega (arith, c.if-others-ge3.false, c.others.ensures.is)))
     (ruled
-    (both_made p c.place.new.0 _ a.u a.h c.with.result (c.with.ensures ∙ ap (with moved) c.marks-marks.ensures.is) c.place.ensures
+    (both_made p c.place.new.p _ a.u a.h c.with.result (c.with.ensures ∙ ap (with moved) c.marks-marks.ensures.is) c.place.ensures
     c.mark.ensures))

@@ -11,17 +11,11 @@ use Rattle.march.proofs.Moves.{forbidden_type, forbidden_mark}
 use Rattle.moving.proofs.forbidden.Goals as goal
 
 -- the answer for the unit's type
-asked : (c : goal.After-moves_in) →
-    let a = c.args in
-    let b = board a.p.now in
-    c.moves_in.result ≡ moves_in b.desk.clock.phase (b.units.counter.kind a.u)
-asked c = c.moves_in.ensures ∙ ap₂ moves_in c.phase.ensures.is c.kind.ensures.is
-
 pub returns-then-not-moves_in : goal.returns-then-not-moves_in
-returns-then-not-moves_in c = sym (forbidden_type _ _ (sym (asked c.before) ∙ not-true _ c.if-not-moves_in.true))
+returns-then-not-moves_in c = sym (forbidden_type _ _ (sym (c.moves_in.ensures ∙ ap₂ moves_in c.phase.ensures.is c.kind.ensures.is) ∙ c.if-not-moves_in.true))
 
 pub returns : goal.returns
 returns c =
     c.has.ensures
     ∙ ap (has moved) c.marks.ensures.is
-    ∙ sym (forbidden_mark _ _ (holds (asked c.before.before.before) c.if-not-moves_in.false))
+    ∙ sym (forbidden_mark _ _ (holds (c.moves_in.ensures ∙ ap₂ moves_in c.phase.ensures.is c.kind.ensures.is) c.if-not-moves_in.false))

@@ -17,24 +17,15 @@ use Rattle.march.proofs.Judging.{path_through}
 use Rattle.moving.proofs.judge_move.Goals as goal
 
 -- the tests passed so far: of the lengths and numbers, along the path, and of the time
-fits : (c : goal.Else-long-gt30) → not (path_length c.args.path.now) ≡ false
-fits c = ap not (path_fits _ (omega arith) (omega arith))
-
-there : (c : goal.Else-count-u) →
-    let a = c.args in
-    leb (board a.p.now).units.count a.u ≡ false
-there c =
-    let a = c.args in
-    lt-leb (board a.p.now).units.count a.u (omega arith)
-
 to_map : (c : goal.In_default) →
     let a = c.args in
     Passes a.p.now
     (λ v. refuse_if (not (path_length a.path.now)) 3 0
     (refuse_if (leb (board a.p.now).units.count a.u) 3 0 (on_map_all (board a.p.now) a.path.now v)))
 to_map c l v a q m w =
-    pass (fits c.before.before.before.before)
-    (pass (there c.before.before.before) ((subst (TestedOf _ _ _) c.in_default.is c.on_map_all.ensures).0 l v a q m w))
+    pass (ap not (path_fits _ (omega arith) (omega arith)))
+    (pass (let a = c.args in
+    lt-leb (board a.p.now).units.count a.u (omega arith)) ((subst (TestedOf _ _ _) c.in_default.is c.on_map_all.ensures).0 l v a q m w))
 
 to-now : (c : goal.Else-not-may_move_now) →
     let a = c.args in
@@ -43,7 +34,7 @@ to-now : (c : goal.Else-not-may_move_now) →
     (refuse_if (leb (board a.p.now).units.count a.u) 3 0
     (on_map_all (board a.p.now) a.path.now (refuse_if (not (may_move_now (board a.p.now))) 2 0 v))))
 to-now c l v a q m w =
-    to_map c.before.before l _ a q m (pass (sym (ap not c.may_move_now.ensures) ∙ c.if-not-may_move_now.false) w)
+    to_map c.before.before l _ a q m (pass (ap not (sym c.may_move_now.ensures ∙ c.if-not-may_move_now.false)) w)
 
 pub returns-then-long-lt1 : goal.returns-then-long-lt1
 unfolding move_checks
@@ -57,7 +48,7 @@ pub returns-then-count-u : goal.returns-then-count-u
 unfolding move_checks
 returns-then-count-u c =
     let a = c.args in
-    λ l v. pass (fits c.before) (stop (le-leb (board a.p.now).units.count a.u (omega arith)))
+    λ l v. pass (ap not (path_fits _ (omega arith) (omega arith))) (stop (le-leb (board a.p.now).units.count a.u (omega arith)))
 
 pub on_map_all-requires : goal.on_map_all-requires
 on_map_all-requires c = (c.requires, omega arith)
@@ -65,12 +56,13 @@ on_map_all-requires c = (c.requires, omega arith)
 pub returns-in-Stopped : goal.returns-in-Stopped
 unfolding move_checks
 returns-in-Stopped c =
-    λ l v. pass (fits c.before.before.before.before.before) (pass (there c.before.before.before.before) (subst (TestedOf _ _ _) c.in-Stopped.is c.on_map_all.ensures l _))
+    λ l v. pass (ap not (path_fits _ (omega arith) (omega arith))) (pass (let a = c.args in
+    lt-leb (board a.p.now).units.count a.u (omega arith)) (subst (TestedOf _ _ _) c.in-Stopped.is c.on_map_all.ensures l _))
 
 pub returns-then-not-may_move_now : goal.returns-then-not-may_move_now
 unfolding move_checks
 returns-then-not-may_move_now c =
-    λ l v. to_map c.before.before l _ _ _ _ (stop (sym (ap not c.may_move_now.ensures) ∙ c.if-not-may_move_now.true))
+    λ l v. to_map c.before.before l _ _ _ _ (stop (ap not (sym c.may_move_now.ensures ∙ c.if-not-may_move_now.true)))
 
 pub returns-then-not_phasing : goal.returns-then-not_phasing
 unfolding move_checks

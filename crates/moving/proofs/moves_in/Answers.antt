@@ -8,7 +8,7 @@ use Rattle.march.proofs.Moves.{moves_not, moves_second, moves_other}
 use Rattle.moving.proofs.moves_in.Goals as goal
 
 pub returns-then-not-moves_by_land : goal.returns-then-not-moves_by_land
-returns-then-not-moves_by_land c = sym (moves_not _ _ (sym c.moves_by_land.ensures ∙ not-true _ c.if-not-moves_by_land.true))
+returns-then-not-moves_by_land c = sym (moves_not _ _ (sym c.moves_by_land.ensures ∙ c.if-not-moves_by_land.true))
 
 pub returns-then-phase-eq-MECHANISED : goal.returns-then-phase-eq-MECHANISED
 returns-then-phase-eq-MECHANISED c =

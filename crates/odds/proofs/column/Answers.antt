@@ -11,6 +11,7 @@ use Rattle.position.specs.Board.{results}
 use Rattle.odds.proofs.Columns.{Highest, highest_all, highest_hit, highest_miss, highest_none}
 use Rattle.odds.specs.Odds.{column, last, reached}
 use Rattle.odds.proofs.column.Goals as goal
+use Rattle.odds.proofs.column.Goals.{then-reached, else-reached}
 
 pub loop-c-init : goal.loop-c-init
 loop-c-init c = highest_none
@@ -19,10 +20,10 @@ pub loop-c-preserved : goal.loop-c-preserved
 loop-c-preserved c =
     let o = c.loop-c.invariant in
     let e = c.reached.ensures in
-    ⊎_elim
-    (λ w. highest_hit o (omega arith) (sym e ∙ w.0.taken) w.1)
-    (λ w. highest_miss o (omega arith) (sym e ∙ w.0.left) w.1)
-    c.if-reached.branch
+    elim c.if-reached.branch [
+      then-reached w ↦ highest_hit o (omega arith) (sym e ∙ w.if-reached.true) w.last-is
+    | else-reached w ↦ highest_miss o (omega arith) (sym e ∙ w.if-reached.false) w.last-is
+    ]
 
 pub returns : goal.returns
 unfolding column

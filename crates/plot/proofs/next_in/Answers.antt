@@ -1,7 +1,6 @@
 use Rattle.plot.proofs.Plots.{next_open, next_shut}
 use Rattle.position.specs.Bits.{has}
 use mathlib.Core.Path.{sym, ap₂, ◌∙◌}
-use borrow.Author.Rules.{rules}
 use Rattle.plot.proofs.next_in.Goals as goal
 
 -- src/lib.rt:59:9

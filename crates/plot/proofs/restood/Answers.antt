@@ -1,7 +1,6 @@
 use Rattle.plot.specs.Plot.{restood}
 use mathlib.Core.Path.{refl}
 use native.Mathlib.Omega.{arith}
-use borrow.Author.Rules.{rules}
 use Rattle.plot.proofs.restood.Goals as goal
 
 -- src/lib.rt:65:1

@@ -2,7 +2,6 @@ use Rattle.plot.specs.Plot.{restood}
 use Prim.Native.Nat.{ℕ}
 use mathlib.Core.Path.{ap, ◌∙◌}
 use Rattle.plot.proofs.Plots.{shift_is}
-use borrow.Author.Rules.{rules}
 use Rattle.plot.proofs.shift.Goals as goal
 
 -- src/lib.rt:73:1

@@ -1,6 +1,5 @@
 use Rattle.plot.proofs.Plots.{five}
 use native.Mathlib.Omega.{arith}
-use borrow.Author.Rules.{rules}
 use Rattle.plot.proofs.side_bit.Goals as goal
 
 -- src/lib.rt:39:1

@@ -2,7 +2,6 @@ use Rattle.plot.proofs.Plots.{stand_free, stand_loose, stand_shut}
 use Rattle.plot.specs.Plot.{stand_in}
 use mathlib.Core.Path.{sym}
 use native.Mathlib.Omega.{arith}
-use borrow.Author.Rules.{rules}
 use Rattle.plot.proofs.stand_in.Goals as goal
 
 -- src/lib.rt:30:9

@@ -10,7 +10,7 @@ pub takes_part-requires : goal.takes_part-requires
 takes_part-requires c = (c.requires.0, c.requires.1)
 
 pub returns-then-not-takes_part : goal.returns-then-not-takes_part
-returns-then-not-takes_part c = arms_none c.requires.3 (sym c.takes_part.ensures ∙ not-true _ c.if-not-takes_part.true)
+returns-then-not-takes_part c = arms_none c.requires.3 (sym c.takes_part.ensures ∙ c.if-not-takes_part.true)
 
 pub trace-requires : goal.trace-requires
 trace-requires c = (c.requires.0, c.requires.4)

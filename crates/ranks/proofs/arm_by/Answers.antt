@@ -12,6 +12,7 @@ use Rattle.position.specs.Board.{board}
 use Rattle.battle.proofs.Lines.{Arming, arming_all, arming_hit, arming_miss, arming_none, traced_as}
 use Rattle.battle.specs.Line.{strength_of}
 use Rattle.ranks.proofs.arm_by.Goals as goal
+use Rattle.ranks.proofs.arm_by.Goals.{then-nationality-nation, else-nationality-nation}
 
 pub loop-i-init : goal.loop-i-init
 loop-i-init c = arming_none c.requires.3
@@ -44,10 +45,10 @@ pub loop-i-preserved : goal.loop-i-preserved
 loop-i-preserved c =
     let b = board c.args.p.now in
     let e : c.nationality.result ≡ b.units.counter.nationality (get_or c.args.who.now c.loop-i.i 0) = c.nationality.ensures.is ∙ ap b.units.counter.nationality c.word-u.ensures.is in
-    ⊎_elim
-    (λ w. arming_hit c.requires.1 c.loop-i.invariant (omega arith) (sym e ∙ w.0.taken) (w.3.ensures.is ∙ ap₂ (strength_of b) c.word-u.ensures.is w.2.ensures.is) w.4)
-    (λ w. arming_miss c.requires.1 c.loop-i.invariant (omega arith) (λ z. w.0.left (e ∙ z)) w.1)
-    c.if-nationality-nation.branch
+    elim c.if-nationality-nation.branch [
+      then-nationality-nation w ↦ arming_hit c.requires.1 c.loop-i.invariant (omega arith) (sym e ∙ w.if-nationality-nation.true) (w.armed.ensures.is ∙ ap₂ (strength_of b) c.word-u.ensures.is w.wide.ensures.is) w.fighting-is
+    | else-nationality-nation w ↦ arming_miss c.requires.1 c.loop-i.invariant (omega arith) (λ z. w.if-nationality-nation.false (e ∙ z)) w.fighting-is
+    ]
 
 pub returns : goal.returns
 returns c = arming_all c.loop-i.invariant (omega arith)

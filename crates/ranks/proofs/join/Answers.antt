@@ -1,12 +1,12 @@
 -- `ranks::join` meets its contract. The loop's invariant: the units passed that stand there have joined. The measure is how many are left.
 -- Assumes nothing.
-use Prim.Native.Nat.{◌+◌, ◌-◌, ◌<◌, ◌≤◌}
+use Prim.Native.Nat.{ℕ, ◌+◌, ◌-◌, ◌<◌, ◌≤◌}
 use mathlib.Core.Logic.{⊎_elim}
-use mathlib.Core.Path.{◌∙◌, sym}
+use mathlib.Core.Path.{◌≡◌, ◌∙◌, sym}
 use native.Mathlib.Omega.{arith}
 use borrow.Author.Rules.{rules}
 use lib.ListN.{length}
-use Rattle.position.specs.Board.{board}
+use Rattle.position.specs.Board.{Board, board}
 use Rattle.field.proofs.Zones.{stands_here, stands_off}
 use Rattle.field.specs.Scene.{scene}
 use Rattle.field.specs.Zone.{stands_on}
@@ -15,18 +15,12 @@ use Rattle.field.specs.Listed.{sieve}
 use Rattle.results.specs.Participants.{defenders}
 use Rattle.line.specs.Line.{places}
 use Rattle.ranks.proofs.join.Goals as goal
+use Rattle.ranks.proofs.join.Goals.{then-hex-target, else-hex-target}
 
 -- there is room for all that stand there
-room : (c : goal.Start) →
-    let a = c.args in
-    a.m + length (sieve (stands_on (scene (board a.p.now)) a.target) a.v.count) ≤ places
+room : (b : Board) (target m n : ℕ) → n ≡ b.units.count → m + length (defenders b target) ≤ places → m + length (sieve (stands_on (scene b) target) n) ≤ places
 unfolding defenders
-room c = rw c.requires.0.view.count c.requires.1
-
--- so there is a place for the one at hand
-place : (c : goal.Then-hex-target) → c.loop-u.n < places
-place c =
-    joining_room c.loop-u.invariant (omega arith) (room c.before.before.before.before.before) (stands_here _ _ _ (sym c.hex.ensures.is ∙ c.if-hex-target.true))
+room b target m n e l = rw e l
 
 pub loop-u-init : goal.loop-u-init
 loop-u-init c = joining_none c.requires.2
@@ -35,20 +29,20 @@ pub overflow_cast-who : goal.overflow_cast-who
 overflow_cast-who c = omega (arith, c.requires.0.view.count, c.requires.0.shaped.count)
 
 pub offset_bounds-who-n : goal.offset_bounds-who-n
-offset_bounds-who-n c = omega (arith, place c)
+offset_bounds-who-n c = omega (arith, joining_room c.loop-u.invariant (omega arith) (room _ _ _ _ c.requires.0.view.count c.requires.1) (stands_here _ _ _ (sym c.hex.ensures.is ∙ c.if-hex-target.true)))
 
 pub bounds-who-n : goal.bounds-who-n
-bounds-who-n c = place c
+bounds-who-n c = joining_room c.loop-u.invariant (omega arith) (room _ _ _ _ c.requires.0.view.count c.requires.1) (stands_here _ _ _ (sym c.hex.ensures.is ∙ c.if-hex-target.true))
 
 pub overflow_add-n : goal.overflow_add-n
-overflow_add-n c = omega (arith, place c)
+overflow_add-n c = omega (arith, joining_room c.loop-u.invariant (omega arith) (room _ _ _ _ c.requires.0.view.count c.requires.1) (stands_here _ _ _ (sym c.hex.ensures.is ∙ c.if-hex-target.true)))
 
 pub loop-u-preserved : goal.loop-u-preserved
 loop-u-preserved c =
-    ⊎_elim
-    (λ w. joining_hit c.loop-u.invariant (omega arith) (room c.before.before.before.before.before) (stands_here _ _ _ (sym c.hex.ensures.is ∙ w.0.taken)) w.1 w.2)
-    (λ w. joining_miss c.loop-u.invariant (omega arith) (stands_off _ _ _ (λ e. w.0.left (c.hex.ensures.is ∙ e))) w.1 w.2)
-    c.if-hex-target.branch
+    elim c.if-hex-target.branch [
+      then-hex-target w ↦ joining_hit c.loop-u.invariant (omega arith) (room _ _ _ _ c.requires.0.view.count c.requires.1) (stands_here _ _ _ (sym c.hex.ensures.is ∙ w.if-hex-target.true)) w.who-is w.n-is
+    | else-hex-target w ↦ joining_miss c.loop-u.invariant (omega arith) (stands_off _ _ _ (λ e. w.if-hex-target.false (c.hex.ensures.is ∙ e))) w.who-is w.n-is
+    ]
 
 pub returns : goal.returns
 returns c = joins_all c.loop-u.invariant (omega arith) c.requires.0.view.count

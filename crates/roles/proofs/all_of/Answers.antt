@@ -9,9 +9,7 @@ use Rattle.position.specs.Layout.{role}
 use Rattle.position.specs.Board.{board, force_of}
 use Rattle.position.proofs.Answers.{said, unsaid, Passed, none_yet, one_more, all, not_all}
 use Rattle.roles.proofs.all_of.Goals as goal
-
-abbrev IsOf : List ℕ → ℕ → ℕ → ℕ → Type 0
-IsOf p r f u = role p u ≡ r → force_of (board p) u ≡ f
+use Rattle.roles.proofs.all_of.Invariants.{IsOf}
 
 pub loop-u-init : goal.loop-u-init
 loop-u-init c = none_yet

@@ -10,6 +10,9 @@ use Rattle.position.specs.Board.{board, force_of}
 use Rattle.position.proofs.Answers.{said, unsaid, Passed, none_yet, one_more, all, not_all}
 use Rattle.roles.proofs.all_of.Given as goal
 
+abbrev pub IsOf : List ℕ → ℕ → ℕ → ℕ → Type 0
+IsOf p r f u = role p u ≡ r → force_of (board p) u ≡ f
+
 abbrev pub invariant-loop-u : goal.invariant-loop-u
 invariant-loop-u l = Passed (IsOf l.p l.r l.f) l.u l.count
 

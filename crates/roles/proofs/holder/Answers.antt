@@ -8,9 +8,7 @@ use borrow.Author.Rules.{rules}
 use Rattle.position.specs.Layout.{role}
 use Rattle.position.proofs.Answers.{Passed, none_yet, one_more}
 use Rattle.roles.proofs.holder.Goals as goal
-
-abbrev Lacks : List ℕ → ℕ → ℕ → Type 0
-Lacks p r u = role p u ≡ r → ⊥
+use Rattle.roles.proofs.holder.Invariants.{Lacks}
 
 pub loop-u-init : goal.loop-u-init
 loop-u-init c = none_yet

@@ -9,6 +9,9 @@ use Rattle.position.specs.Layout.{role}
 use Rattle.position.proofs.Answers.{Passed, none_yet, one_more}
 use Rattle.roles.proofs.holder.Given as goal
 
+abbrev pub Lacks : List ℕ → ℕ → ℕ → Type 0
+Lacks p r u = role p u ≡ r → ⊥
+
 abbrev pub invariant-loop-u : goal.invariant-loop-u
 invariant-loop-u l = Passed (Lacks l.p l.r) l.u l.count
 

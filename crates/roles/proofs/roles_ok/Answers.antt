@@ -11,11 +11,14 @@ pub returns-then-not-one_force-2 : goal.returns-then-not-one_force-2
 returns-then-not-one_force-2 c = λ t. unsaid c.one_force-2.result c.if-not-one_force-2.true c.one_force-2.ensures t.advancing
 
 pub apart-requires : goal.apart-requires
-apart-requires c = record { laid = (
-        c.requires,
-        said c.one_force.result c.if-not-one_force.false c.one_force.ensures,
-        said c.one_force-2.result c.if-not-one_force-2.false c.one_force-2.ensures,
-      ); holder_of = (c.holder-u.ensures, c.holder-w.ensures) }
+apart-requires c = record {
+  laid = (
+    c.requires,
+    said c.one_force.result c.if-not-one_force.false c.one_force.ensures,
+    said c.one_force-2.result c.if-not-one_force-2.false c.one_force-2.ensures,
+  );
+  holder_of = (c.holder-u.ensures, c.holder-w.ensures);
+}
 
 pub returns-then-not-apart : goal.returns-then-not-apart
 returns-then-not-apart c = λ t. unsaid c.apart.result c.if-not-apart.true c.apart.ensures t.apart

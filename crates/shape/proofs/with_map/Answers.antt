@@ -23,12 +23,16 @@ returns-then-not-within-2 c =
     (carry (sym (c.wide-high.ensures.is ∙ height_is _ c.requires.0)) t.height)
 
 pub with_units-requires : goal.with_units-requires
-with_units-requires c = record { cols_value = c.requires; wide_value = (
-          c.wide-wide.ensures.is
-              ∙ width_is _ c.requires.0,
-          said c.within.result c.if-not-within.false c.within.ensures,
-        ); high_value = (
-          c.wide-high.ensures.is ∙ height_is _ c.requires.0,
-          said c.within-2.result c.if-not-within-2.false
-              c.within-2.ensures,
-        ) }
+with_units-requires c = record {
+  cols_value = c.requires;
+  wide_value = (
+    c.wide-wide.ensures.is
+        ∙ width_is _ c.requires.0,
+    said c.within.result c.if-not-within.false c.within.ensures,
+  );
+  high_value = (
+    c.wide-high.ensures.is ∙ height_is _ c.requires.0,
+    said c.within-2.result c.if-not-within-2.false
+        c.within-2.ensures,
+  );
+}

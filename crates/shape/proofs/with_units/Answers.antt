@@ -9,60 +9,58 @@ use Rattle.position.proofs.Answers.{carry}
 use Rattle.position.proofs.Shapes.{area, hexes_is, count_is, named_most}
 use Rattle.shape.proofs.with_units.Goals as goal
 
--- the product that the code makes
-sizes : (c : goal.Start) →
-    let a = c.args in
-    (a.wide * a.high ≡ hexes a.p.now) × (a.wide * a.high ≤ 4096)
-sizes c = (hexes_is _ c.requires.wide_value.0 c.requires.high_value.0, area c.requires.wide_value.1 c.requires.high_value.1)
-
--- the number that it reads behind the hexes
-counted : (c : goal.After-word-count) → c.word-count.result ≡ count c.args.p.now
-unfolding map_at units_at
-counted c = let s = sizes c.before.before.before in c.word-count.ensures.is ∙ count_is _ (omega arith)
-
 pub overflow_mul-hexes : goal.overflow_mul-hexes
-overflow_mul-hexes c = omega (arith, sizes c.before)
+overflow_mul-hexes c = omega (arith, hexes_is _ c.requires.wide_value.0 c.requires.high_value.0, area c.requires.wide_value.1 c.requires.high_value.1)
 
 pub overflow_mul-units-2 : goal.overflow_mul-units-2
-overflow_mul-units-2 c = omega (arith, sizes c.before)
+overflow_mul-units-2 c = omega (arith, hexes_is _ c.requires.wide_value.0 c.requires.high_value.0, area c.requires.wide_value.1 c.requires.high_value.1)
 
 pub overflow_add-units-4 : goal.overflow_add-units-4
-overflow_add-units-4 c = omega (arith, sizes c.before)
+overflow_add-units-4 c = omega (arith, hexes_is _ c.requires.wide_value.0 c.requires.high_value.0, area c.requires.wide_value.1 c.requires.high_value.1)
 
 pub overflow_add-units-5 : goal.overflow_add-units-5
-overflow_add-units-5 c = omega (arith, sizes c.before)
+overflow_add-units-5 c = omega (arith, hexes_is _ c.requires.wide_value.0 c.requires.high_value.0, area c.requires.wide_value.1 c.requires.high_value.1)
 
 pub returns-then-p-units : goal.returns-then-p-units
 unfolding map_at units_at desk_at
-returns-then-p-units c = λ t. omega (arith, sizes c.before.before)
+returns-then-p-units c = λ t. omega (arith, hexes_is _ c.requires.wide_value.0 c.requires.high_value.0, area c.requires.wide_value.1 c.requires.high_value.1)
 
 pub returns-then-count-gt-MOST_UNITS : goal.returns-then-count-gt-MOST_UNITS
-returns-then-count-gt-MOST_UNITS c = λ t. omega (arith, counted c.before)
+unfolding map_at units_at
+returns-then-count-gt-MOST_UNITS c =
+    let h = hexes_is _ c.requires.wide_value.0 c.requires.high_value.0 in
+    let n : c.word-count.result ≡ count c.args.p.now = c.word-count.ensures.is ∙ count_is _ (omega arith) in
+    λ t. omega arith
 
 pub overflow_add-desk-4 : goal.overflow_add-desk-4
 overflow_add-desk-4 c = omega (arith, named_most _ c.players_named-players.ensures)
 
 pub returns-then-p-desk : goal.returns-then-p-desk
 unfolding map_at units_at desk_at
-returns-then-p-desk c = λ t. omega (arith, sizes c.before.before.before.before.before.before, counted c.before.before.before)
+returns-then-p-desk c =
+    let h = hexes_is _ c.requires.wide_value.0 c.requires.high_value.0 in
+    let k = area c.requires.wide_value.1 c.requires.high_value.1 in
+    let n : c.word-count.result ≡ count c.args.p.now = c.word-count.ensures.is ∙ count_is _ (omega arith) in
+    λ t. omega arith
 
 pub returns : goal.returns
 unfolding map_at units_at desk_at
 returns c =
     let s = c.requires in
-    let z = sizes c.before.before.before.before.before.before in
-    let n = counted c.before.before.before in
+    let h = hexes_is _ c.requires.wide_value.0 c.requires.high_value.0 in
+    let k = area c.requires.wide_value.1 c.requires.high_value.1 in
+    let n : c.word-count.result ≡ count c.args.p.now = c.word-count.ensures.is ∙ count_is _ (omega arith) in
     record {
-      columns = carry s.0.0 s.0.1;
-      width = carry s.1.0.0 s.1.0.1;
-      height = carry s.1.1.0 s.1.1.1;
+      columns = carry s.cols_value.0 s.cols_value.1;
+      width = carry s.wide_value.0 s.wide_value.1;
+      height = carry s.high_value.0 s.high_value.1;
       count = omega arith;
       whole = omega arith;
       view = record {
-        width = s.1.0.0;
-        height = s.1.1.0;
-        hexes = z.0;
-        columns = s.0.0;
+        width = s.wide_value.0;
+        height = s.high_value.0;
+        hexes = h;
+        columns = s.cols_value.0;
         count = n;
         units = omega arith;
         desk = omega arith;
@@ -73,7 +71,7 @@ returns c =
         desk = omega arith;
         whole = omega arith;
         columns = omega arith;
-        hexes = z.1;
+        hexes = k;
         count = omega arith;
         players = named_most _ c.players_named-players.ensures;
       };

@@ -24,53 +24,21 @@ zone : (c : goal.Else-leaves) →
 zone c = sym c.requires.2 ∙ c.if-leaves.false
 
 -- has a direction,
-turned : (c : goal.Else-d-ge6) →
-    let a = c.args in
-    bearing (ground a.p.now) a.at a.x < 6
-turned c = omega (arith, c.if-d-ge6.false, c.bearing-d.ensures.is)
-
 -- and leads where a unit may stand
 way : (c : goal.Else-not-standable) →
     let a = c.args in
     no_step (board a.p.now) a.at a.x ≡ false
-way c = no_step_there _ _ _ (turned c.before.before) ∙ sym (ap not c.standable.ensures) ∙ c.if-not-standable.false
+way c = no_step_there _ _ _ (omega (arith, c.if-d-ge6.false, c.bearing-d.ensures.is)) ∙ ap not (sym c.standable.ensures ∙ c.if-not-standable.false)
 
 -- the marks of the hex are those for the unit's force: they tell of Enemies,
-seen : (c : goal.After-look-marks) →
-    let a = c.args in
-    Marked (scene (board a.p.now)) (force_of (board a.p.now) a.u) a.x c.look-marks.result
-seen c =
-    let a = c.args in
-    subst (λ (f : ℕ). Marked (scene (board a.p.now)) f a.x c.look-marks.result) c.force_of-f.ensures c.look-marks.ensures
-
 foe : (c : goal.After-has) →
     let a = c.args in
     holds_enemy (scene (board a.p.now)) (force_of (board a.p.now) a.u) a.x ≡ c.has.result
-foe c = sym (c.has.ensures ∙ marked_enemy (seen c.before))
+foe c = sym (c.has.ensures ∙ marked_enemy (let a = c.args in
+    subst (λ (f : ℕ). Marked (scene (board a.p.now)) f a.x c.look-marks.result) c.force_of-f.ensures c.look-marks.ensures))
 
 -- and of neutrals
-neither : (c : goal.After-neutral_there) →
-    let a = c.args in
-    holds_neutral (scene (board a.p.now)) (force_of (board a.p.now) a.u) a.x ≡ c.neutral_there.result
-neither c =
-    let a = c.args in
-    sym (c.neutral_there.ensures ∙ ap (λ (f : ℕ). holds_neutral (scene (board a.p.now)) f a.x) c.force_of-f.ensures)
-
 -- the tests before the last, passed
-open-way : (c : goal.Else-neutral_there) →
-    let a = c.args in
-    Open a.p.now (board a.p.now) a.u (leg a.at a.spent) a.x a.k
-
-open-way c =
-    let e = c.before.before in
-    let g = e.before.before.before.before in
-    record {
-      zone = zone g.before.before.before.before;
-      ground = way g;
-      foe = foe e.before ∙ e.if4.false;
-      neutral = neither c.before ∙ c.if5.false;
-    }
-
 total : (c : goal.After-step_cost) →
     let a = c.args in
     (after_step (board a.p.now) (leg a.at a.spent) a.x).spent ≡ a.spent + c.step_cost.result
@@ -89,11 +57,11 @@ returns-then-d-ge6 c =
 pub returns-then-not-standable : goal.returns-then-not-standable
 returns-then-not-standable c =
     stops_ground _ _ _ _ _ _ (zone c.before.before.before.before)
-    (no_step_there _ _ _ (turned c.before.before) ∙ sym (ap not c.standable.ensures) ∙ c.if-not-standable.true)
+    (no_step_there _ _ _ (omega (arith, c.if-d-ge6.false, c.bearing-d.ensures.is)) ∙ ap not (sym c.standable.ensures ∙ c.if-not-standable.true))
 
 pub look-marks-requires : goal.look-marks-requires
 look-marks-requires c =
-    (c.requires.0, next_in_lem c.requires.0.view _ _ _ (turned_next (board c.args.p.now) _ _ (turned c.before.before.before)))
+    (c.requires.0, next_in_lem c.requires.0.view _ _ _ (turned_next (board c.args.p.now) _ _ (omega (arith, c.if-d-ge6.false, c.bearing-d.ensures.is))))
 
 pub returns-then-has : goal.returns-then-has
 returns-then-has c =
@@ -102,19 +70,37 @@ returns-then-has c =
 pub returns-then-neutral_there : goal.returns-then-neutral_there
 returns-then-neutral_there c =
     stops_neutral _ _ _ _ _ _ (zone c.before.before.before.before.before.before.before.before.before.before) (way c.before.before.before.before.before.before) (foe c.before.before.before ∙ c.if-has.false)
-    (neither c.before ∙ c.if-neutral_there.true)
+    ((let a = c.args in
+    sym (c.neutral_there.ensures ∙ ap (λ (f : ℕ). holds_neutral (scene (board a.p.now)) f a.x) c.force_of-f.ensures)) ∙ c.if-neutral_there.true)
 
 pub returns-then-allowed-total : goal.returns-then-allowed-total
 returns-then-allowed-total c =
-    stops_spent _ _ _ _ _ _ (open-way c.before.before.before)
+    stops_spent _ _ _ _ _ _ (let e = c.before.before in
+    let g = e.before.before.before.before in
+    record {
+      zone = zone g.before.before.before.before;
+      ground = way g;
+      foe = foe e.before ∙ e.if4.false;
+      neutral = (let a = c.args in
+          sym (c.neutral_there.ensures ∙ ap (λ (f : ℕ). holds_neutral (scene (board a.p.now)) f a.x) c.force_of-f.ensures)) ∙ c.if5.false;
+    })
     (omega (arith, c.if-allowed-total.true, c.allowed.ensures.is, total c.before.before))
 
 pub returns : goal.returns
 returns c =
     let e = total c.before.before.before in
     record {
-      passes = passes_step _ _ _ _ _ _ (open-way c.before.before.before.before) (omega (arith, c.if-allowed-total.false, c.allowed.ensures.is, e));
+      passes = passes_step _ _ _ _ _ _ (let e = c.before.before in
+          let g = e.before.before.before.before in
+          record {
+            zone = zone g.before.before.before.before;
+            ground = way g;
+            foe = foe e.before ∙ e.if4.false;
+            neutral = (let a = c.args in
+                sym (c.neutral_there.ensures ∙ ap (λ (f : ℕ). holds_neutral (scene (board a.p.now)) f a.x) c.force_of-f.ensures)) ∙ c.if5.false;
+          }) (omega (arith, c.if-allowed-total.false, c.allowed.ensures.is, e));
       is = sym e;
       small = omega (arith, c.if-allowed-total.false, c.allowed.ensures.small);
-      enters = c.has-2.ensures ∙ marked_zone (seen c.before.before.before.before.before.before.before.before);
+      enters = c.has-2.ensures ∙ marked_zone (let a = c.args in
+          subst (λ (f : ℕ). Marked (scene (board a.p.now)) f a.x c.look-marks.result) c.force_of-f.ensures c.look-marks.ensures);
     }

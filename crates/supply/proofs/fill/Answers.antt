@@ -8,7 +8,7 @@ use Rattle.supply.proofs.Supplies.{graded_list, graded, walked_map}
 use Rattle.supply.proofs.fill.Goals as goal
 
 pub walk-requires : goal.walk-requires
-walk-requires c = let l = c.requires.0 in  record { laid = l; graded = graded (sym l.view.hexes) c.grades.ensures }
+walk-requires c = let l = c.requires.0 in record { laid = l; graded = graded (sym l.view.hexes) c.grades.ensures }
 
 pub returns : goal.returns
 returns c = let a = c.args in walked_map (scene (board a.p.now)) a.n (graded_list c.grades.ensures) c.walk.ensures

@@ -9,7 +9,7 @@ use Rattle.supply.proofs.Supplies.{graded, traced}
 use Rattle.supply.proofs.retrace.Goals as goal
 
 pub reach-requires : goal.reach-requires
-reach-requires c = let l = c.requires.0 in  record { laid = l; graded = graded (sym l.view.hexes) c.regrade.ensures }
+reach-requires c = let l = c.requires.0 in record { laid = l; graded = graded (sym l.view.hexes) c.regrade.ensures }
 
 pub returns : goal.returns
 returns c = let a = c.args in traced (scene (board a.p.now)) canada c.regrade.ensures c.reach.ensures

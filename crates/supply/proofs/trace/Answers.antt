@@ -8,7 +8,7 @@ use Rattle.supply.proofs.Supplies.{graded, traced}
 use Rattle.supply.proofs.trace.Goals as goal
 
 pub reach-requires : goal.reach-requires
-reach-requires c = let l = c.requires.0 in  record { laid = l; graded = graded (sym l.view.hexes) c.grades.ensures }
+reach-requires c = let l = c.requires.0 in record { laid = l; graded = graded (sym l.view.hexes) c.grades.ensures }
 
 pub returns : goal.returns
 returns c = let a = c.args in traced (scene (board a.p.now)) a.n c.grades.ensures c.reach.ensures

@@ -20,4 +20,4 @@ bounds-buf-at-2 c = spot_in c.args.buf.now c.requires.laid.0.view c.requires.lai
 
 pub returns : goal.returns
 unfolding mark
-returns c = swept_join _ _ c.if-buf-at-ne1.false (c.from_east.ensures (not-false _ c.if-not-from_east.false))
+returns c = swept_join _ _ c.if-buf-at-ne1.false (c.from_east.ensures c.if-not-from_east.false)

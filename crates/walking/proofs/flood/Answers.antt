@@ -33,7 +33,7 @@ step-requires c =
     let g = two_way (ground c.args.p.now) in
     let a = c.loop-t in
     let size = a.invariant.0.same ∙ (length-set c.args.buf.now c.args.start.hex 56 ∙ c.requires.buf_len) in
-     record { laid = (c.requires.laid.0, a.invariant.2); buf_len = size; ready = way_ready g a.buf a.s.hex a.from a.invariant.1 }
+    record { laid = (c.requires.laid.0, a.invariant.2); buf_len = size; ready = way_ready g a.buf a.s.hex a.from a.invariant.1 }
 
 pub returns-in_default : goal.returns-in_default
 returns-in_default c =

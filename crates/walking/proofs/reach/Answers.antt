@@ -18,7 +18,7 @@ pub returns-then-not-some : goal.returns-then-not-some
 returns-then-not-some c =
     let g = two_way (ground c.args.p.now) in
     let most = c.requires.graded.grades in
-    walked g most (swept_none _) (seeded_sourceless (graded_rest _ most) c.requires.graded.size (c.some.ensures (not-true _ c.if-not-some.true)))
+    walked g most (swept_none _) (seeded_sourceless (graded_rest _ most) c.requires.graded.size (c.some.ensures c.if-not-some.true))
 
 pub down-requires : goal.down-requires
 down-requires c = (c.requires.laid, c.requires.graded.size)
@@ -31,7 +31,7 @@ returns-then-not-some-2 c =
     let g = two_way (ground c.args.p.now) in
     let most = c.requires.graded.grades in
     let w = c.down.ensures in
-    walked g most w (seeded_full (graded_rest _ (swept_grades w most)) (w.same ∙ c.requires.graded.size) (c.some-2.ensures (not-true _ c.if-not-some-2.true)))
+    walked g most w (seeded_full (graded_rest _ (swept_grades w most)) (w.same ∙ c.requires.graded.size) (c.some-2.ensures c.if-not-some-2.true))
 
 pub up-requires : goal.up-requires
 up-requires c = (c.requires.laid, c.down.ensures.same ∙ c.requires.graded.size)
@@ -39,7 +39,7 @@ up-requires c = (c.requires.laid, c.down.ensures.same ∙ c.requires.graded.size
 pub seeds-requires : goal.seeds-requires
 seeds-requires c =
     let w = swept_trans c.down.ensures c.up.ensures in
-     record { laid = (c.requires.laid, w.same ∙ c.requires.graded.size); rest = graded_rest _ (swept_grades w c.requires.graded.grades) }
+    record { laid = (c.requires.laid, w.same ∙ c.requires.graded.size); rest = graded_rest _ (swept_grades w c.requires.graded.grades) }
 
 pub returns : goal.returns
 returns c =

@@ -19,7 +19,7 @@ joinable-requires c = let s = c.requires.laid in (map_on s.0, s.1 ∙ area_view 
 pub returns-then-not-joinable : goal.returns-then-not-joinable
 returns-then-not-joinable c =
     let s = c.requires in
-    sown_none s.1 (λ k p q. apart_next s.0.0.view k (c.joinable.ensures (not-true _ c.if-not-joinable.true) k p q))
+    sown_none s.rest (λ k p q. apart_next s.laid.0.view k (c.joinable.ensures c.if-not-joinable.true k p q))
 
 pub loop-c-init : goal.loop-c-init
 loop-c-init c = sown_none c.requires.rest (λ k p q. absurd (omega arith))
@@ -31,7 +31,7 @@ pub seed-requires : goal.seed-requires
 seed-requires c =
     let s = c.requires.laid in
     let a = c.loop-c.invariant in
-     record { laid = (s.0, c.spot.ensures.0); buf_len = a.kept.same ∙ s.1; rest = a.rest }
+    record { laid = (s.0, c.spot.ensures.0); buf_len = a.kept.same ∙ s.1; rest = a.rest }
 
 pub loop-c-preserved : goal.loop-c-preserved
 loop-c-preserved c = let e = c.spot.ensures.1 in sown_on (omega arith) (omega arith) c.loop-c.invariant c.seed.ensures

@@ -16,7 +16,7 @@ pub loop-row-init : goal.loop-row-init
 loop-row-init c = sown_none c.requires.rest (λ k p q. absurd (omega arith))
 
 pub seed_row-requires : goal.seed_row-requires
-seed_row-requires c = let s = c.requires.laid in  record { laid = (s.0, c.loop-row.invariant.kept.same ∙ s.1, c.loop-row-test.true); rest = c.loop-row.invariant.rest }
+seed_row-requires c = let s = c.requires.laid in record { laid = (s.0, c.loop-row.invariant.kept.same ∙ s.1, c.loop-row-test.true); rest = c.loop-row.invariant.rest }
 
 pub loop-row-preserved : goal.loop-row-preserved
 loop-row-preserved c = let z = row_next c.loop-row.row c.args.v.width in sown_on (omega arith) (omega arith) c.loop-row.invariant c.seed_row.ensures

@@ -11,13 +11,8 @@ use Rattle.position.proofs.Answers.{holds}
 use Rattle.attacking.proofs.asking.cannot_attack.Goals as goal
 
 -- the answer for the unit's type
-asked : (c : goal.After-may_attack) →
-    let a = c.args in
-    c.may_attack.result ≡ may_attack ((board a.p.now).units.counter.kind a.u)
-asked c = c.may_attack.ensures ∙ ap may_attack c.kind.ensures.is
-
 pub returns-then-not-may_attack : goal.returns-then-not-may_attack
-returns-then-not-may_attack c = sym (cannot_type _ _ (sym (asked c.before) ∙ not-true _ c.if-not-may_attack.true))
+returns-then-not-may_attack c = sym (cannot_type _ _ (sym (c.may_attack.ensures ∙ ap may_attack c.kind.ensures.is) ∙ c.if-not-may_attack.true))
 
 pub returns : goal.returns
-returns c = c.has.ensures ∙ ap (has fought) c.marks.ensures.is ∙ sym (cannot_mark _ _ (holds (asked c.before.before.before) c.if-not-may_attack.false))
+returns c = c.has.ensures ∙ ap (has fought) c.marks.ensures.is ∙ sym (cannot_mark _ _ (holds (c.may_attack.ensures ∙ ap may_attack c.kind.ensures.is) c.if-not-may_attack.false))

@@ -15,23 +15,6 @@ use Rattle.battle.proofs.Asks.{die_fits_lem, die_high, die_low}
 use Rattle.battle.specs.Attack.{die_fits, in_range}
 use Rattle.attacking.proofs.asking.in_range.Goals as goal
 
--- the tests passed so far: of the list's length, the scratch's, the target and the die
-short : (c : goal.Else-units-gt18) → not (list_length c.args.units.now) ≡ false
-short c = ap not (list_fits _ (omega arith) (omega arith))
-
-lent : (c : goal.Else-long-hexes) → not (eqb c.args.long (board c.args.p.now).map.hexes) ≡ false
-lent c = own_length (c.if-long-hexes.false ∙ c.requires.view.hexes)
-
-aimed : (c : goal.Else-hexes-target) →
-    let a = c.args in
-    leb (board a.p.now).map.hexes a.target ≡ false
-aimed c =
-    let a = c.args in
-    lt-leb (board a.p.now).map.hexes a.target (omega arith)
-
-thrown : (c : goal.Else-die-gt-DIE_FACES) → not (die_fits c.args.die) ≡ false
-thrown c = ap not (die_fits_lem _ (omega arith) (omega arith))
-
 pub returns-then-units-lt1 : goal.returns-then-units-lt1
 unfolding in_range
 returns-then-units-lt1 c = λ l v. stop (ap not (list_short _ c.if-units-lt1.true))
@@ -42,22 +25,22 @@ returns-then-units-gt18 c = λ l v. stop (ap not (list_long _ c.if-units-gt18.tr
 
 pub returns-then-long-hexes : goal.returns-then-long-hexes
 unfolding in_range
-returns-then-long-hexes c = λ l v. pass (short c.before) (stop (other_length (λ e. c.if-long-hexes.true (e ∙ sym c.requires.view.hexes))))
+returns-then-long-hexes c = λ l v. pass (ap not (list_fits _ (omega arith) (omega arith))) (stop (other_length (λ e. c.if-long-hexes.true (e ∙ sym c.requires.view.hexes))))
 
 pub returns-then-hexes-target : goal.returns-then-hexes-target
 unfolding in_range
 returns-then-hexes-target c =
     let a = c.args in
-    λ l v. pass (short c.before.before) (pass (lent c.before) (stop (le-leb (board a.p.now).map.hexes a.target (omega arith))))
+    λ l v. pass (ap not (list_fits _ (omega arith) (omega arith))) (pass (own_length (c.if-long-hexes.false ∙ c.requires.view.hexes)) (stop (le-leb (board a.p.now).map.hexes a.target (omega arith))))
 
 pub returns-then-die-lt1 : goal.returns-then-die-lt1
 unfolding in_range
-returns-then-die-lt1 c = λ l v. pass (short c.before.before.before) (pass (lent c.before.before) (pass (aimed c.before) (stop (ap not (die_low _ c.if-die-lt1.true)))))
+returns-then-die-lt1 c = λ l v. pass (ap not (list_fits _ (omega arith) (omega arith))) (pass (own_length (c.if-long-hexes.false ∙ c.requires.view.hexes)) (pass (lt-leb (board c.args.p.now).map.hexes c.args.target (omega arith)) (stop (ap not (die_low _ c.if-die-lt1.true)))))
 
 pub returns-then-die-gt-DIE_FACES : goal.returns-then-die-gt-DIE_FACES
 unfolding in_range
 returns-then-die-gt-DIE_FACES c =
-    λ l v. pass (short c.before.before.before.before) (pass (lent c.before.before.before) (pass (aimed c.before.before) (stop (ap not (die_high _ c.if-die-gt-DIE_FACES.true)))))
+    λ l v. pass (ap not (list_fits _ (omega arith) (omega arith))) (pass (own_length (c.if-long-hexes.false ∙ c.requires.view.hexes)) (pass (lt-leb (board c.args.p.now).map.hexes c.args.target (omega arith)) (stop (ap not (die_high _ c.if-die-gt-DIE_FACES.true)))))
 
 pub all_there-requires : goal.all_there-requires
 all_there-requires c = (c.requires, omega arith)
@@ -67,7 +50,7 @@ unfolding in_range
 returns c =
     let e = c.requires.view.hexes in
     tested_through
-    (λ l v a q m w. pass (short c.before.before.before.before.before) (pass (lent c.before.before.before.before) (pass (aimed c.before.before.before) (pass (thrown c.before) w))))
+    (λ l v a q m w. pass (ap not (list_fits _ (omega arith) (omega arith))) (pass (own_length (c.if-long-hexes.false ∙ c.requires.view.hexes)) (pass (lt-leb (board c.args.p.now).map.hexes c.args.target (omega arith)) (pass (ap not (die_fits_lem _ (omega arith) (omega arith))) w))))
     (λ n. record { some = omega arith; most = omega arith; scratch = omega arith; aimed = omega arith; counted = n })
     c.all_there.result
     c.all_there.ensures

@@ -12,12 +12,6 @@ use Rattle.battle.specs.Attack.{attack_checks, in_range}
 use Rattle.attacking.proofs.asking.judge_attack.Goals as goal
 
 -- the tests passed so far: refusal 3, and then the time
-ranged : (c : goal.In_default) →
-    let a = c.args in
-    Passes a.p.now (in_range (board a.p.now) a.target a.units.now a.die a.long)
-    × InRange (board a.p.now) a.target a.units.now a.long
-ranged c = subst (TestedOf _ _ _) c.in_default.is c.in_range.ensures
-
 pub in_range-requires : goal.in_range-requires
 in_range-requires c = c.requires
 
@@ -27,26 +21,26 @@ returns-in-Stopped c = λ l v. subst (TestedOf _ _ _) c.in-Stopped.is c.in_range
 
 pub returns-then-not-may_attack_now : goal.returns-then-not-may_attack_now
 unfolding attack_checks
-returns-then-not-may_attack_now c = λ l v. (ranged c.before.before).0 l _ _ _ _ (stop (sym (ap not c.may_attack_now.ensures) ∙ c.if-not-may_attack_now.true))
+returns-then-not-may_attack_now c = λ l v. (subst (TestedOf _ _ _) c.in_default.is c.in_range.ensures).0 l _ _ _ _ (stop (ap not (sym c.may_attack_now.ensures ∙ c.if-not-may_attack_now.true)))
 
 pub returns-then-no_target : goal.returns-then-no_target
 unfolding attack_checks
 returns-then-no_target c =
     λ l v.
-    (ranged c.before.before.before.before).0 l _ _ _ _
-    (pass (sym (ap not c.may_attack_now.ensures) ∙ c.if-not-may_attack_now.false) (stop (sym c.no_target.ensures ∙ c.if-no_target.true)))
+    (subst (TestedOf _ _ _) c.in_default.is c.in_range.ensures).0 l _ _ _ _
+    (pass (ap not (sym c.may_attack_now.ensures ∙ c.if-not-may_attack_now.false)) (stop (sym c.no_target.ensures ∙ c.if-no_target.true)))
 
 pub attackers-requires : goal.attackers-requires
-attackers-requires c = (c.requires, (ranged c.before.before.before.before).1.most)
+attackers-requires c = (c.requires, (subst (TestedOf _ _ _) c.in_default.is c.in_range.ensures).1.most)
 
 pub returns : goal.returns
 unfolding attack_checks
 returns c =
-    let k = ranged c.before.before.before.before.before in
+    let k = (subst (TestedOf _ _ _) c.in_default.is c.in_range.ensures) in
     tested_through
     (λ l v a q m w.
     k.0 l _ a q m
-    (pass (sym (ap not c.may_attack_now.ensures) ∙ c.if-not-may_attack_now.false) (pass (sym c.no_target.ensures ∙ c.if-no_target.false) w)))
+    (pass (ap not (sym c.may_attack_now.ensures ∙ c.if-not-may_attack_now.false)) (pass (sym c.no_target.ensures ∙ c.if-no_target.false) w)))
     (λ n. record { range = k.1; able = n })
     c.attackers.result
     c.attackers.ensures

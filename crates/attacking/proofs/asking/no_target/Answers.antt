@@ -11,15 +11,10 @@ use Rattle.battle.proofs.Asks.{target_empty, target_held}
 use Rattle.attacking.proofs.asking.no_target.Goals as goal
 
 -- whether an Enemy stands there
-held : (c : goal.After-holds_enemy) →
-    let a = c.args in
-    holds_enemy (scene (board a.p.now)) (board a.p.now).desk.clock.force a.target ≡ c.holds_enemy.result
-held c =
-    let a = c.args in
-    sym (c.holds_enemy.ensures ∙ ap (λ (f : ℕ). holds_enemy (scene (board a.p.now)) f a.target) c.phasing.ensures.is)
-
 pub returns-then-not-holds_enemy : goal.returns-then-not-holds_enemy
-returns-then-not-holds_enemy c = sym (target_empty _ _ (held c.before ∙ not-true _ c.if-not-holds_enemy.true))
+returns-then-not-holds_enemy c = sym (target_empty _ _ ((let a = c.args in
+    sym (c.holds_enemy.ensures ∙ ap (λ (f : ℕ). holds_enemy (scene (board a.p.now)) f a.target) c.phasing.ensures.is)) ∙ c.if-not-holds_enemy.true))
 
 pub returns : goal.returns
-returns c = c.any_fought.ensures ∙ sym (target_held _ _ (held c.before.before ∙ not-false _ c.if-not-holds_enemy.false))
+returns c = c.any_fought.ensures ∙ sym (target_held _ _ ((let a = c.args in
+    sym (c.holds_enemy.ensures ∙ ap (λ (f : ℕ). holds_enemy (scene (board a.p.now)) f a.target) c.phasing.ensures.is)) ∙ c.if-not-holds_enemy.false))

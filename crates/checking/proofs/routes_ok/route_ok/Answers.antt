@@ -1,7 +1,6 @@
 -- `routes_ok::route_ok` meets its contract: the numbers are asked for, and the next route where this one is not filled.
 -- Assumes nothing.
 use mathlib.Core.Path.{sym, ◌∙◌}
-use borrow.Author.Rules.{rules}
 use Rattle.position.proofs.Answers.{said, unsaid}
 use Rattle.position.proofs.Tallies.{not_both}
 use Rattle.checking.proofs.routes_ok.route_ok.Goals as goal

@@ -1,12 +1,7 @@
 -- `routes_ok::routes_ok` meets its contract. The loop's invariant: every route before r is as it should be.
 -- Assumes nothing.
-use Prim.Native.Nat.{◌-◌}
 use native.Mathlib.Omega.{arith}
-use borrow.Author.Rules.{rules}
-use Rattle.acceptance.specs.Accepted.{RouteOk}
-use Rattle.position.specs.Layout.{route_count}
-use Rattle.position.specs.Board.{board}
-use Rattle.position.proofs.Answers.{said, unsaid, Passed, none_yet, one_more, all, not_all}
+use Rattle.position.proofs.Answers.{said, unsaid, none_yet, one_more, all, not_all}
 use Rattle.checking.proofs.routes_ok.routes_ok.Goals as goal
 
 pub loop-r-init : goal.loop-r-init

@@ -15,5 +15,5 @@ pub returns : goal.returns
 unfolding half
 returns c =
     let a = c.args in
-    let e = working_half (board a.p.now) a.u a.in-supply a.n c.if-in_supply.false in
+    let e = working_half (board a.p.now) a.u a.in_supply a.n c.if-in_supply.false in
     record { is = omega arith; small = omega arith }

@@ -3,7 +3,6 @@
 use Prim.Native.Nat.{◌+◌, ◌-◌}
 use mathlib.Core.Path.{◌≡◌, ap, ◌∙◌}
 use native.Mathlib.Omega.{arith}
-use borrow.Author.Rules.{rules}
 use Rattle.plot.specs.Ends.{bit_of}
 use Rattle.plot.proofs.Marking.{bit_low, bit_side}
 use Rattle.plot.proofs.chain.bit.Goals as goal

@@ -1,7 +1,6 @@
 use Rattle.plot.proofs.Ends.{end_before, end_after, end_read}
 use mathlib.Core.Path.{sym}
 use native.Mathlib.Omega.{arith}
-use borrow.Author.Rules.{rules}
 use Rattle.plot.proofs.chain.ends_in.Goals as goal
 
 -- src/chain.rt:144:9

@@ -1,7 +1,6 @@
 -- `chain::is_marked` meets its contract.
 -- Assumes nothing.
 use native.Mathlib.Omega.{arith}
-use borrow.Author.Rules.{rules}
 use Rattle.plot.proofs.Marking.{mark_read}
 use Rattle.plot.proofs.chain.is_marked.Goals as goal
 

@@ -1,7 +1,6 @@
 -- `plot::chain::longer` meets its contract.
 -- Assumes nothing.
 use mathlib.Core.Path.{refl}
-use borrow.Author.Rules.{rules}
 use Rattle.plot.proofs.Trails.{longer_is, longer_ok}
 use Rattle.plot.proofs.chain.longer.Goals as goal
 

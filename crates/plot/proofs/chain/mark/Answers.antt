@@ -2,7 +2,6 @@
 -- Assumes nothing.
 use mathlib.Core.Path.{sym, ◌∙◌}
 use native.Mathlib.Omega.{arith}
-use borrow.Author.Rules.{rules}
 use Rattle.plot.proofs.Marking.{mark_known, mark_fits, mark_set}
 use Rattle.plot.proofs.chain.mark.Goals as goal
 

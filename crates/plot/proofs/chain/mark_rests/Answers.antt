@@ -1,15 +1,10 @@
-use Rattle.plot.proofs.Ends.{close_step, up_to, upto_none, upto_skip, upto_all, upto_rest, upto_stay, rest_at, rest_off, rest_all_lem}
+use Rattle.plot.proofs.Ends.{close_step, upto_none, upto_skip, upto_all, upto_rest, upto_stay, rest_off, rest_all_lem}
 use Rattle.plot.proofs.Plots.{next_below}
-use Rattle.plot.specs.Ends.{Close, MarkSet, Marks}
-use Rattle.plot.specs.Trail.{trail_of}
-use Rattle.plot.specs.Plot.{stand_in, next_in}
-use mathlib.Core.List.{◌∷◌}
-use mathlib.Core.Logic.{⊎_elim}
+use Rattle.plot.specs.Ends.{MarkSet}
 use mathlib.Core.Path.{sym, subst, ◌∙◌}
-use Prim.Native.Nat.{◌-◌, ◌≤◌}
-use borrow.Author.Rules.{rules}
 use native.Mathlib.Omega.{arith}
 use Rattle.plot.proofs.chain.mark_rests.Goals as goal
+use Rattle.plot.proofs.chain.mark_rests.Goals.{then-rests, else-rests}
 
 -- src/chain.rt:104:5
 pub loop-d-init : goal.loop-d-init
@@ -24,18 +19,15 @@ pub rests-requires : goal.rests-requires
 rests-requires c = (c.requires.0, next_below _ _ _ _ (sym c.next_in.ensures ∙ c.in-At.is))
 
 -- the place at hand is close
-z-close : (c : goal.After-rests) → Close c.args.x c.in-At.z 3
-z-close c = close_step _ _ _ _ (sym c.next_in.ensures ∙ c.in-At.is) c.requires.3
-
 pub overflow_add-z : goal.overflow_add-z
-overflow_add-z c = let k = z-close c.before.before in omega arith
+overflow_add-z c = let k = (close_step _ _ _ _ (sym c.next_in.ensures ∙ c.in-At.is) c.requires.3) in omega arith
 
 pub overflow_sub-z : goal.overflow_sub-z
-overflow_sub-z c = let k = z-close c.before.before in omega arith
+overflow_sub-z c = let k = (close_step _ _ _ _ (sym c.next_in.ensures ∙ c.in-At.is) c.requires.3) in omega arith
 
 pub mark-requires : goal.mark-requires
 mark-requires c =
-    let k = z-close c.before.before in
+    let k = (close_step _ _ _ _ (sym c.next_in.ensures ∙ c.in-At.is) c.requires.3) in
     (c.loop-d.invariant.1.long ∙ c.requires.1, omega arith)
 
 -- src/chain.rt:104:5
@@ -45,10 +37,10 @@ loop-d-preserved c =
     let r = c.rests.ensures in
     let k = c.loop-d.invariant.1 in (
       omega arith,
-      ⊎_elim
-          (λ w. upto_rest _ _ _ _ _ _ e k (sym r ∙ w.0.taken) (z-close c.before) (subst (MarkSet _ _) (sym w.3) w.2.ensures))
-          (λ w. upto_stay _ _ _ _ _ _ e k (sym r ∙ w.0.left) w.1)
-          c.if-rests.branch,
+      elim c.if-rests.branch [
+        | then-rests w ↦ upto_rest _ _ _ _ _ _ e k (sym r ∙ w.if-rests.true) (close_step _ _ _ _ e c.requires.3) (subst (MarkSet _ _) (sym w.ends-is) w.mark.ensures)
+        | else-rests w ↦ upto_stay _ _ _ _ _ _ e k (sym r ∙ w.if-rests.false) w.ends-is
+      ],
     )
 
 -- src/chain.rt:100:1

@@ -1,14 +1,9 @@
-use Rattle.plot.proofs.Ends.{close_step, up_to, upto_none, upto_skip, upto_all, upto_rest, upto_stay, rest_at, rest_off, rest_all_lem}
-use Rattle.plot.proofs.Plots.{next_below}
-use Rattle.plot.specs.Ends.{Close, MarkSet, Marks}
+use Rattle.plot.proofs.Ends.{up_to, rest_at}
+use Rattle.plot.specs.Ends.{Marks}
 use Rattle.plot.specs.Trail.{trail_of}
 use Rattle.plot.specs.Plot.{stand_in, next_in}
 use mathlib.Core.List.{◌∷◌}
-use mathlib.Core.Logic.{⊎_elim}
-use mathlib.Core.Path.{sym, subst, ◌∙◌}
 use Prim.Native.Nat.{◌-◌, ◌≤◌}
-use borrow.Author.Rules.{rules}
-use native.Mathlib.Omega.{arith}
 use Rattle.plot.proofs.chain.mark_rests.Given as goal
 
 abbrev pub invariant-loop-d : goal.invariant-loop-d

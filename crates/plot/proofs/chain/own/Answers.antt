@@ -1,7 +1,6 @@
 -- `plot::chain::own` meets its contract.
 -- Assumes nothing.
 use mathlib.Core.Path.{refl}
-use borrow.Author.Rules.{rules}
 use Rattle.plot.proofs.Trails.{own_trail, own_ok}
 use Rattle.plot.proofs.chain.own.Goals as goal
 

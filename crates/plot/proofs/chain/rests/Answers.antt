@@ -2,12 +2,11 @@ use Rattle.plot.proofs.Trails.{not_free, rests_other, rests_own, rests_past}
 use Rattle.chains.specs.Stand.{is_free}
 use mathlib.Core.Bool.{not}
 use mathlib.Core.Path.{sym, ap, ◌∙◌}
-use borrow.Author.Rules.{rules}
 use Rattle.plot.proofs.chain.rests.Goals as goal
 
 -- src/chain.rt:61:9
 pub returns-in_default : goal.returns-in_default
-returns-in_default c = sym (rests_other _ _ _ _ (ap is_free (sym c.stand_in.ensures) ∙ not_free c.stand_in.result c.in_default.in_default-own.keys2))
+returns-in_default c = sym (rests_other _ _ _ _ (ap is_free (sym c.stand_in.ensures) ∙ not_free c.stand_in.result c.in_default.not-Free))
 
 -- src/chain.rt:64:9
 pub returns-then-h-z : goal.returns-then-h-z

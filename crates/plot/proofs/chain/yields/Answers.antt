@@ -2,12 +2,11 @@ use Rattle.plot.proofs.Trails.{not_loose, yields_other, yields_own, yields_past}
 use Rattle.chains.specs.Stand.{is_loose}
 use mathlib.Core.Bool.{not}
 use mathlib.Core.Path.{sym, ap, ◌∙◌}
-use borrow.Author.Rules.{rules}
 use Rattle.plot.proofs.chain.yields.Goals as goal
 
 -- src/chain.rt:75:9
 pub returns-in_default : goal.returns-in_default
-returns-in_default c = sym (yields_other _ _ _ _ (ap is_loose (sym c.stand_in.ensures) ∙ not_loose c.stand_in.result c.in_default.in_default-own.keys2))
+returns-in_default c = sym (yields_other _ _ _ _ (ap is_loose (sym c.stand_in.ensures) ∙ not_loose c.stand_in.result c.in_default.not-Loose))
 
 -- src/chain.rt:78:9
 pub returns-then-h-z : goal.returns-then-h-z

@@ -10,22 +10,17 @@ use Rattle.position.proofs.layout.cell.Goals as goal
 pub returns-then-n-k : goal.returns-then-n-k
 returns-then-n-k c = record { is = sym (cell_out _ _ _ _ _ _ c.if-n-k.true); small = omega arith }
 
-there : (c : goal.Else-n-k) →
-    let a = c.args in
-    a.size * a.k + a.f < a.size * a.n
-there c = inside c.args.size c.args.n c.args.k c.args.f c.if-n-k.false c.requires.0
-
 pub overflow_mul-size : goal.overflow_mul-size
-overflow_mul-size c = omega (arith, there c)
+overflow_mul-size c = omega (arith, (inside c.args.size c.args.n c.args.k c.args.f c.if-n-k.false c.requires.0))
 
 pub overflow_add-start : goal.overflow_add-start
-overflow_add-start c = omega (arith, there c)
+overflow_add-start c = omega (arith, (inside c.args.size c.args.n c.args.k c.args.f c.if-n-k.false c.requires.0))
 
 pub overflow_add-start-2 : goal.overflow_add-start-2
-overflow_add-start-2 c = omega (arith, there c)
+overflow_add-start-2 c = omega (arith, (inside c.args.size c.args.n c.args.k c.args.f c.if-n-k.false c.requires.0))
 
 pub bounds-p-start : goal.bounds-p-start
-bounds-p-start c = omega (arith, there c.before)
+bounds-p-start c = omega (arith, (inside c.args.size c.args.n c.args.k c.args.f c.if-n-k.false c.requires.0))
 
 pub returns : goal.returns
 returns c =

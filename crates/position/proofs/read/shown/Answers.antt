@@ -9,17 +9,12 @@ use Rattle.position.proofs.Effects.{shown_is, shown_not}
 use Rattle.position.proofs.read.shown.Goals as goal
 
 -- whether it is tried was asked
-asked : (c : goal.After-has) →
-    let a = c.args in
-    c.has.result ≡ has tried (marks a.p.now a.u)
-asked c = c.has.ensures ∙ ap (has tried) c.marks.ensures.is
-
 pub returns-then-has : goal.returns-then-has
 returns-then-has c =
     record {
-      is = c.strength.ensures.is ∙ sym (shown_is _ _ (sym (asked c.before.before) ∙ c.if-has.true));
+      is = c.strength.ensures.is ∙ sym (shown_is _ _ (sym (c.has.ensures ∙ ap (has tried) c.marks.ensures.is) ∙ c.if-has.true));
       small = c.strength.ensures.small;
     }
 
 pub returns : goal.returns
-returns c = record { is = sym (shown_not _ _ (sym (asked c.before) ∙ c.if-has.false)); small = omega arith }
+returns c = record { is = sym (shown_not _ _ (sym (c.has.ensures ∙ ap (has tried) c.marks.ensures.is) ∙ c.if-has.false)); small = omega arith }

@@ -14,7 +14,7 @@ use Rattle.pushes.proofs.draw.bar.Goals as goal
 pub returns-then-not-firm : goal.returns-then-not-firm
 returns-then-not-firm c =
     let a = c.args in
-    adds_none (λ k h i. bars_none (board a.p.now) a.f a.u (sym c.firm.ensures ∙ not-true _ c.if-not-firm.true) k h)
+    adds_none (λ k h i. bars_none (board a.p.now) a.f a.u (sym c.firm.ensures ∙ c.if-not-firm.true) k h)
 
 pub returns-then-hexes-h : goal.returns-then-hexes-h
 returns-then-hexes-h c =
@@ -38,4 +38,4 @@ returns c =
     adds_as c.stamp.ensures
     (λ k h i.
     bars_here (board a.p.now) a.f a.u (c.spot-s.ensures.1 ∙ c.hex-h.ensures.is)
-    (sym c.firm.ensures ∙ not-false _ c.if-not-firm.false) k h)
+    (sym c.firm.ensures ∙ c.if-not-firm.false) k h)

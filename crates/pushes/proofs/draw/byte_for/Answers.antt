@@ -20,7 +20,6 @@ returns-in_default c =
       λ x i e. absurd (rw (view.width, view.height) at (hex_nowhere c.hex_of.ensures c.in_default.is) x i e),
       omega arith,
     )
-
 open-bits-requires c κs = search rules
 
 pub stand_at-requires : goal.stand_at-requires

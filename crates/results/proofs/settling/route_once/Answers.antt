@@ -14,13 +14,6 @@ use Rattle.field.specs.Listed.{named}
 use Rattle.results.proofs.settling.route_once.Goals as goal
 
 -- whether one before it stands there
-before-it : (c : goal.After-stood_before) →
-    let a = c.args in
-    named (map (hex a.p.now) (take a.i a.units.now)) (hex a.p.now (get_or a.units.now a.i 0)) ≡ c.stood_before.result
-before-it c =
-    let a = c.args in
-    sym (c.stood_before.ensures ∙ ap (named (map (hex a.p.now) (take a.i a.units.now))) c.hex-h.ensures.is)
-
 pub overflow_cast-units : goal.overflow_cast-units
 overflow_cast-units c = omega (arith, c.type_inv.units c.args.i)
 
@@ -28,7 +21,8 @@ pub stood_before-requires : goal.stood_before-requires
 stood_before-requires c = (c.requires.0, omega (arith, c.requires.1))
 
 pub returns-then-stood_before : goal.returns-then-stood_before
-returns-then-stood_before c = let e = before-it c.before ∙ c.if-stood_before.true in record { count = simp e; made = simp e }
+returns-then-stood_before c = let e = (let a = c.args in
+    sym (c.stood_before.ensures ∙ ap (named (map (hex a.p.now) (take a.i a.units.now))) c.hex-h.ensures.is)) ∙ c.if-stood_before.true in record { count = simp e; made = simp e }
 
 pub set_route-requires : goal.set_route-requires
 set_route-requires c = (c.requires.0, c.hex-h.ensures.small, omega arith, omega arith, omega arith)
@@ -36,7 +30,8 @@ set_route-requires c = (c.requires.0, c.hex-h.ensures.small, omega arith, omega 
 pub returns : goal.returns
 returns c =
     let a = c.args in
-    let e = before-it c.before.before.before.before.before ∙ c.if-stood_before.false in
+    let e = (let a = c.args in
+    sym (c.stood_before.ensures ∙ ap (named (map (hex a.p.now) (take a.i a.units.now))) c.hex-h.ensures.is)) ∙ c.if-stood_before.false in
     record {
       count = simp e;
       made = simp e (c.set_route.ensures ∙ ap (λ (h : ℕ). make a.p.now (routed a.r h nowhere nowhere nowhere)) c.hex-h.ensures.is);

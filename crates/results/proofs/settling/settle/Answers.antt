@@ -13,41 +13,26 @@ use Rattle.results.specs.Results.{suffers}
 use Rattle.results.proofs.settling.settle.Goals as goal
 
 -- the layout stays, from one part to the next
-laid-1 : (c : goal.After-turn_all) → Laid c.turn_all.new.0 c.args.v
-laid-1 c = rw c.turn_all.ensures (turned_over c.requires.0 c.args.all.now).laid
-
-laid-2 : (c : goal.After-mark_all) → Laid c.mark_all.new.0 c.args.v
-laid-2 c = laid_makes _ (laid-1 c.before.before.before.before) (c.mark_all.ensures.made _ (likened_refl _))
-
-laid-3 : (c : goal.After-write_routes) → Laid c.write_routes.new.0 c.args.v
-laid-3 c = laid_makes _ (laid-2 c.before.before.before.before) c.write_routes.ensures
-
-laid-4 : (c : goal.After-suffer) → Laid c.suffer.new.0 c.args.v
-laid-4 c = laid_makes _ (laid-3 c.before.before.before.before) c.suffer.ensures
-
-laid-5 : (c : goal.After-suffer-2) → Laid c.suffer-2.new.0 c.args.v
-laid-5 c = laid_makes _ (laid-4 c.before.before.before.before.before) c.suffer-2.ensures
-
 pub turn_all-requires : goal.turn_all-requires
 turn_all-requires c = c.requires.0
 
 pub mark_all-requires : goal.mark_all-requires
-mark_all-requires c = laid-1 c.before.before.before
+mark_all-requires c = (rw c.turn_all.ensures (turned_over c.requires.0 c.args.all.now).laid)
 
 pub write_routes-requires : goal.write_routes-requires
-write_routes-requires c = (laid-2 c.before.before.before, c.requires.1, c.requires.2)
+write_routes-requires c = ((laid_makes _ (rw c.turn_all.ensures (turned_over c.requires.0 c.args.all.now).laid) (c.mark_all.ensures.made _ (likened_refl _))), c.requires.1, c.requires.2)
 
 pub suffer-requires : goal.suffer-requires
-suffer-requires c = (laid-3 c.before.before.before, c.requires.4.attackers)
+suffer-requires c = ((laid_makes _ (laid_makes _ (rw c.turn_all.ensures (turned_over c.requires.0 c.args.all.now).laid) (c.mark_all.ensures.made _ (likened_refl _))) c.write_routes.ensures), c.requires.4.attackers)
 
 pub slice_bounds-suffer-count : goal.slice_bounds-suffer-count
 slice_bounds-suffer-count c = omega (arith, all_long _ _ _ _ c.requires.3)
 
 pub suffer-requires-2 : goal.suffer-requires-2
-suffer-requires-2 c = (laid-4 c.before.before.before.before, c.requires.4.defenders)
+suffer-requires-2 c = ((laid_makes _ (laid_makes _ (laid_makes _ (rw c.turn_all.ensures (turned_over c.requires.0 c.args.all.now).laid) (c.mark_all.ensures.made _ (likened_refl _))) c.write_routes.ensures) c.suffer.ensures), c.requires.4.defenders)
 
 pub set_stage-requires : goal.set_stage-requires
-set_stage-requires c = (laid-5 c.before.before.before, c.requires.4.stage, c.requires.4.owed, c.requires.5)
+set_stage-requires c = ((laid_makes _ (laid_makes _ (laid_makes _ (laid_makes _ (rw c.turn_all.ensures (turned_over c.requires.0 c.args.all.now).laid) (c.mark_all.ensures.made _ (likened_refl _))) c.write_routes.ensures) c.suffer.ensures) c.suffer-2.ensures), c.requires.4.stage, c.requires.4.owed, c.requires.5)
 
 pub returns : goal.returns
 returns c =
@@ -58,6 +43,9 @@ returns c =
       marking = c.mark_all.ensures;
       routing = c.write_routes.ensures;
       striking = c.suffer.ensures;
-      standing = c.suffer-2.ensures ∙ ap (λ (x : List ℕ). makes c.suffer.new.0 (map (suffers a.o.defenders) x)) (all_behind a.units.now a.all.now);
+      standing = c.suffer-2.ensures ∙ ap (λ (x : List ℕ). makes c.suffer.new.p (map (suffers a.o.defenders) x)) (all_behind a.units.now a.all.now);
       staging = c.set_stage.ensures;
     })
+
+pub slice_bounds-suffer-start : goal.slice_bounds-suffer-start
+slice_bounds-suffer-start c = omega (arith, all_long _ _ _ _ c.requires.3)

@@ -71,7 +71,7 @@ returns-then-not-any_owes c =
     (subst (TestedOf _ _ _) c.in_default.is c.on_map_all.ensures).0
     (subst (TestedOf _ _ _) c.in_default-on_map_from.is c.on_map_from.ensures).0
     (sym c.stage.ensures.is ∙ c.if-stage-ne-RETREATS.false)
-    (sym c.any_owes.ensures ∙ not-true _ c.if-not-any_owes.true)
+    (sym c.any_owes.ensures ∙ c.if-not-any_owes.true)
 
 pub returns : goal.returns
 returns c =
@@ -82,4 +82,4 @@ returns c =
     (subst (TestedOf _ _ _) c.in_default.is c.on_map_all.ensures).0
     (subst (TestedOf _ _ _) c.in_default-on_map_from.is c.on_map_from.ensures).0
     (sym c.stage.ensures.is ∙ c.if-stage-ne-RETREATS.false)
-    (sym c.any_owes.ensures ∙ not-false _ c.if-not-any_owes.false)
+    (sym c.any_owes.ensures ∙ c.if-not-any_owes.false)

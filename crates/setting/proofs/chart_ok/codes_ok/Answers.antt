@@ -9,9 +9,7 @@ use Rattle.position.specs.Shape.{In}
 use Rattle.position.specs.Layout.{code, die_faces}
 use Rattle.position.proofs.Answers.{said, unsaid, carry, Passed, none_yet, one_more, all, not_all}
 use Rattle.setting.proofs.chart_ok.codes_ok.Goals as goal
-
-abbrev Coded : List ℕ → ℕ → ℕ → Type 0
-Coded p c die = In 1 (code p c (die + 1)) 10
+use Rattle.setting.proofs.chart_ok.codes_ok.Invariants.{Coded}
 
 pub loop-die-init : goal.loop-die-init
 loop-die-init c = none_yet

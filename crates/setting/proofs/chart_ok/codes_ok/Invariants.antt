@@ -10,6 +10,9 @@ use Rattle.position.specs.Layout.{code, die_faces}
 use Rattle.position.proofs.Answers.{said, unsaid, carry, Passed, none_yet, one_more, all, not_all}
 use Rattle.setting.proofs.chart_ok.codes_ok.Given as goal
 
+abbrev pub Coded : List ℕ → ℕ → ℕ → Type 0
+Coded p c die = In 1 (code p c (die + 1)) 10
+
 abbrev pub invariant-loop-die : goal.invariant-loop-die
 invariant-loop-die l = Passed (Coded l.p l.c) l.die die_faces
 

@@ -9,19 +9,13 @@ use Rattle.position.specs.Ground.{beside}
 use Rattle.position.proofs.Sides.{beside_view}
 use Rattle.setting.proofs.map_ok.edge_ok.Goals as goal
 
-is-beside : (c : goal.After-neighbour) →
-    let a = c.args in
-    c.neighbour.result ≡ beside (ground a.p.now) a.h a.d
-is-beside c =
-    c.neighbour.ensures ∙ beside_view c.requires.0.view c.args.h c.args.d
-
 pub returns-in-At : goal.returns-in-At
 returns-in-At c =
     record {
       plain = λ e. absurd (let z : ◌≡◌ {A = ℕ} 0 1 = cc
-          (is-beside c.before.before, c.in-At.is) in omega arith);
+          ((c.neighbour.ensures ∙ beside_view c.requires.0.view c.args.h c.args.d), c.in-At.is) in omega arith);
     }
 
 pub returns-then-stored-ne0 : goal.returns-then-stored-ne0
 returns-then-stored-ne0 c =
-    λ t. omega (arith, t.plain (sym (is-beside c.before.before.before.before) ∙ c.in_default.is))
+    λ t. omega (arith, t.plain (sym (c.neighbour.ensures ∙ beside_view c.requires.0.view c.args.h c.args.d) ∙ c.in_default.is))

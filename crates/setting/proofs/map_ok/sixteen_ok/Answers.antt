@@ -10,9 +10,7 @@ use Rattle.position.proofs.Answers.{said_more, told}
 use Rattle.position.proofs.Shapes.{sizes}
 use Rattle.setting.specs.Setting.{HexOk}
 use Rattle.setting.proofs.map_ok.sixteen_ok.Goals as goal
-
-abbrev Fit : List ℕ → ℕ → ℕ → Type 0
-Fit p first k = HexOk (ground p) (first + k)
+use Rattle.setting.proofs.map_ok.sixteen_ok.Invariants.{Fit}
 
 pub loop-k-init : goal.loop-k-init
 loop-k-init c = (omega arith, λ j l. absurd (omega arith))

@@ -11,6 +11,9 @@ use Rattle.position.proofs.Shapes.{sizes}
 use Rattle.setting.specs.Setting.{HexOk}
 use Rattle.setting.proofs.map_ok.sixteen_ok.Given as goal
 
+abbrev pub Fit : List ℕ → ℕ → ℕ → Type 0
+Fit p first k = HexOk (ground p) (first + k)
+
 abbrev pub invariant-loop-k : goal.invariant-loop-k
 invariant-loop-k l = (l.k ≤ 16) × Says l.fit ((j : ℕ) → j < l.k → Fit l.p l.first j)
 

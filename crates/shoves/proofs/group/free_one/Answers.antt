@@ -7,8 +7,8 @@ use Rattle.shoves.proofs.Turns.{dealt_with, frees_it, left_alone}
 use Rattle.shoves.proofs.group.free_one.Goals as goal
 
 pub returns-then-not-owes_at : goal.returns-then-not-owes_at
-returns-then-not-owes_at c = left_alone _ _ _ (sym c.owes_at.ensures ∙ not-true _ c.if-not-owes_at.true)
+returns-then-not-owes_at c = left_alone _ _ _ (sym c.owes_at.ensures ∙ c.if-not-owes_at.true)
 
 pub returns : goal.returns
 returns c =
-    dealt_with _ _ _ (sym c.owes_at.ensures ∙ not-false _ c.if-not-owes_at.false) (frees_it _ _ c.assign.ensures)
+    dealt_with _ _ _ (sym c.owes_at.ensures ∙ c.if-not-owes_at.false) (frees_it _ _ c.assign.ensures)

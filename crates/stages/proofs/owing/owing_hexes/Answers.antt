@@ -25,12 +25,11 @@ returns-then-k-gt-ROUTE_COUNT c =
     noted_over c.loop-u.invariant.2 (omega arith) (sym c.hex.ensures.is) c.note-k.ensures (omega arith) (omega arith)
 
 pub loop-u-preserved : goal.loop-u-preserved
-loop-u-preserved c =
-    (
-      omega arith,
-      omega arith,
-      noted_more c.loop-u.invariant.2 (omega arith) (sym c.hex.ensures.is) c.note-k.ensures (omega arith),
-    )
+loop-u-preserved c = (
+  omega arith,
+  omega arith,
+  noted_more c.loop-u.invariant.2 (omega arith) (sym c.hex.ensures.is) c.note-k.ensures (omega arith),
+)
 
 pub returns : goal.returns
 returns c = noted_all c.loop-u.invariant.2 (omega arith) (omega arith)

@@ -10,13 +10,11 @@ use Rattle.supply.proofs.Grading.{grade_closed, grade_source, grade_open}
 use borrow.Author.Rules.{rules}
 use Rattle.supply.proofs.grade.grade_by.Goals as goal
 
-open-by-requires c κs = search rules
-
 pub returns-then-not-open_by : goal.returns-then-not-open_by
 returns-then-not-open_by c =
     let a = c.args in
     let s = scene (board a.p.now) in
-    record { is = sym (grade_closed s a.h a.m a.n (sym c.open_by.ensures ∙ not-true _ c.if-not-open_by.true)); small = omega arith }
+    record { is = sym (grade_closed s a.h a.m a.n (sym c.open_by.ensures ∙ c.if-not-open_by.true)); small = omega arith }
 
 pub returns-then-source_by : goal.returns-then-source_by
 returns-then-source_by c =

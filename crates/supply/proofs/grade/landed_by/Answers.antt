@@ -10,19 +10,9 @@ use Rattle.supply.specs.Open.{coastal}
 use Rattle.supply.proofs.Grading.{depot_inland, depot_none, landed_depot, landed_own, landed_not}
 use borrow.Author.Rules.{rules}
 use Rattle.supply.proofs.grade.landed_by.Goals as goal
+use Rattle.supply.proofs.grade.landed_by.Goals.{then-coastal+else-has, else-coastal}
 
 -- past the first two tests, no supply unit on a coast
-dry : (c : goal.Joined-coastal) →
-    let a = c.args in
-    (coastal (scene (board a.p.now)) a.h && has 8 a.m) ≡ false
-dry c =
-    let a = c.args in
-    let s = scene (board a.p.now) in
-    ⊎_elim
-    (λ w. depot_none s a.h a.m (sym w.1.ensures ∙ w.2.left))
-    (λ w. depot_inland s a.h a.m (sym c.coastal.ensures ∙ w.left))
-    c.if-coastal.branch
-
 pub returns-then-has : goal.returns-then-has
 returns-then-has c =
     let a = c.args in
@@ -33,10 +23,16 @@ pub returns-then-has-2 : goal.returns-then-has-2
 returns-then-has-2 c =
     let a = c.args in
     let s = scene (board a.p.now) in
-    c.landing.ensures ∙ sym (landed_own s a.h a.m (dry c.before.before.before) (sym c.has-2.ensures ∙ c.if-has-2.true))
+    c.landing.ensures ∙ sym (landed_own s a.h a.m (elim c.if-coastal.branch [
+      then-coastal+else-has w ↦ depot_none s a.h a.m (sym w.has.ensures ∙ w.if-has.false)
+    | else-coastal w ↦ depot_inland s a.h a.m (sym c.coastal.ensures ∙ w.if-coastal.false)
+    ]) (sym c.has-2.ensures ∙ c.if-has-2.true))
 
 pub returns : goal.returns
 returns c =
     let a = c.args in
     let s = scene (board a.p.now) in
-    sym (landed_not s a.h a.m (dry c.before.before) (sym c.has-2.ensures ∙ c.if-has-2.false))
+    sym (landed_not s a.h a.m (elim c.if-coastal.branch [
+      then-coastal+else-has w ↦ depot_none s a.h a.m (sym w.has.ensures ∙ w.if-has.false)
+    | else-coastal w ↦ depot_inland s a.h a.m (sym c.coastal.ensures ∙ w.if-coastal.false)
+    ]) (sym c.has-2.ensures ∙ c.if-has-2.false))

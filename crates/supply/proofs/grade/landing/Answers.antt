@@ -22,7 +22,7 @@ returns-then-not-coastal c =
     let s = scene (board a.p.now) in
     let flags = sym c.flags-flags.ensures.is in
     let inland = ap (has 1) flags ∙ sym c.has.ensures ∙ c.if-has.false in
-    sym (landing_inland s a.h inland (sym c.coastal.ensures ∙ not-true _ c.if-not-coastal.true))
+    sym (landing_inland s a.h inland (sym c.coastal.ensures ∙ c.if-not-coastal.true))
 
 pub returns-then-has-2 : goal.returns-then-has-2
 returns-then-has-2 c =
@@ -30,7 +30,7 @@ returns-then-has-2 c =
     let s = scene (board a.p.now) in
     let flags = sym c.flags-flags.ensures.is in
     let inland = ap (has 1) flags ∙ sym c.has.ensures ∙ c.if-has.false in
-    let shore = sym c.coastal.ensures ∙ not-false _ c.if-not-coastal.false in
+    let shore = sym c.coastal.ensures ∙ c.if-not-coastal.false in
     let town = ap (has 2) flags ∙ sym c.has-2.ensures ∙ c.if-has-2.true in
     sym (landing_urban s a.h inland shore town)
 
@@ -40,6 +40,6 @@ returns c =
     let s = scene (board a.p.now) in
     let flags = sym c.flags-flags.ensures.is in
     let inland = ap (has 1) flags ∙ sym c.has.ensures ∙ c.if-has.false in
-    let shore = sym c.coastal.ensures ∙ not-false _ c.if-not-coastal.false in
+    let shore = sym c.coastal.ensures ∙ c.if-not-coastal.false in
     let town = ap (has 2) flags ∙ sym c.has-2.ensures ∙ c.if-has-2.false in
     c.has-3.ensures ∙ ap (has 4) c.flags-flags.ensures.is ∙ sym (landing_supply s a.h inland shore town)

@@ -5,6 +5,7 @@ use mathlib.Core.Logic.{⊎_elim}
 use native.Mathlib.Omega.{arith}
 use borrow.Author.Rules.{rules}
 use Rattle.sweeping.proofs.row.count.Goals as goal
+use Rattle.sweeping.proofs.row.count.Goals.{then-buf-i, else-buf-i}
 
 pub loop-i-init : goal.loop-i-init
 loop-i-init c = (omega arith, omega arith)
@@ -16,7 +17,7 @@ pub overflow_add-many : goal.overflow_add-many
 overflow_add-many c = let s = c.requires in let a = c.loop-i.invariant in omega (arith, s.1, a.0)
 
 pub loop-i-preserved : goal.loop-i-preserved
-loop-i-preserved c = let s = c.requires in let a = c.loop-i.invariant in ⊎_elim (λ w. (omega (arith, w.1, a.0), omega (arith, s.1))) (λ w. (omega (arith, w.1, a.0), omega (arith, s.1))) c.if-buf-i.branch
+loop-i-preserved c = let s = c.requires in let a = c.loop-i.invariant in elim c.if-buf-i.branch [ then-buf-i w ↦ (omega (arith, w.many-is, a.0), omega (arith, s.1)) | else-buf-i w ↦ (omega (arith, w.many-is, a.0), omega (arith, s.1)) ]
 
 pub returns : goal.returns
 returns c = let a = c.loop-i.invariant in omega (arith, a.0, a.1)

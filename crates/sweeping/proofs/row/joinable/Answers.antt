@@ -6,7 +6,7 @@ use Rattle.walk.proofs.Joins.{found_one, row_closed, row_apart}
 use Rattle.sweeping.proofs.row.joinable.Goals as goal
 
 pub returns-then-not-has : goal.returns-then-not-has
-returns-then-not-has c = λ e. row_closed c.requires.0 c.args.row (c.has.ensures (not-true _ c.if-not-has.true))
+returns-then-not-has c = λ e. row_closed c.requires.0 c.args.row (c.has.ensures c.if-not-has.true)
 
 pub returns-then-source_before : goal.returns-then-source_before
 returns-then-source_before c = λ e. found_one e

@@ -10,6 +10,7 @@ use Rattle.walk.specs.Chain.{mark}
 use Rattle.walk.specs.Swept.{None}
 use Rattle.walk.proofs.Joins.{none_more, found_one}
 use Rattle.sweeping.proofs.row.some.Goals as goal
+use Rattle.sweeping.proofs.row.some.Goals.{then-buf-i, else-buf-i}
 
 pub loop-i-init : goal.loop-i-init
 loop-i-init c = λ e k p q r. absurd (omega arith)
@@ -17,10 +18,10 @@ loop-i-init c = λ e k p q r. absurd (omega arith)
 pub loop-i-preserved : goal.loop-i-preserved
 unfolding mark
 loop-i-preserved c =
-    ⊎_elim
-    (λ w e. found_one (sym w.1 ∙ e))
-    (λ w e. none_more _ _ (c.loop-i.invariant (sym w.1 ∙ e)) w.0.left)
-    c.if-buf-i.branch
+    elim c.if-buf-i.branch [
+      then-buf-i w ↦ λ e. found_one (sym w.found-is ∙ e)
+    | else-buf-i w ↦ λ e. none_more _ _ (c.loop-i.invariant (sym w.found-is ∙ e)) w.if-buf-i.false
+    ]
 
 pub returns : goal.returns
 returns c = λ e k p q. c.loop-i.invariant e k p (omega arith)

@@ -14,7 +14,7 @@ returns-then-dir-ge6 c =
     let t = c.leave in
     steps_home (two_way (ground c.args.p.now)) c.args.v.width c.args.v.height (beside_view c.requires.laid.0.view)
     c.args.buf.now c.args.s.hex c.args.from d.result d.ensures
-    t.new.1.0 t.result c.if-dir-ge6.true t.ensures.0 t.ensures.1
+    t.new.buf t.result c.if-dir-ge6.true t.ensures.home_of t.ensures.buf_after
 
 pub enter-requires : goal.enter-requires
 enter-requires c = record { spot_of = (c.requires.laid.1, c.if-dir-ge6.false); buf_len = c.requires.buf_len ∙ area_view c.requires.laid.0.view }
@@ -25,4 +25,4 @@ returns c =
     let t = c.enter in
     steps_in (two_way (ground c.args.p.now)) c.args.v.width c.args.v.height (beside_view c.requires.laid.0.view)
     c.args.buf.now c.args.s.hex c.args.from d.result d.ensures
-    t.new.1.0 t.result c.if-dir-ge6.false t.ensures
+    t.new.buf t.result c.if-dir-ge6.false t.ensures

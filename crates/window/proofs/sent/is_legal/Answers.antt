@@ -25,7 +25,7 @@ overflow_cast-x c = omega (arith, c.type_inv.route c.loop-i.i)
 
 pub returns-then-not-steps_to : goal.returns-then-not-steps_to
 returns-then-not-steps_to c =
-    sym (stopped c.loop-i.invariant.1 (omega arith) refl c.steps_to.ensures (not-true _ c.if-not-steps_to.true))
+    sym (stopped c.loop-i.invariant.1 (omega arith) refl c.steps_to.ensures c.if-not-steps_to.true)
 
 pub overflow_step-i : goal.overflow_step-i
 overflow_step-i c = omega arith
@@ -35,7 +35,7 @@ loop-i-smaller c = omega arith
 
 pub loop-i-preserved : goal.loop-i-preserved
 loop-i-preserved c =
-    (omega arith, passed c.loop-i.invariant.1 (omega arith) refl c.steps_to.ensures (not-false _ c.if-not-steps_to.false))
+    (omega arith, passed c.loop-i.invariant.1 (omega arith) refl c.steps_to.ensures c.if-not-steps_to.false)
 
 pub returns : goal.returns
 returns c = sym (all_passed c.loop-i.invariant.1 (omega arith))

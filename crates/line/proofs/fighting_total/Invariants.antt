@@ -1,0 +1,10 @@
+-- The invariant: the total is that of the first fighters, and of each at most a byte. The measure is how many are left.
+use Rattle.std.proofs.Common.{◌≡◌, ◌-◌, ◌*◌, ◌≤◌, take, length}
+use Rattle.line.specs.Line.{total_by, fighting_of}
+use Rattle.line.proofs.fighting_total.Given as goal
+
+abbrev pub invariant-loop-i : goal.invariant-loop-i
+invariant-loop-i l = (l.total ≡ total_by fighting_of (take l.i l.line)) × (l.total ≤ 255 * l.i) × (l.i ≤ l.n)
+
+abbrev pub decreases-loop-i : goal.decreases-loop-i
+decreases-loop-i l = l.n - l.i
