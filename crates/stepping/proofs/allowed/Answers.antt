@@ -1,7 +1,6 @@
 -- `stepping::allowed` meets its contract: the working allowance, which is no more than the allowance.
 -- Assumes nothing.
 use mathlib.Core.Path.{ap, ◌∙◌}
-use borrow.Author.Rules.{rules}
 use Rattle.position.specs.Bits.{has, supplied}
 use Rattle.position.specs.Board.{board}
 use Rattle.march.proofs.Steps.{allowed_read}

@@ -1,7 +1,6 @@
 -- `stepping::neutral_there` meets its contract: the units are asked, or nobody stands there.
 -- Assumes nothing.
 use mathlib.Core.Path.{sym, ◌∙◌}
-use borrow.Author.Rules.{rules}
 use borrow.Author.Tests.{not-false}
 use Rattle.paint.proofs.Units.{marked_held}
 use Rattle.march.proofs.Steps.{no_neutral}

@@ -2,7 +2,6 @@
 -- Assumes nothing.
 use mathlib.Core.Path.{sym, ◌∙◌}
 use native.Mathlib.Omega.{arith}
-use borrow.Author.Rules.{rules}
 use Rattle.march.proofs.Steps.{cost_river, cost_major, cost_none}
 use Rattle.stepping.proofs.side_cost.Goals as goal
 

@@ -3,7 +3,6 @@
 use Prim.Native.Nat.{◌+◌}
 use mathlib.Core.Path.{ap, ap₂, ◌∙◌}
 use native.Mathlib.Omega.{arith}
-use borrow.Author.Rules.{rules}
 use Rattle.position.specs.Board.{board, ground}
 use Rattle.position.specs.Ground.{side}
 use Rattle.position.proofs.Sides.{next_over}
