@@ -16,7 +16,6 @@ use Rattle.position.proofs.Tallies.{same_or}
 use Rattle.chains.specs.Follows.{legal_pushes}
 use Rattle.plot.specs.Search.{serves_in}
 use Rattle.plot.specs.Follow.{places_from, follows_in}
-use Rattle.pushes.specs.declared.Served.{Served}
 use Rattle.pushes.specs.declared.Served.TheVariants.{None, Wrong, Right}
 use Rattle.pushes.specs.Drawn.{Drawn}
 use Rattle.pushes.specs.Pushes.{served, served_in}

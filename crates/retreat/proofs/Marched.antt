@@ -194,19 +194,19 @@ once_vacant b x v ps =
 
 -- a legal series
 pub series_marched :
-    {o b : Board} {g : Land} {s : Stands} {i a : ℕ} {route pushes : List ℕ} (f : ℕ) → o.map.hexes ≤ nowhere → Since o b
+    {o : Board} {g : Land} {b : Board} {s : Stands} {i a : ℕ} {route pushes : List ℕ} (f : ℕ) → o.map.hexes ≤ nowhere → Since o b
     → (a ≡ nowhere → ⊥) → OwnGroup b f a → g.far a ≡ i → Series g s i a route pushes → stand b f a ≡ s
     → Marched b a route pushes (changes b (marches b a route pushes))
 series_marched {b = b} {a = a} f small k real mine z stay e = halted b a real []
-series_marched {o} {b} {g} {s} {i} {a} f small k real mine z (walk {x = x} {route = route} {pushes = ps} d t y n) e =
+series_marched {o} {g} {b} {s} {i} {a} f small k real mine z (walk {x = x} {route = route} {pushes = ps} d t y n) e =
     let here : stand b f a x ≡ Free = ap (λ (q : Stands). q x) e ∙ y in
     let free = free_is b f a x here in
     let v = free_vacant b f a x (λ q. omega (arith, t.away, z, ap g.far q)) free in
     let c = stepped k small f a x real mine v free.bear in
     let u = once_vacant b x v ps in
     marched_on small f a x real (pushes_none k) mine v free.bear (shoved_vacant b x v ps) u.0 u.1
-    (series_marched f small c.since (real_hex k small f a x (bears_stands b f x free.bear)) c.own t.away n (c.stands ∙ e))
-series_marched {o} {b} {g} {s} {i} {a} f small k real mine z (shove {x = x} {y = y} {route = route} {chain = zs} {pushes = ps} d t l h n) e =
+    (series_marched {b = changes b (group_to b a x)} f small c.since (real_hex k small f a x (bears_stands b f x free.bear)) c.own t.away n (c.stands ∙ e))
+series_marched {o} {g} {b} {s} {i} {a} f small k real mine z (shove {x = x} {y = y} {route = route} {chain = zs} {pushes = ps} d t l h n) e =
     let here : stand b f a x ≡ Loose = ap (λ (q : Stands). q x) e ∙ l in
     let off : x ≡ a → ⊥ = λ q. omega (arith, t.away, z, ap g.far q) in
     let h' = subst (λ (p : Stands). Chain g.next p (a ∷ []) most x zs y) (sym e) h in
@@ -220,5 +220,5 @@ series_marched {o} {b} {g} {s} {i} {a} f small k real mine z (shove {x = x} {y =
     let c = stepped u.since small f a x real own q.shifted.empty bear in
     let w = chain_shoved b (rw k.fixed.map small) f a h' first here ps in
     marched_on small f a x real u own q.shifted.empty bear w refl q.left_over
-    (series_marched f small c.since (real_hex u.since small f a x (bears_stands b' f x bear)) c.own t.away n
+    (series_marched {b = changes b' (group_to b' a x)} f small c.since (real_hex u.since small f a x (bears_stands b' f x bear)) c.own t.away n
     (c.stands ∙ q.shifted.stands ∙ ap (λ (p : Stands). after p x y) e))

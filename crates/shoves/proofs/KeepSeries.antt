@@ -94,20 +94,20 @@ march_on b a x route ps =
     ∙ changes_then xs (marches (changes c xs) x route r.left) c
 
 pub series_left :
-    {o b : Board} {g : Land} {s : Stands} {i a : ℕ} {route pushes : List ℕ} (f : ℕ) → o.map.hexes ≤ nowhere → Since o b
+    {o : Board} {g : Land} {b : Board} {s : Stands} {i a : ℕ} {route pushes : List ℕ} (f : ℕ) → o.map.hexes ≤ nowhere → Since o b
     → (a ≡ nowhere → ⊥) → OwnGroup b f a → g.far a ≡ i → Series g s i a route pushes → stand b f a ≡ s
     → Left o b a (changes b (marches b a route pushes))
 unfolding marches changes
 series_left {a = a} f small k real mine z stay e = all_freed small a k
-series_left {o} {b} {g} {s} {i} {a} f small k real mine z (walk {x = x} {route = route} {pushes = ps} d t y n) e =
+series_left {o} {g} {b} {s} {i} {a} f small k real mine z (walk {x = x} {route = route} {pushes = ps} d t y n) e =
     let here : stand b f a x ≡ Free = ap (λ (q : Stands). q x) e ∙ y in
     let free = free_is b f a x here in
     let v = free_vacant b f a x (λ q. omega (arith, t.away, z, ap g.far q)) free in
     let c = stepped k small f a x real mine v free.bear in
     rw (march_on b a x route ps, clears_vacant b x v ps)
     (after_step_lem c
-    (series_left f small c.since (real_hex k small f a x (bears_stands b f x free.bear)) c.own t.away n (c.stands ∙ e)))
-series_left {o} {b} {g} {s} {i} {a} f small k real mine z (shove {x = x} {y = y} {route = route} {chain = zs} {pushes = ps} d t l h n) e =
+    (series_left {b = changes b (group_to b a x)} f small c.since (real_hex k small f a x (bears_stands b f x free.bear)) c.own t.away n (c.stands ∙ e)))
+series_left {o} {g} {b} {s} {i} {a} f small k real mine z (shove {x = x} {y = y} {route = route} {chain = zs} {pushes = ps} d t l h n) e =
     let here : stand b f a x ≡ Loose = ap (λ (q : Stands). q x) e ∙ l in
     let off : x ≡ a → ⊥ = λ q. omega (arith, t.away, z, ap g.far q) in
     let r = clears b x (zs ++ ps) in
@@ -120,5 +120,5 @@ series_left {o} {b} {g} {s} {i} {a} f small k real mine z (shove {x = x} {y = y}
     rw (march_on b a x route (zs ++ ps), q.left_over)
     (after_pushes u
     (after_step_lem c
-    (series_left f small c.since (real_hex u.since small f a x (bears_stands b' f x (free_is b' f a x free).bear)) c.own t.away n
+    (series_left {b = changes b' (group_to b' a x)} f small c.since (real_hex u.since small f a x (bears_stands b' f x (free_is b' f a x free).bear)) c.own t.away n
     (c.stands ∙ q.shifted.stands ∙ ap (λ (p : Stands). after p x y) e))))

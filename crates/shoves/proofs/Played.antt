@@ -142,7 +142,7 @@ module _ {o : Board} (small : o.map.hexes ≤ nowhere) (f start u : ℕ) where
       let v = free_refuge b f a x (not_back t z) (ap (λ (q : Stands). q x) e ∙ y) in
       let c = stepped_in small k r x v in
       enters d (subst (λ (g : Land). Onto g (suc i) a d x) (sym (land_same k start)) t) v
-      (series_played c.since c.retreats t.away n (c.stands ∙ e))
+      (series_played {b = once_entered b a x} c.since c.retreats t.away n (c.stands ∙ e))
   series_played {b} {s} {i} {a} k r z (shove {x = x} {y = y} {chain = zs} {pushes = ps} d t l h n) e =
       let here : stand b f a x ≡ Loose = ap (λ (q : Stands). q x) e ∙ l in
       let h₁ = subst (λ (p : Stands). Chain (land_of o start).next p (a ∷ []) most x zs y) (sym e) h in
@@ -152,7 +152,7 @@ module _ {o : Board} (small : o.map.hexes ≤ nowhere) (f start u : ℕ) where
       let held = held_more b a [] (λ w q. not_both (named [] w) q (named_nil w)) (own_held k.units r) in
       clears_in d (subst (λ (g : Land). Onto g (suc i) a d x) (sym (land_same k start)) t) can
       (chain_played b f a h₂ (named_here a [] a refl) held (held_by b x can.unit can.counted can.there))
-      (series_played c.since c.retreats t.away n (c.stands ∙ ap (λ (p : Stands). after p x y) e))
+      (series_played {b = once_entered (once_cleared b x (zs ++ ps)) a x} c.since c.retreats t.away n (c.stands ∙ ap (λ (p : Stands). after p x y) e))
 
   played_series :
       {b : Board} {i a : ℕ} {route pushes : List ℕ} → Since o b → Retreats b f a u → (land_of o start).far a ≡ i

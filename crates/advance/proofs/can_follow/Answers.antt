@@ -6,7 +6,6 @@ use Rattle.position.specs.Ground.{joined}
 use Rattle.aftermath.proofs.Advancing.{follow_apart, follow_beside}
 use Rattle.advance.proofs.can_follow.Goals as goal
 
--- where the route starts was asked
 pub returns-then-not-joined : goal.returns-then-not-joined
 returns-then-not-joined c = sym (follow_apart _ _ _ _ ((let a = c.args in
     sym (c.joined.ensures

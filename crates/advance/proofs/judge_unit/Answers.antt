@@ -12,7 +12,6 @@ use Rattle.aftermath.proofs.Advancing.{advance_may, advance_not}
 use Rattle.aftermath.specs.Advance.{unit_checks}
 use Rattle.advance.proofs.judge_unit.Goals as goal
 
--- the tests passed so far: of the role, and of the type
 pub returns-then-role-ne-ADVANCES : goal.returns-then-role-ne-ADVANCES
 unfolding unit_checks
 returns-then-role-ne-ADVANCES c = λ l v. stop (ap not (advance_not _ _ (λ e. c.if-role-ne-ADVANCES.true (c.role.ensures.is ∙ e))))

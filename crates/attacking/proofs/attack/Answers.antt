@@ -1,7 +1,6 @@
 -- `attacking::attack` meets its promise: the questions of an attack, then the battle.
 -- Assumes nothing.
 use mathlib.Core.Path.{subst}
-use borrow.Author.Rules.{rules}
 use Rattle.ruling.specs.Judged.{TestedOf}
 use Rattle.battle.specs.Battle.{attack_rule}
 use Rattle.attacking.proofs.attack.Goals as goal

@@ -1,10 +1,9 @@
 -- `attacking::fight` meets its contract: the line is drawn up, the odds are found in the table, and the result is carried out.
 -- Assumes nothing.
-use Prim.Native.Nat.{◌≤◌, ℕ}
+use Prim.Native.Nat.{ℕ}
 use mathlib.Core.List.{List, map}
 use mathlib.Core.Path.{◌∙◌, ap, ap₂, refl, sym}
 use native.Mathlib.Omega.{arith}
-use borrow.Author.Rules.{rules}
 use Rattle.position.proofs.Shapes.{hexes_most}
 use Rattle.position.specs.Board.{board}
 use Rattle.position.specs.Change.{makes}

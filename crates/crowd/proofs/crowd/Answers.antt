@@ -1,10 +1,8 @@
 -- `crowd::crowd` meets its contract. The loop's invariant: `n` is how many units below `u` stand there.
 -- The measure is how many are left.
 -- Assumes nothing.
-use Prim.Native.Nat.{◌-◌, ◌≤◌}
-use mathlib.Core.Path.{◌≡◌, sym, ap, ◌∙◌}
+use mathlib.Core.Path.{sym, ap, ◌∙◌}
 use native.Mathlib.Omega.{arith}
-use borrow.Author.Rules.{rules}
 use Rattle.position.specs.Tally.{tally}
 use Rattle.position.specs.Board.{board}
 use Rattle.position.specs.Layout.{hex}

@@ -2,15 +2,10 @@
 -- The measure is how many are left.
 -- Assumes nothing.
 use Prim.Native.Nat.{◌-◌, ◌≤◌}
-use mathlib.Core.Path.{◌≡◌, sym, ap, ◌∙◌}
-use mathlib.Core.Logic.{⊎_elim}
-use native.Mathlib.Omega.{arith}
-use borrow.Author.Rules.{rules}
+use mathlib.Core.Path.{◌≡◌}
 use Rattle.position.specs.Tally.{tally}
-use Rattle.position.specs.Board.{board}
 use Rattle.position.specs.Layout.{hex}
-use Rattle.position.proofs.Tallies.{equals, equals_yes, equals_no, tally_zero, tally_hit, tally_miss}
-use Rattle.position.proofs.Crowds.{crowd_is}
+use Rattle.position.proofs.Tallies.{equals}
 use Rattle.crowd.proofs.crowd.Given as goal
 
 abbrev pub invariant-loop-u : goal.invariant-loop-u

@@ -4,7 +4,6 @@ use Prim.Native.Nat.{ℕ}
 use mathlib.Core.Path.{ap}
 use mathlib.Core.Bool.{not}
 use lib.Dec.{eqb}
-use borrow.Author.Rules.{rules}
 use Rattle.position.specs.Board.{nowhere}
 use Rattle.position.specs.Crowd.{filled}
 use Rattle.crowd.proofs.filled.Goals as goal

@@ -1,12 +1,9 @@
 -- `crowd::routes` meets its contract. The loop's invariant: `n` is how many routes below `r` are filled.
 -- The measure is how many are left.
 -- Assumes nothing.
-use Prim.Native.Nat.{◌-◌, ◌≤◌}
-use mathlib.Core.Path.{◌≡◌, sym, ap, ◌∙◌}
+use mathlib.Core.Path.{sym, ap, ◌∙◌}
 use native.Mathlib.Omega.{arith}
-use borrow.Author.Rules.{rules}
 use Rattle.position.specs.Tally.{tally}
-use Rattle.position.specs.Layout.{route_count}
 use Rattle.position.specs.Board.{board}
 use Rattle.position.specs.Crowd.{filled, routes}
 use Rattle.position.proofs.Tallies.{tally_zero, tally_hit, tally_miss}

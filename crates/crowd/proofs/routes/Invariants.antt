@@ -2,15 +2,11 @@
 -- The measure is how many are left.
 -- Assumes nothing.
 use Prim.Native.Nat.{◌-◌, ◌≤◌}
-use mathlib.Core.Path.{◌≡◌, sym, ap, ◌∙◌}
-use mathlib.Core.Logic.{⊎_elim}
-use native.Mathlib.Omega.{arith}
-use borrow.Author.Rules.{rules}
+use mathlib.Core.Path.{◌≡◌}
 use Rattle.position.specs.Tally.{tally}
 use Rattle.position.specs.Layout.{route_count}
 use Rattle.position.specs.Board.{board}
-use Rattle.position.specs.Crowd.{filled, routes}
-use Rattle.position.proofs.Tallies.{tally_zero, tally_hit, tally_miss}
+use Rattle.position.specs.Crowd.{filled}
 use Rattle.crowd.proofs.routes.Given as goal
 
 abbrev pub invariant-loop-r : goal.invariant-loop-r

@@ -1,13 +1,8 @@
 -- `desk_ok::clock_ok` meets its contract: each number is read and measured.
 -- Assumes nothing.
-use mathlib.Core.Path.{◌≡◌, sym}
+use mathlib.Core.Path.{sym}
 use native.Mathlib.Omega.{arith}
-use borrow.Author.Rules.{rules}
-use Rattle.acceptance.specs.Accepted.{ClockOk}
-use Rattle.position.specs.Board.{desk}
-use Rattle.position.specs.Stage as Stage
 use Rattle.position.proofs.Answers.{said, unsaid, carry, carry_both}
-use Rattle.clock.specs.Phase as Phase
 use Rattle.desk.proofs.clock_ok.Goals as goal
 
 pub returns-then-not-within : goal.returns-then-not-within

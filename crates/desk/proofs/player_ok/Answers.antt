@@ -1,7 +1,6 @@
 -- `desk_ok::player_ok` meets its contract: the player is small, and another than force 3's unless the force is 3.
 -- Assumes nothing.
 use mathlib.Core.Path.{sym, ◌∙◌}
-use borrow.Author.Rules.{rules}
 use Rattle.desk.proofs.player_ok.Goals as goal
 
 pub returns-then-player : goal.returns-then-player

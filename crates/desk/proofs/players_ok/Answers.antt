@@ -1,11 +1,7 @@
 -- `desk_ok::players_ok` meets its contract. The loop's invariant: every force before f has a player that it may have.
 -- Assumes nothing.
-use Prim.Native.Nat.{◌-◌}
 use native.Mathlib.Omega.{arith}
-use borrow.Author.Rules.{rules}
-use Rattle.acceptance.specs.Accepted.{PlayerOk}
-use Rattle.position.specs.Board.{desk}
-use Rattle.position.proofs.Answers.{said, unsaid, Passed, none_yet, one_more, all, not_all}
+use Rattle.position.proofs.Answers.{said, unsaid, none_yet, one_more, all, not_all}
 use Rattle.desk.proofs.players_ok.Goals as goal
 
 pub loop-f-init : goal.loop-f-init

@@ -1,11 +1,9 @@
 -- `desk_ok::players_ok` meets its contract. The loop's invariant: every force before f has a player that it may have.
 -- Assumes nothing.
 use Prim.Native.Nat.{◌-◌}
-use native.Mathlib.Omega.{arith}
-use borrow.Author.Rules.{rules}
 use Rattle.acceptance.specs.Accepted.{PlayerOk}
 use Rattle.position.specs.Board.{desk}
-use Rattle.position.proofs.Answers.{said, unsaid, Passed, none_yet, one_more, all, not_all}
+use Rattle.position.proofs.Answers.{Passed}
 use Rattle.desk.proofs.players_ok.Given as goal
 
 abbrev pub invariant-loop-f : goal.invariant-loop-f

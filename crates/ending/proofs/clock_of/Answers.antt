@@ -1,6 +1,5 @@
 -- `ending::clock_of` is the clock of the board, read field by field.
 -- Assumes nothing.
-use borrow.Author.Rules.{rules}
 use Rattle.ending.proofs.clock_of.Goals as goal
 
 pub returns : goal.returns

@@ -1,7 +1,6 @@
 -- `ending::end_phase` meets its promise: each refusal where its test holds, and past them all what the phase's end changes.
 -- Assumes nothing.
 use mathlib.Core.Path.{sym, ap₂, ◌∙◌}
-use borrow.Author.Rules.{rules}
 use Rattle.ruling.proofs.Meets.{pass, stop, ruled}
 use Rattle.supply.proofs.Supplies.{other_length, own_length}
 use Rattle.clock.specs.Clock.{is_last}

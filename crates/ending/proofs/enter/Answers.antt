@@ -1,8 +1,6 @@
 -- `ending::enter` judges supply exactly if the phase asks for it.
 -- Assumes nothing.
 use mathlib.Core.Path.{sym, ◌∙◌}
-use borrow.Author.Rules.{rules}
-use borrow.Author.Tests.{not-true, not-false}
 use Rattle.march.proofs.Ends.{judges_not, judges_then}
 use Rattle.ending.proofs.enter.Goals as goal
 

@@ -1,11 +1,7 @@
 -- `ending::judge_all` judges a nationality's units. The loop's invariant: those below u are judged, and the layout stays.
 -- Assumes nothing.
-use Prim.Native.Nat.{◌-◌, ◌≤◌}
 use mathlib.Core.Path.{◌≡◌, sym, ◌∙◌}
 use native.Mathlib.Omega.{arith}
-use borrow.Author.Rules.{rules}
-use Rattle.position.specs.Laid.{Laid}
-use Rattle.march.specs.Ending.{JudgesAll}
 use Rattle.march.proofs.Ends.{judges_none, judges_next}
 use Rattle.ending.proofs.judge_all.Goals as goal
 

@@ -1,6 +1,5 @@
 -- `ending::judge_force` judges a force's units: two nationalities one after the other for force 3, else one.
 -- Assumes nothing.
-use borrow.Author.Rules.{rules}
 use Rattle.march.proofs.Ends.{judges_home, judges_one}
 use Rattle.ending.proofs.judge_force.Goals as goal
 

@@ -2,7 +2,6 @@
 -- Canada.
 -- Assumes nothing.
 use mathlib.Core.Path.{refl}
-use borrow.Author.Rules.{rules}
 use Rattle.march.proofs.Ends.{traced_after, judges_two}
 use Rattle.ending.proofs.judge_home.Goals as goal
 

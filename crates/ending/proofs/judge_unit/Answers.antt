@@ -1,11 +1,8 @@
 -- `ending::judge_unit` judges one unit: left alone where it is of another nationality or off the map, else marked by what the map says.
 -- Assumes nothing.
-use Prim.Native.Nat.{◌<◌}
-use mathlib.Core.Path.{◌≡◌, sym, ap, ◌∙◌}
+use mathlib.Core.Path.{sym, ap, ◌∙◌}
 use native.Mathlib.Omega.{arith}
-use borrow.Author.Rules.{rules}
 use Rattle.position.specs.Bits.{with, without, supplied}
-use Rattle.position.specs.Layout.{nationality, hex, hexes}
 use Rattle.position.specs.Change.{make}
 use Rattle.position.specs.Change.Change.{marked}
 use Rattle.position.proofs.Changes.{laid_make}

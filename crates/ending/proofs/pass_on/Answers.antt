@@ -1,10 +1,8 @@
 -- `ending::pass_on` makes all changes of the end of a phase: the marks, the clock and supply, and clears the scratch.
 -- Assumes nothing.
-use mathlib.Core.Path.{◌≡◌, ap, ◌∙◌}
+use mathlib.Core.Path.{ap, ◌∙◌}
 use native.Mathlib.Omega.{arith}
-use borrow.Author.Rules.{rules}
 use Rattle.position.specs.Layout.{hexes}
-use Rattle.position.specs.Board.{board}
 use Rattle.position.proofs.Changes.{laid_make, laid_makes}
 use Rattle.position.proofs.Cells.{all_clear}
 use Rattle.clock.specs.Clock.{next_clock}

@@ -1,11 +1,10 @@
 -- `ending::rest_all` rests every unit. The loop's invariant: the units below u are rested.
 -- Assumes nothing.
-use Prim.Native.Nat.{ℕ, ◌-◌, ◌≤◌}
-use mathlib.Core.Path.{◌≡◌, refl, ap, ◌∙◌}
+use Prim.Native.Nat.{ℕ}
+use mathlib.Core.Path.{refl, ap, ◌∙◌}
 use native.Mathlib.Omega.{arith}
 use Rattle.position.specs.Board.{board}
 use Rattle.position.specs.Change.{makes}
-use Rattle.position.specs.Laid.{Laid}
 use Rattle.position.proofs.Changes.{laid_make}
 use Rattle.march.specs.EndPhase.{rest_all}
 use Rattle.march.proofs.Ends.{rests_next}

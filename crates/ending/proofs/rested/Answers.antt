@@ -2,7 +2,6 @@
 -- Assumes nothing.
 use mathlib.Core.Path.{ap, ◌∙◌}
 use native.Mathlib.Omega.{arith}
-use borrow.Author.Rules.{rules}
 use Rattle.position.specs.Bits.{without, moved}
 use Rattle.march.specs.EndPhase.{rested}
 use Rattle.march.proofs.Ends.{rested_byte}

@@ -2,8 +2,6 @@
 -- Assumes nothing.
 use mathlib.Core.Path.{sym, ◌∙◌}
 use native.Mathlib.Omega.{arith}
-use borrow.Author.Rules.{rules}
-use borrow.Author.Tests.{not-false, not-true}
 use Rattle.plot.proofs.Searching.{on_plot}
 use Rattle.plot.proofs.Taking.{led_below}
 use Rattle.plot.proofs.Following.{stepped_apart, stepped_far, stepped_free, stepped_loose, stepped_shut}
@@ -13,7 +11,10 @@ pub returns-then-not-leads : goal.returns-then-not-leads
 returns-then-not-leads c = stepped_apart (sym c.leads.ensures ∙ c.if-not-leads.true)
 
 pub distance-far-requires : goal.distance-far-requires
-distance-far-requires c = (on_plot _ c.requires.2, on_plot _ (led_below _ _ _ (sym c.leads.ensures ∙ c.if-not-leads.false)))
+distance-far-requires c = record {
+  on = on_plot _ c.requires.2;
+  on_2 = on_plot _ (led_below _ _ _ (sym c.leads.ensures ∙ c.if-not-leads.false));
+}
 
 pub returns-then-far-eq0 : goal.returns-then-far-eq0
 returns-then-far-eq0 c = stepped_far (λ e. omega (arith, e, c.distance-far.ensures))

@@ -1,12 +1,9 @@
 -- `plot::follow::follows` meets its contract. The loop's invariant: the answer is what comes of the rest of the route and of the pushes.
 -- Assumes nothing.
 use Prim.Native.Nat.{◌-◌}
-use mathlib.Core.Path.{refl, sym}
-use native.Mathlib.Omega.{arith}
-use borrow.Author.Rules.{rules}
 use lib.ListN.{length}
 use Rattle.grid.specs.Region.{place_in}
-use Rattle.plot.proofs.Following.{Followed, followed_all, followed_more, followed_none, followed_wrong}
+use Rattle.plot.proofs.Following.{Followed}
 use Rattle.follow.proofs.follows.Given as goal
 
 abbrev pub invariant-loop-i : goal.invariant-loop-i

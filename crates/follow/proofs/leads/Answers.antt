@@ -1,11 +1,9 @@
 -- `plot::follow::leads` meets its contract. The loop's invariant: no step in the directions passed leads there.
 -- Assumes nothing.
-use Prim.Native.Nat.{◌-◌}
 use mathlib.Core.Path.{sym, ◌∙◌}
 use native.Mathlib.Omega.{arith}
-use borrow.Author.Rules.{rules}
 use Rattle.position.proofs.Tallies.{any_zero}
-use Rattle.plot.proofs.Taking.{Unled, led, unled, unled_at, unled_off}
+use Rattle.plot.proofs.Taking.{led, unled, unled_at, unled_off}
 use Rattle.follow.proofs.leads.Goals as goal
 
 pub loop-d-init : goal.loop-d-init

@@ -1,7 +1,6 @@
 -- `plot::follow::push_out` meets its contract.
 -- Assumes nothing.
 use native.Mathlib.Omega.{arith}
-use borrow.Author.Rules.{rules}
 use Rattle.plot.proofs.Taking.{pushed_to, pushed_wrong}
 use Rattle.follow.proofs.push_out.Goals as goal
 

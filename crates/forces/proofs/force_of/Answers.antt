@@ -1,7 +1,6 @@
 -- `forces::force_of` meets its contract.
 -- Assumes nothing.
 use mathlib.Core.Path.{ap, ◌∙◌}
-use borrow.Author.Rules.{rules}
 use Rattle.position.specs.Kind.{force}
 use Rattle.position.specs.Board.{force_of}
 use Rattle.forces.proofs.force_of.Goals as goal

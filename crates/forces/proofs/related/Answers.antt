@@ -1,7 +1,6 @@
 -- `forces::related` meets its contract: each relation has its function.
 -- Assumes nothing.
 use mathlib.Core.Path.{sym, ap, ◌∙◌}
-use borrow.Author.Rules.{rules}
 use Rattle.position.specs.declared.Relation.{Relation}
 use Rattle.position.specs.Board.{board, relates}
 use Rattle.forces.proofs.related.Goals as goal

@@ -1,7 +1,6 @@
 -- `grid::distance` meets its contract: rows and columns are small, so each sum fits, and the branch takes the larger of two.
 -- Assumes nothing.
 use native.Mathlib.Omega.{arith}
-use borrow.Author.Rules.{rules}
 use Rattle.grid.specs.Walk.{far, distance_of}
 use Rattle.grid.proofs.Arith.{row, column}
 use Rattle.grid.proofs.distance.Goals as goal

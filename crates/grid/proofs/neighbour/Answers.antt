@@ -2,9 +2,7 @@
 -- Assumes nothing.
 use mathlib.Core.Path.{sym, ◌∙◌, ap}
 use native.Mathlib.Omega.{arith}
-use borrow.Author.Rules.{rules}
-use borrow.Author.Tests.{not-true, not-false}
-use Rattle.grid.specs.Map.{On, hex_at, neighbour_of}
+use Rattle.grid.specs.Map.{hex_at, neighbour_of}
 use Rattle.grid.proofs.Arith.{column, row}
 use Rattle.grid.proofs.Tests.{on_facts, on_test}
 use Rattle.grid.proofs.neighbour.Goals as goal

@@ -3,8 +3,6 @@
 use mathlib.Core.Path.{◌≡◌, sym, ◌∙◌}
 use mathlib.Core.Bool.{true}
 use native.Mathlib.Omega.{arith}
-use borrow.Author.Rules.{rules}
-use borrow.Author.Tests.{not-true, not-false}
 use Rattle.grid.specs.Map.{one_to, on_map}
 use Rattle.grid.proofs.Arith.{small}
 use Rattle.grid.proofs.Tests.{one_to_lem}

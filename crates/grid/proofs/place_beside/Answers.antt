@@ -1,10 +1,8 @@
 -- `grid::place_beside` meets its contract: each arm is one of the six directions in the one table.
 -- Assumes nothing.
-use mathlib.Core.Path.{◌≡◌, ◌∙◌}
+use mathlib.Core.Path.{◌∙◌}
 use native.Mathlib.Omega.{arith}
-use borrow.Author.Rules.{rules}
-use Rattle.grid.specs.Map.{beside_of}
-use Rattle.grid.proofs.Step.{one_table, one_table_lem, nowhere}
+use Rattle.grid.proofs.Step.{one_table_lem, nowhere}
 use Rattle.grid.proofs.place_beside.Goals as goal
 
 pub returns-in-0 : goal.returns-in-0

@@ -1,11 +1,10 @@
 -- `ground::bearing` meets its contract. The loop's invariant: no direction passed leads there.
 -- The measure is how many directions are left.
 -- Assumes nothing.
-use Prim.Native.Nat.{ℕ, ◌-◌, ◌≤◌}
+use Prim.Native.Nat.{ℕ}
 use mathlib.Core.Path.{◌≡◌, sym, ap, ◌∙◌}
 use mathlib.Core.Bool.{Bool, false}
 use native.Mathlib.Omega.{arith}
-use borrow.Author.Rules.{rules}
 use Rattle.grid.specs.declared.Beside.{Beside}
 use Rattle.position.specs.Tally.{any}
 use Rattle.position.specs.Board.{Map, ground}

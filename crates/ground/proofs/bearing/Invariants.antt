@@ -2,17 +2,11 @@
 -- The measure is how many directions are left.
 -- Assumes nothing.
 use Prim.Native.Nat.{◌-◌, ◌≤◌}
-use mathlib.Core.Path.{◌≡◌, sym, ap, ◌∙◌}
+use mathlib.Core.Path.{◌≡◌}
 use mathlib.Core.Bool.{false}
-use native.Mathlib.Omega.{arith}
-use borrow.Author.Rules.{rules}
-use Rattle.grid.specs.declared.Beside.{Beside}
 use Rattle.position.specs.Tally.{any}
 use Rattle.position.specs.Board.{ground}
-use Rattle.position.specs.Ground.{is_at}
-use Rattle.position.proofs.Tallies.{any_zero, any_miss}
 use Rattle.position.proofs.Sides.{reaches}
-use Rattle.position.proofs.Bearings.{bearing_at, bearing_none}
 use Rattle.ground.proofs.bearing.Given as goal
 
 abbrev pub invariant-loop-d : goal.invariant-loop-d

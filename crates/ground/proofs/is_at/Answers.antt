@@ -1,7 +1,6 @@
 -- `ground::is_at` meets its contract.
 -- Assumes nothing.
 use mathlib.Core.Path.{sym, ap}
-use borrow.Author.Rules.{rules}
 use Rattle.grid.specs.declared.Beside.{Beside}
 use Rattle.position.specs.Ground.{is_at}
 use Rattle.ground.proofs.is_at.Goals as goal

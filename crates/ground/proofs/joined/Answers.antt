@@ -2,7 +2,6 @@
 -- Assumes nothing.
 use mathlib.Core.Path.{ap, ◌∙◌}
 use Prim.Native.Nat.{ℕ}
-use borrow.Author.Rules.{rules}
 use lib.Dec.{ltb}
 use Rattle.position.proofs.Bearings.{bearing_joined}
 use Rattle.ground.proofs.joined.Goals as goal

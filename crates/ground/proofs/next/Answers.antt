@@ -1,7 +1,6 @@
 -- `ground::next` meets its contract: the neighbour is looked up, and then the side between.
 -- Assumes nothing.
 use mathlib.Core.Path.{sym, ◌∙◌}
-use borrow.Author.Rules.{rules}
 use Rattle.position.proofs.Sides.{beside_view, next_blocked, next_off, next_at}
 use Rattle.ground.proofs.next.Goals as goal
 

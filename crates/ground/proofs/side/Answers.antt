@@ -2,7 +2,6 @@
 -- Assumes nothing.
 use mathlib.Core.Path.{sym, ◌∙◌}
 use native.Mathlib.Omega.{arith}
-use borrow.Author.Rules.{rules}
 use Rattle.position.specs.Board.{ground}
 use Rattle.position.proofs.Sides.{beside_view, side_own, side_beyond, side_edge}
 use Rattle.ground.proofs.side.Goals as goal

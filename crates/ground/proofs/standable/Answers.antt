@@ -5,7 +5,6 @@ use mathlib.Core.Path.{sym, ap, ◌∙◌}
 use mathlib.Core.Bool.{not}
 use native.Mathlib.Omega.{arith}
 use lib.Dec.{eqb}
-use borrow.Author.Rules.{rules}
 use Rattle.position.specs.Board.{board}
 use Rattle.position.specs.Layout.{cost}
 use Rattle.position.proofs.Sides.{standable_off, standable_sea, standable_land}

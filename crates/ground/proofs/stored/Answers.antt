@@ -3,7 +3,6 @@
 use Prim.Native.Nat.{ℕ, ◌/◌, ◌%◌}
 use mathlib.Core.Path.{ap, sym, ◌∙◌}
 use native.Mathlib.Omega.{arith}
-use borrow.Author.Rules.{rules}
 use Rattle.position.specs.Board.{ground}
 use Rattle.position.proofs.Sides.{stored_north, stored_north_east, stored_south_east}
 use Rattle.ground.proofs.stored.Goals as goal

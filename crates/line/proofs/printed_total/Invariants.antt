@@ -1,5 +1,5 @@
 -- The invariant: the total is that of the first fighters, and of each at most a byte. The measure is how many are left.
-use Rattle.std.proofs.Common.{◌≡◌, ◌-◌, ◌*◌, ◌≤◌, take, length}
+use Rattle.std.proofs.Common.{◌≡◌, ◌-◌, ◌*◌, ◌≤◌, take}
 use Rattle.line.specs.Line.{total_by, printed_of}
 use Rattle.line.proofs.printed_total.Given as goal
 

@@ -1,11 +1,7 @@
 -- `leads` meets its contract: off the map, to a hex that is marked otherwise and over a blocked side no step leads to such a hex, and any other does.
 -- Assumes nothing.
 use Prim.Native.Nat.{ℕ, ◌<◌}
-use mathlib.Core.Path.{◌≡◌, sym, ◌∙◌, subst}
-use borrow.Author.Rules.{rules}
-use Rattle.grid.specs.declared.Beside.TheVariants.{At}
-use Rattle.position.specs.Board.{ground}
-use Rattle.position.specs.Ground as Ground
+use mathlib.Core.Path.{sym, ◌∙◌, subst}
 use Rattle.walk.specs.Chain.{mark}
 use Rattle.walk.proofs.Looks.{shut_off, shut_other, shut_blocked, opens, near_beside, near_none, near_inside}
 use Rattle.looking.proofs.leads.Goals as goal

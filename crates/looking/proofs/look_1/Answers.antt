@@ -1,7 +1,6 @@
 -- `look_1` meets its contract: it is the first direction if a step leads to such a hex there, and else the first one after it is.
 -- Assumes nothing.
 use native.Mathlib.Omega.{arith}
-use borrow.Author.Rules.{rules}
 use Rattle.walk.proofs.Looks.{first_here, first_on}
 use Rattle.looking.proofs.look_1.Goals as goal
 use Rattle.looking.proofs.look_1.Goals.{then-from-le1+else-leads, else-from-le1}

@@ -12,7 +12,6 @@ use Rattle.aftermath.specs.Stage.{reassigned}
 use Rattle.position.specs.Role as Role
 use Rattle.losses.proofs.lose.Goals as goal
 
--- the layout stays
 pub reassign-requires : goal.reassign-requires
 reassign-requires c = (
   (let a = c.args in

@@ -1,10 +1,12 @@
 -- `moving::judge_move` meets its contract: each test's answer is its function's, one after the other.
 -- Assumes nothing.
+use Prim.Native.Nat.{ℕ, ◌≤◌, ◌<◌}
 use mathlib.Core.Path.{◌≡◌, sym, ap, subst, ◌∙◌}
-use mathlib.Core.Bool.{false, not}
+use mathlib.Core.Bool.{true, not}
 use native.Mathlib.Omega.{arith}
+use mathlib.Core.List.{List}
+use lib.ListN.{length}
 use lib.Dec.{leb}
-use borrow.Author.Rules.{rules}
 use borrow.Author.Tests.{le-leb, lt-leb}
 use Rattle.position.specs.Board.{board}
 use Rattle.ruling.specs.Verdict.Verdict.{refuse_if}
@@ -17,24 +19,19 @@ use Rattle.march.proofs.Judging.{path_through}
 use Rattle.moving.proofs.judge_move.Goals as goal
 
 -- the tests passed so far: of the lengths and numbers, along the path, and of the time
-to_map : (c : goal.In_default) →
-    let a = c.args in
-    Passes a.p.now
-    (λ v. refuse_if (not (path_length a.path.now)) 3 0
-    (refuse_if (leb (board a.p.now).units.count a.u) 3 0 (on_map_all (board a.p.now) a.path.now v)))
-to_map c l v a q m w =
-    pass (ap not (path_fits _ (omega arith) (omega arith)))
-    (pass (let a = c.args in
-    lt-leb (board a.p.now).units.count a.u (omega arith)) ((subst (TestedOf _ _ _) c.in_default.is c.on_map_all.ensures).0 l v a q m w))
+module _ (p path : List ℕ) (u : ℕ) where
+  to_map : 1 ≤ length path → length path ≤ 30 → u < (board p).units.count → Passes p (on_map_all (board p) path)
+      → Passes p (λ v. refuse_if (not (path_length path)) 3 0
+      (refuse_if (leb (board p).units.count u) 3 0 (on_map_all (board p) path v)))
+  to_map lo hi e f l v a q m w =
+      pass (ap not (path_fits _ lo hi)) (pass (lt-leb (board p).units.count u e) (f l v a q m w))
 
-to-now : (c : goal.Else-not-may_move_now) →
-    let a = c.args in
-    Passes a.p.now
-    (λ v. refuse_if (not (path_length a.path.now)) 3 0
-    (refuse_if (leb (board a.p.now).units.count a.u) 3 0
-    (on_map_all (board a.p.now) a.path.now (refuse_if (not (may_move_now (board a.p.now))) 2 0 v))))
-to-now c l v a q m w =
-    to_map c.before.before l _ a q m (pass (ap not (sym c.may_move_now.ensures ∙ c.if-not-may_move_now.false)) w)
+  to-now : 1 ≤ length path → length path ≤ 30 → u < (board p).units.count → Passes p (on_map_all (board p) path)
+      → may_move_now (board p) ≡ true
+      → Passes p (λ v. refuse_if (not (path_length path)) 3 0
+      (refuse_if (leb (board p).units.count u) 3 0
+      (on_map_all (board p) path (refuse_if (not (may_move_now (board p))) 2 0 v))))
+  to-now lo hi e f g l v a q m w = to_map lo hi e f l _ a q m (pass (ap not g) w)
 
 pub returns-then-long-lt1 : goal.returns-then-long-lt1
 unfolding move_checks
@@ -62,18 +59,18 @@ returns-in-Stopped c =
 pub returns-then-not-may_move_now : goal.returns-then-not-may_move_now
 unfolding move_checks
 returns-then-not-may_move_now c =
-    λ l v. to_map c.before.before l _ _ _ _ (stop (ap not (sym c.may_move_now.ensures ∙ c.if-not-may_move_now.true)))
+    λ l v. to_map c.args.p.now c.args.path.now c.args.u (omega arith) (omega arith) (omega arith) (subst (TestedOf _ _ _) c.in_default.is c.on_map_all.ensures).0 l _ _ _ _ (stop (ap not (sym c.may_move_now.ensures ∙ c.if-not-may_move_now.true)))
 
 pub returns-then-not_phasing : goal.returns-then-not_phasing
 unfolding move_checks
 returns-then-not_phasing c =
-    λ l v. to-now c.before.before l _ _ _ _ (stop (sym c.not_phasing.ensures ∙ c.if-not_phasing.true))
+    λ l v. to-now c.args.p.now c.args.path.now c.args.u (omega arith) (omega arith) (omega arith) (subst (TestedOf _ _ _) c.in_default.is c.on_map_all.ensures).0 (sym c.may_move_now.ensures ∙ c.if-not-may_move_now.false) l _ _ _ _ (stop (sym c.not_phasing.ensures ∙ c.if-not_phasing.true))
 
 pub returns-then-forbidden : goal.returns-then-forbidden
 unfolding move_checks
 returns-then-forbidden c =
     λ l v.
-    to-now c.before.before.before.before l _ _ _ _
+    to-now c.args.p.now c.args.path.now c.args.u (omega arith) (omega arith) (omega arith) (subst (TestedOf _ _ _) c.in_default.is c.on_map_all.ensures).0 (sym c.may_move_now.ensures ∙ c.if-not-may_move_now.false) l _ _ _ _
     (pass (sym c.not_phasing.ensures ∙ c.if-not_phasing.false) (stop (sym c.forbidden.ensures ∙ c.if-forbidden.true)))
 
 pub steps-requires : goal.steps-requires
@@ -84,7 +81,7 @@ unfolding move_checks
 returns c =
     path_through
     (λ l v a q m w.
-    to-now c.before.before.before.before.before l _ a q m
+    to-now c.args.p.now c.args.path.now c.args.u (omega arith) (omega arith) (omega arith) (subst (TestedOf _ _ _) c.in_default.is c.on_map_all.ensures).0 (sym c.may_move_now.ensures ∙ c.if-not-may_move_now.false) l _ a q m
     (pass (sym c.not_phasing.ensures ∙ c.if-not_phasing.false) (pass (sym c.forbidden.ensures ∙ c.if-forbidden.false) w)))
     c.steps.result
     c.steps.ensures

@@ -2,7 +2,6 @@
 -- Assumes nothing.
 use Prim.Native.Nat.{ℕ}
 use mathlib.Core.Path.{sym, ap, ◌∙◌}
-use borrow.Author.Rules.{rules}
 use lib.Dec.{eqb}
 use Rattle.march.proofs.Moves.{may_not, may_first, may_later}
 use Rattle.moving.proofs.may_move_now.Goals as goal

@@ -2,7 +2,6 @@
 -- Assumes nothing.
 use mathlib.Core.Path.{subst}
 use mathlib.Core.List.{[]}
-use borrow.Author.Rules.{rules}
 use Rattle.march.specs.Move.{move_rule}
 use Rattle.march.specs.Judged.{PathOf}
 use Rattle.moving.proofs.move_unit.Goals as goal

@@ -1,8 +1,6 @@
 -- `moving::moves_in` meets its contract: a type that moves by land, and in phase 2 one that moves then.
 -- Assumes nothing.
 use mathlib.Core.Path.{sym, ◌∙◌}
-use borrow.Author.Rules.{rules}
-use borrow.Author.Tests.{not-true}
 use Rattle.position.proofs.Answers.{holds}
 use Rattle.march.proofs.Moves.{moves_not, moves_second, moves_other}
 use Rattle.moving.proofs.moves_in.Goals as goal

@@ -2,31 +2,17 @@
 -- and with what it has spent, meets them all, and it is known whether the next step leaves a zone. The measure is how many places
 -- are left.
 -- Assumes nothing.
-use Prim.Native.Nat.{ℕ, ◌+◌, ◌-◌, ◌<◌}
-use mathlib.Core.Path.{◌≡◌, refl, sym, subst, ◌∙◌}
+use Prim.Native.Nat.{ℕ, ◌+◌}
+use mathlib.Core.Path.{refl, sym, subst, ◌∙◌}
 use native.Mathlib.Omega.{arith}
-use borrow.Author.Rules.{rules}
 use lib.ListN.{get_or}
-use Rattle.position.specs.Board.{board, force_of}
-use Rattle.field.specs.Scene.{scene}
-use Rattle.field.specs.Zone.{enemy_zone}
-use Rattle.march.specs.Move.{leg, leaves_zone, step, after_step, steps}
-use Rattle.march.specs.Judged.{Onward, WayOf}
+use Rattle.position.specs.Board.{board}
+use Rattle.march.specs.Move.{leg, step, after_step, steps}
+use Rattle.march.specs.Judged.{WayOf}
 use Rattle.ruling.proofs.Going.{Gone, gone_none, gone_stop, gone_end}
 use Rattle.march.proofs.Steps.{leaves_first, leaves_later}
 use Rattle.march.proofs.Judging.{gone_step}
 use Rattle.moving.proofs.steps.Goals as goal
-
--- the step at hand is made
-on-at : (c : goal.In-On) →
-    let i = c.loop-i in
-    let a = c.args in
-    let b = board a.p.now in
-    let l = leg i.at i.spent in
-    let x = get_or a.path.now i.i 0 in
-    let g = c.total-1.given.0 in
-    Onward a.p.now (step b a.u l x (i.i + 1)) (after_step b l x).spent (enemy_zone (scene b) (force_of b a.u) x) g.0 g.1.0
-on-at c = subst (WayOf _ _ _ _) c.in-On.is c.one_step.ensures
 
 pub loop-i-init : goal.loop-i-init
 loop-i-init c =
@@ -51,7 +37,7 @@ returns-in-Stop c =
 
 pub loop-i-preserved : goal.loop-i-preserved
 loop-i-preserved c =
-    let w = on-at c in
+    let w = subst (WayOf _ _ _ _) c.in-On.is c.one_step.ensures in
     let i = c.loop-i in
     let a = c.args in
     let b = board a.p.now in (

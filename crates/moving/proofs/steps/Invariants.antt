@@ -2,19 +2,11 @@
 -- and with what it has spent, meets them all, and it is known whether the next step leaves a zone. The measure is how many places
 -- are left.
 -- Assumes nothing.
-use Prim.Native.Nat.{ℕ, ◌+◌, ◌-◌, ◌<◌}
-use mathlib.Core.Path.{◌≡◌, refl, sym, subst, ◌∙◌}
-use native.Mathlib.Omega.{arith}
-use borrow.Author.Rules.{rules}
-use lib.ListN.{get_or}
-use Rattle.position.specs.Board.{board, force_of}
-use Rattle.field.specs.Scene.{scene}
-use Rattle.field.specs.Zone.{enemy_zone}
-use Rattle.march.specs.Move.{leg, leaves_zone, step, after_step, steps}
-use Rattle.march.specs.Judged.{Onward, WayOf}
-use Rattle.ruling.proofs.Going.{Gone, gone_none, gone_stop, gone_end}
-use Rattle.march.proofs.Steps.{leaves_first, leaves_later}
-use Rattle.march.proofs.Judging.{gone_step}
+use Prim.Native.Nat.{◌+◌, ◌-◌, ◌<◌}
+use mathlib.Core.Path.{◌≡◌}
+use Rattle.position.specs.Board.{board}
+use Rattle.march.specs.Move.{leg, leaves_zone, step, after_step}
+use Rattle.ruling.proofs.Going.{Gone}
 use Rattle.moving.proofs.steps.Given as goal
 
 abbrev pub invariant-loop-i : goal.invariant-loop-i

@@ -1,15 +1,11 @@
 -- `odds::column` meets its contract. The loop's invariant: `last` is the last column below c that is reached.
 -- The measure is how many are left.
 -- Assumes nothing.
-use Prim.Native.Nat.{◌-◌}
-use mathlib.Core.Logic.{⊎_elim}
 use mathlib.Core.Path.{◌∙◌, sym}
 use native.Mathlib.Omega.{arith}
-use borrow.Author.Rules.{rules}
 use Rattle.grid.proofs.Arith.{small}
-use Rattle.position.specs.Board.{results}
-use Rattle.odds.proofs.Columns.{Highest, highest_all, highest_hit, highest_miss, highest_none}
-use Rattle.odds.specs.Odds.{column, last, reached}
+use Rattle.odds.proofs.Columns.{highest_all, highest_hit, highest_miss, highest_none}
+use Rattle.odds.specs.Odds.{column, reached}
 use Rattle.odds.proofs.column.Goals as goal
 use Rattle.odds.proofs.column.Goals.{then-reached, else-reached}
 

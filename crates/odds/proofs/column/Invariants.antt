@@ -2,14 +2,9 @@
 -- The measure is how many are left.
 -- Assumes nothing.
 use Prim.Native.Nat.{◌-◌}
-use mathlib.Core.Logic.{⊎_elim}
-use mathlib.Core.Path.{◌∙◌, sym}
-use native.Mathlib.Omega.{arith}
-use borrow.Author.Rules.{rules}
-use Rattle.grid.proofs.Arith.{small}
 use Rattle.position.specs.Board.{results}
-use Rattle.odds.proofs.Columns.{Highest, highest_all, highest_hit, highest_miss, highest_none}
-use Rattle.odds.specs.Odds.{column, last, reached}
+use Rattle.odds.proofs.Columns.{Highest}
+use Rattle.odds.specs.Odds.{last, reached}
 use Rattle.odds.proofs.column.Given as goal
 
 abbrev pub invariant-loop-c : goal.invariant-loop-c

@@ -3,7 +3,6 @@
 use Prim.Native.Nat.{ℕ}
 use mathlib.Core.Path.{◌∙◌, ap}
 use native.Mathlib.Omega.{arith}
-use borrow.Author.Rules.{rules}
 use Rattle.grid.proofs.Arith.{small}
 use Rattle.position.specs.Board.{board, ground}
 use Rattle.position.specs.Ground.{joined}

@@ -1,7 +1,6 @@
 -- `odds::multiple_at` meets its contract: the larger of the terrain's multiple and the smallest that is crossed.
 -- Assumes nothing.
 use mathlib.Core.Path.{◌∙◌, ap}
-use borrow.Author.Rules.{rules}
 use Rattle.grid.proofs.Arith.{small}
 use Rattle.position.specs.Board.{board}
 use Rattle.odds.proofs.Columns.{larger_below, multiple_read}

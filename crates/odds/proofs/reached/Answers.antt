@@ -3,7 +3,6 @@
 use Prim.Native.Nat.{◌*◌, ℕ}
 use mathlib.Core.Path.{ap₂}
 use native.Mathlib.Omega.{arith}
-use borrow.Author.Rules.{rules}
 use lib.Dec.{leb}
 use Rattle.odds.proofs.Columns.{product_fits, product_fits_too}
 use Rattle.odds.specs.Odds.{reached}

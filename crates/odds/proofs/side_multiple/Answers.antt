@@ -2,7 +2,6 @@
 -- Assumes nothing.
 use mathlib.Core.Path.{◌∙◌, sym}
 use native.Mathlib.Omega.{arith}
-use borrow.Author.Rules.{rules}
 use Rattle.grid.proofs.Arith.{small}
 use Rattle.odds.proofs.Columns.{multiple_major, multiple_none, multiple_river}
 use Rattle.odds.proofs.side_multiple.Goals as goal

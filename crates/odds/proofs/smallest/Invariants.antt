@@ -1,12 +1,9 @@
 -- `odds::smallest` meets its contract. The loop's invariant: `low` is the smallest of those passed. The measure is how many are left.
 -- Assumes nothing.
 use Prim.Native.Nat.{◌-◌}
-use native.Mathlib.Omega.{arith}
-use borrow.Author.Rules.{rules}
-use Rattle.grid.proofs.Arith.{small}
 use Rattle.position.proofs.BitLaws.{low}
 use Rattle.position.specs.Board.{board}
-use Rattle.odds.proofs.Columns.{Lowest, lowest_all, lowest_first, lowest_more}
+use Rattle.odds.proofs.Columns.{Lowest}
 use Rattle.odds.specs.Odds.{crossed}
 use Rattle.odds.proofs.smallest.Given as goal
 

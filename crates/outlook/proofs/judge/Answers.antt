@@ -1,7 +1,6 @@
 -- `routes::judge` meets its contract: the window has 56 bytes, all 0.
 -- Assumes nothing.
 use mathlib.Core.Path.{refl}
-use borrow.Author.Rules.{rules}
 use Rattle.outlook.proofs.judge.Goals as goal
 
 pub judge_by-requires : goal.judge_by-requires

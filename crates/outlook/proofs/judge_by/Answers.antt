@@ -1,7 +1,6 @@
 -- `routes::judge_by` meets its contract: the blank window is painted before it tells.
 -- Assumes nothing.
 use native.Mathlib.Omega.{arith}
-use borrow.Author.Rules.{rules}
 use Rattle.position.proofs.Sides.{on_view}
 use Rattle.paint.proofs.Bytes.{blank_long, blank_all}
 use Rattle.routes.proofs.Windows.{round_room, window_is}

@@ -1,7 +1,6 @@
 -- `referee::pack_answer` meets its contract: the variant that was matched is the answer.
 -- Assumes nothing.
 use mathlib.Core.Path.{sym, ap, ◌∙◌}
-use borrow.Author.Rules.{rules}
 use Rattle.ruling.specs.Answers.{answer_as}
 use Rattle.ruling.specs.declared.Answer.{Answer}
 use Rattle.ruling.specs.Packed.{packed, values_of}

@@ -1,7 +1,6 @@
 -- `referee::pack_fought` meets its contract: the variant that was matched is the answer.
 -- Assumes nothing.
 use mathlib.Core.Path.{sym, ap, ◌∙◌}
-use borrow.Author.Rules.{rules}
 use Rattle.battle.specs.Answers.{fought_as}
 use Rattle.battle.specs.declared.Fought.{Fought}
 use Rattle.ruling.specs.Packed.{packed, values_of}

@@ -1,7 +1,6 @@
 -- `referee::pack_moved` meets its contract: the variant that was matched is the answer.
 -- Assumes nothing.
 use mathlib.Core.Path.{sym, ap, ◌∙◌}
-use borrow.Author.Rules.{rules}
 use Rattle.march.specs.Answers.{moved_as}
 use Rattle.march.specs.declared.Moved.{Moved}
 use Rattle.ruling.specs.Packed.{packed, values_of}

@@ -1,7 +1,6 @@
 -- `referee::pack_retreated` meets its contract: the variant that was matched is the answer.
 -- Assumes nothing.
 use mathlib.Core.Path.{sym, ap, ◌∙◌}
-use borrow.Author.Rules.{rules}
 use Rattle.retreat.specs.Answers.{retreated_as}
 use Rattle.retreat.specs.declared.Retreated.{Retreated}
 use Rattle.ruling.specs.Packed.{packed, values_of}

@@ -1,7 +1,6 @@
 -- `referee::refusal` meets its contract.
 -- Assumes nothing.
 use mathlib.Core.Path.{refl}
-use borrow.Author.Rules.{rules}
 use Rattle.ruling.specs.Packed.{refusal_of}
 use Rattle.packing.proofs.refusal.Goals as goal
 

@@ -1,10 +1,8 @@
 -- `paint::clear` meets its contract. The loop's invariant: the bytes below i are 0, and the others are as they were.
 -- Assumes nothing.
-use Prim.Native.Nat.{◌-◌, ◌≤◌}
 use mathlib.Core.Path.{refl}
 use native.Mathlib.Omega.{arith}
-use Rattle.paint.proofs.Bytes.{Pass, pass_none, pass_set, emptied, all_emptied}
-use borrow.Author.Rules.{rules}
+use Rattle.paint.proofs.Bytes.{pass_none, pass_set, emptied, all_emptied}
 use Rattle.paint.proofs.clear.Goals as goal
 
 pub loop-i-init : goal.loop-i-init

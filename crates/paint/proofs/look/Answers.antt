@@ -1,7 +1,6 @@
 -- `look` meets its contract: the buffer has one byte.
 -- Assumes nothing.
 use mathlib.Core.Path.{refl}
-use borrow.Author.Rules.{rules}
 use Rattle.paint.proofs.look.Goals as goal
 
 pub look_in-requires : goal.look_in-requires

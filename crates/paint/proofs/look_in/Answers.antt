@@ -4,7 +4,6 @@ use native.Mathlib.Omega.{arith}
 use Rattle.position.proofs.Sides.{on_view}
 use Rattle.paint.proofs.Bytes.{blank_long, blank_all}
 use Rattle.paint.proofs.Units.{one_marked}
-use borrow.Author.Rules.{rules}
 use Rattle.paint.proofs.look_in.Goals as goal
 
 pub spot-s-requires : goal.spot-s-requires

@@ -2,7 +2,6 @@
 -- Assumes nothing.
 use lib.ListN.{length}
 use Rattle.paint.proofs.Adding.{room_kept}
-use borrow.Author.Rules.{rules}
 use Rattle.paint.proofs.Bytes.{blank_long, blank_all}
 use Rattle.paint.proofs.paint.Goals as goal
 

@@ -5,7 +5,6 @@ use Rattle.position.specs.Board.{board}
 use Rattle.field.specs.Scene.{scene}
 use Rattle.position.proofs.Sides.{on_first}
 use Rattle.paint.proofs.Units.{painted}
-use borrow.Author.Rules.{rules}
 use Rattle.paint.proofs.paint_blank.Goals as goal
 
 pub first-requires : goal.first-requires

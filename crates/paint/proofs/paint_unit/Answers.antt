@@ -7,7 +7,6 @@ use Rattle.field.specs.Scene.{scene}
 use Rattle.position.proofs.Sides.{on_view, area_view}
 use Rattle.paint.proofs.Adding.{room_kept, adds_none, adds_as, adds_also}
 use Rattle.paint.proofs.Units.{unit_away, says_parts}
-use borrow.Author.Rules.{rules}
 use Rattle.paint.proofs.paint_unit.Goals as goal
 
 pub returns-then-to-h : goal.returns-then-to-h

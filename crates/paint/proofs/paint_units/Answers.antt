@@ -1,14 +1,13 @@
 -- `paint_units` meets its contract. The loop's invariant: what the units below u show is marked.
 -- Assumes nothing.
-use Prim.Native.Nat.{ℕ, ◌-◌, ◌≤◌}
+use Prim.Native.Nat.{ℕ}
 use mathlib.Core.Path.{ap}
 use native.Mathlib.Omega.{arith}
 use Rattle.position.specs.Board.{board}
 use Rattle.field.specs.Scene.{scene}
-use Rattle.paint.specs.Paint.{Adds, says_below}
+use Rattle.paint.specs.Paint.{says_below}
 use Rattle.paint.proofs.Adding.{room_kept, adds_none, adds_as, adds_also}
 use Rattle.paint.proofs.Units.{below_none, below_step}
-use borrow.Author.Rules.{rules}
 use Rattle.paint.proofs.paint_units.Goals as goal
 
 pub loop-u-init : goal.loop-u-init

@@ -2,7 +2,6 @@
 -- Assumes nothing.
 use native.Mathlib.Omega.{arith}
 use mathlib.Core.Path.{sym, ◌∙◌}
-use borrow.Author.Rules.{rules}
 use Rattle.position.proofs.Changes.{laid_make}
 use Rattle.position.specs.Change.Change.{staged}
 use Rattle.position.specs.Stage as Stage

@@ -1,10 +1,8 @@
 -- `stage::reassign` meets its contract. The loop's invariant: the units passed have their new roles, the others are as they were.
 -- The measure is how many are left.
 -- Assumes nothing.
-use Prim.Native.Nat.{◌-◌}
 use native.Mathlib.Omega.{arith}
-use borrow.Author.Rules.{rules}
-use Rattle.aftermath.proofs.Stages.{Renewing, renewing_all, renewing_more, renewing_none}
+use Rattle.aftermath.proofs.Stages.{renewing_all, renewing_more, renewing_none}
 use Rattle.passing.proofs.reassign.Goals as goal
 
 pub loop-u-init : goal.loop-u-init

@@ -2,9 +2,7 @@
 -- The measure is how many are left.
 -- Assumes nothing.
 use Prim.Native.Nat.{◌-◌}
-use native.Mathlib.Omega.{arith}
-use borrow.Author.Rules.{rules}
-use Rattle.aftermath.proofs.Stages.{Renewing, renewing_all, renewing_more, renewing_none}
+use Rattle.aftermath.proofs.Stages.{Renewing}
 use Rattle.passing.proofs.reassign.Given as goal
 
 abbrev pub invariant-loop-u : goal.invariant-loop-u

@@ -1,7 +1,6 @@
 -- `stage::reassign_one` meets its contract: a unit with another role stays as it is, one with the role gets the new one.
 -- Assumes nothing.
 use mathlib.Core.Path.{sym, ◌∙◌}
-use borrow.Author.Rules.{rules}
 use Rattle.aftermath.proofs.Stages.{renew_other, renew_own}
 use Rattle.passing.proofs.reassign_one.Goals as goal
 

@@ -2,8 +2,6 @@
 -- Assumes nothing.
 use mathlib.Core.Path.{sym, ap, ◌∙◌}
 use lib.ListN.{length}
-use borrow.Author.Rules.{rules}
-use borrow.Author.Tests.{not-true, not-false}
 use Rattle.pushes.proofs.Judging.{none_serves, wrong_length, sent_wrong, sent_right}
 use Rattle.pushes.proofs.judge_by.Goals as goal
 

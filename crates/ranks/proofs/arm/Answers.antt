@@ -1,8 +1,6 @@
 -- `ranks::arm` meets its contract: a nationality that takes no part leaves all as it was, any other is armed by its supply.
 -- Assumes nothing.
 use mathlib.Core.Path.{◌∙◌, sym}
-use borrow.Author.Rules.{rules}
-use borrow.Author.Tests.{not-true}
 use Rattle.battle.proofs.Lines.{arms_none}
 use Rattle.ranks.proofs.arm.Goals as goal
 

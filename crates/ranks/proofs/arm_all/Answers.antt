@@ -1,14 +1,9 @@
 -- `ranks::arm_all` meets its contract. The loop's invariant: the nationalities passed are armed, and the scratch keeps its length.
 -- The measure is how many are left.
 -- Assumes nothing.
-use Prim.Native.Nat.{◌-◌, ◌≤◌}
-use mathlib.Core.Path.{◌≡◌, refl, ◌∙◌}
+use mathlib.Core.Path.{refl, ◌∙◌}
 use native.Mathlib.Omega.{arith}
-use lib.ListN.{length}
-use borrow.Author.Rules.{rules}
-use Rattle.position.specs.Board.{board}
-use Rattle.position.specs.Kind.{us}
-use Rattle.battle.proofs.Lines.{ArmedTo, armed_all, armed_home, armed_more, armed_none}
+use Rattle.battle.proofs.Lines.{armed_all, armed_home, armed_more, armed_none}
 use Rattle.ranks.proofs.arm_all.Goals as goal
 
 pub loop-nation-init : goal.loop-nation-init

@@ -2,13 +2,11 @@
 -- The measure is how many are left.
 -- Assumes nothing.
 use Prim.Native.Nat.{◌-◌, ◌≤◌}
-use mathlib.Core.Path.{◌≡◌, refl, ◌∙◌}
-use native.Mathlib.Omega.{arith}
+use mathlib.Core.Path.{◌≡◌}
 use lib.ListN.{length}
-use borrow.Author.Rules.{rules}
 use Rattle.position.specs.Board.{board}
 use Rattle.position.specs.Kind.{us}
-use Rattle.battle.proofs.Lines.{ArmedTo, armed_all, armed_home, armed_more, armed_none}
+use Rattle.battle.proofs.Lines.{ArmedTo}
 use Rattle.ranks.proofs.arm_all.Given as goal
 
 abbrev pub invariant-loop-nation : goal.invariant-loop-nation

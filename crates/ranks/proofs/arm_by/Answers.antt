@@ -1,15 +1,11 @@
 -- `ranks::arm_by` meets its contract. The loop's invariant: the places passed are armed where they are of the nationality.
 -- The measure is how many are left.
 -- Assumes nothing.
-use Prim.Native.Nat.{◌-◌}
-use mathlib.Core.List.{map}
-use mathlib.Core.Logic.{⊎_elim}
 use mathlib.Core.Path.{◌∙◌, ◌≡◌, ap, ap₂, sym}
 use native.Mathlib.Omega.{arith}
-use borrow.Author.Rules.{rules}
 use lib.ListN.{get_or}
 use Rattle.position.specs.Board.{board}
-use Rattle.battle.proofs.Lines.{Arming, arming_all, arming_hit, arming_miss, arming_none, traced_as}
+use Rattle.battle.proofs.Lines.{arming_all, arming_hit, arming_miss, arming_none, traced_as}
 use Rattle.battle.specs.Line.{strength_of}
 use Rattle.ranks.proofs.arm_by.Goals as goal
 use Rattle.ranks.proofs.arm_by.Goals.{then-nationality-nation, else-nationality-nation}

@@ -1,8 +1,6 @@
 -- `ranks::arm_home` meets its contract: of US and Canada, one that takes no part leaves all as it was, and the other is armed by its supply.
 -- Assumes nothing.
 use mathlib.Core.Path.{◌∙◌, sym}
-use borrow.Author.Tests.{not-true}
-use borrow.Author.Rules.{rules}
 use Rattle.battle.proofs.Lines.{arms_none}
 use Rattle.ranks.proofs.arm_home.Goals as goal
 

@@ -1,11 +1,8 @@
 -- `ranks::draw_up` meets its contract. The loop's invariant: the places passed are filled. The measure is how many are left.
 -- Assumes nothing.
-use Prim.Native.Nat.{◌-◌}
 use mathlib.Core.Path.{refl}
 use native.Mathlib.Omega.{arith}
-use borrow.Author.Rules.{rules}
 use Rattle.line.proofs.Filling.{filled_all, filled_more, filled_none}
-use Rattle.line.specs.Line.{Filled}
 use Rattle.battle.specs.Mustered.{drawn}
 use Rattle.ranks.proofs.draw_up.Goals as goal
 

@@ -1,10 +1,7 @@
 -- `ranks::enlist` meets its contract. The loop's invariant: those passed stand in the array. The measure is how many are left.
 -- Assumes nothing.
 use Prim.Native.Nat.{◌-◌}
-use mathlib.Core.Path.{refl}
-use native.Mathlib.Omega.{arith}
-use borrow.Author.Rules.{rules}
-use Rattle.battle.proofs.Lines.{Enlisting, enlist_all, enlist_more}
+use Rattle.battle.proofs.Lines.{Enlisting}
 use Rattle.ranks.proofs.enlist.Given as goal
 
 abbrev pub invariant-loop-i : goal.invariant-loop-i

@@ -1,16 +1,14 @@
 -- `ranks::join` meets its contract. The loop's invariant: the units passed that stand there have joined. The measure is how many are left.
 -- Assumes nothing.
-use Prim.Native.Nat.{ℕ, ◌+◌, ◌-◌, ◌<◌, ◌≤◌}
-use mathlib.Core.Logic.{⊎_elim}
+use Prim.Native.Nat.{ℕ, ◌+◌, ◌≤◌}
 use mathlib.Core.Path.{◌≡◌, ◌∙◌, sym}
 use native.Mathlib.Omega.{arith}
-use borrow.Author.Rules.{rules}
 use lib.ListN.{length}
-use Rattle.position.specs.Board.{Board, board}
+use Rattle.position.specs.Board.{Board}
 use Rattle.field.proofs.Zones.{stands_here, stands_off}
 use Rattle.field.specs.Scene.{scene}
 use Rattle.field.specs.Zone.{stands_on}
-use Rattle.battle.proofs.Lines.{Joining, joining_hit, joining_miss, joining_none, joining_room, joins_all}
+use Rattle.battle.proofs.Lines.{joining_hit, joining_miss, joining_none, joining_room, joins_all}
 use Rattle.field.specs.Listed.{sieve}
 use Rattle.results.specs.Participants.{defenders}
 use Rattle.line.specs.Line.{places}

@@ -1,12 +1,10 @@
 -- `ranks::strengths` meets its contract. The loop's invariant: the strengths of those passed stand in the array.
 -- The measure is how many are left.
 -- Assumes nothing.
-use Prim.Native.Nat.{◌-◌}
 use mathlib.Core.Path.{◌∙◌, ap, refl}
 use native.Mathlib.Omega.{arith}
-use borrow.Author.Rules.{rules}
 use Rattle.position.specs.Layout.{strength}
-use Rattle.battle.proofs.Lines.{Printing, printing_more, prints_all}
+use Rattle.battle.proofs.Lines.{printing_more, prints_all}
 use Rattle.ranks.proofs.strengths.Goals as goal
 
 pub loop-i-init : goal.loop-i-init

@@ -2,11 +2,7 @@
 -- The measure is how many are left.
 -- Assumes nothing.
 use Prim.Native.Nat.{◌-◌}
-use mathlib.Core.Path.{◌∙◌, ap, refl}
-use native.Mathlib.Omega.{arith}
-use borrow.Author.Rules.{rules}
-use Rattle.position.specs.Layout.{strength}
-use Rattle.battle.proofs.Lines.{Printing, printing_more, prints_all}
+use Rattle.battle.proofs.Lines.{Printing}
 use Rattle.ranks.proofs.strengths.Given as goal
 
 abbrev pub invariant-loop-i : goal.invariant-loop-i

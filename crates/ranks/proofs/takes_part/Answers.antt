@@ -1,17 +1,16 @@
 -- `ranks::takes_part` meets its contract. The loop's invariant: none of those passed is of the nationality. The measure is how many are left.
 -- Assumes nothing.
-use Prim.Native.Nat.{◌-◌, ℕ}
+use Prim.Native.Nat.{ℕ}
 use mathlib.Core.Path.{◌∙◌, ◌≡◌, ap, sym}
 use native.Mathlib.Omega.{arith}
-use borrow.Author.Rules.{rules}
 use borrow.Author.Tests.{eq-eqb, ne_eqb}
 use lib.Dec.{eqb}
 use Rattle.position.proofs.Tallies.{any_true}
-use Rattle.position.specs.Board.{Board, board}
+use Rattle.position.specs.Board.{Board}
 use lib.ListN.{get_or}
 use mathlib.Core.List.{List}
 use Rattle.battle.specs.Mustered.{nation_at}
-use Rattle.field.proofs.Zones.{None, none_yet, one_more, none_at_all}
+use Rattle.field.proofs.Zones.{none_yet, one_more, none_at_all}
 use Rattle.ranks.proofs.takes_part.Goals as goal
 
 -- whether the unit at hand is of the nationality

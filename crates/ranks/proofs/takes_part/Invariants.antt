@@ -1,15 +1,9 @@
 -- `ranks::takes_part` meets its contract. The loop's invariant: none of those passed is of the nationality. The measure is how many are left.
 -- Assumes nothing.
-use Prim.Native.Nat.{◌-◌, ℕ}
-use mathlib.Core.Path.{◌∙◌, ◌≡◌, ap, sym}
-use native.Mathlib.Omega.{arith}
-use borrow.Author.Rules.{rules}
-use borrow.Author.Tests.{eq-eqb, ne_eqb}
-use lib.Dec.{eqb}
-use Rattle.position.proofs.Tallies.{any_true}
+use Prim.Native.Nat.{◌-◌}
 use Rattle.position.specs.Board.{board}
 use Rattle.battle.specs.Mustered.{nation_at}
-use Rattle.field.proofs.Zones.{None, none_yet, one_more, none_at_all}
+use Rattle.field.proofs.Zones.{None}
 use Rattle.ranks.proofs.takes_part.Given as goal
 
 abbrev pub invariant-loop-i : goal.invariant-loop-i

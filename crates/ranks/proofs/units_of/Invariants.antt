@@ -1,10 +1,6 @@
 -- `ranks::units_of` meets its contract. The loop's invariant: the places passed hold the units. The measure is how many are left.
 -- Assumes nothing.
 use Prim.Native.Nat.{◌-◌}
-use mathlib.Core.Path.{refl}
-use native.Mathlib.Omega.{arith}
-use borrow.Author.Rules.{rules}
-use Rattle.battle.proofs.Lines.{names_all, names_more, names_none}
 use Rattle.battle.specs.Mustered.{Names}
 use Rattle.ranks.proofs.units_of.Given as goal
 

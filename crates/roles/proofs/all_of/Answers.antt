@@ -1,15 +1,8 @@
 -- `roles_ok::all_of` meets its contract. The loop's invariant: every unit before u that has the role is of the force.
 -- Assumes nothing.
-use Prim.Native.Nat.{ℕ, ◌-◌}
-use mathlib.Core.Path.{◌≡◌}
-use mathlib.Core.List.{List}
 use native.Mathlib.Omega.{arith}
-use borrow.Author.Rules.{rules}
-use Rattle.position.specs.Layout.{role}
-use Rattle.position.specs.Board.{board, force_of}
-use Rattle.position.proofs.Answers.{said, unsaid, Passed, none_yet, one_more, all, not_all}
+use Rattle.position.proofs.Answers.{said, unsaid, none_yet, one_more, all, not_all}
 use Rattle.roles.proofs.all_of.Goals as goal
-use Rattle.roles.proofs.all_of.Invariants.{IsOf}
 
 pub loop-u-init : goal.loop-u-init
 loop-u-init c = none_yet

@@ -3,11 +3,9 @@
 use Prim.Native.Nat.{ℕ, ◌-◌}
 use mathlib.Core.Path.{◌≡◌}
 use mathlib.Core.List.{List}
-use native.Mathlib.Omega.{arith}
-use borrow.Author.Rules.{rules}
 use Rattle.position.specs.Layout.{role}
 use Rattle.position.specs.Board.{board, force_of}
-use Rattle.position.proofs.Answers.{said, unsaid, Passed, none_yet, one_more, all, not_all}
+use Rattle.position.proofs.Answers.{Passed}
 use Rattle.roles.proofs.all_of.Given as goal
 
 abbrev pub IsOf : List ℕ → ℕ → ℕ → ℕ → Type 0

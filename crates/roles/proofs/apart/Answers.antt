@@ -1,7 +1,6 @@
 -- `roles_ok::apart` meets its contract: where a role is not held there is nothing to ask, else the first units stand for all.
 -- Assumes nothing.
 use native.Mathlib.Omega.{arith}
-use borrow.Author.Rules.{rules}
 use Rattle.acceptance.proofs.Roles.{nobody, not_apart, stand_apart}
 use Rattle.roles.proofs.apart.Goals as goal
 

@@ -1,14 +1,8 @@
 -- `roles_ok::holder` meets its contract. The loop's invariant: no unit before u has the role. The measure is how many units are left.
 -- Assumes nothing.
-use Prim.Native.Nat.{ℕ, ◌-◌}
-use mathlib.Core.Path.{◌≡◌}
-use mathlib.Core.List.{List}
 use native.Mathlib.Omega.{arith}
-use borrow.Author.Rules.{rules}
-use Rattle.position.specs.Layout.{role}
-use Rattle.position.proofs.Answers.{Passed, none_yet, one_more}
+use Rattle.position.proofs.Answers.{none_yet, one_more}
 use Rattle.roles.proofs.holder.Goals as goal
-use Rattle.roles.proofs.holder.Invariants.{Lacks}
 
 pub loop-u-init : goal.loop-u-init
 loop-u-init c = none_yet

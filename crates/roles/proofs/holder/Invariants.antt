@@ -3,10 +3,8 @@
 use Prim.Native.Nat.{ℕ, ◌-◌}
 use mathlib.Core.Path.{◌≡◌}
 use mathlib.Core.List.{List}
-use native.Mathlib.Omega.{arith}
-use borrow.Author.Rules.{rules}
 use Rattle.position.specs.Layout.{role}
-use Rattle.position.proofs.Answers.{Passed, none_yet, one_more}
+use Rattle.position.proofs.Answers.{Passed}
 use Rattle.roles.proofs.holder.Given as goal
 
 abbrev pub Lacks : List ℕ → ℕ → ℕ → Type 0

@@ -1,7 +1,6 @@
 -- `roles_ok::is_of` meets its contract: the role and the force are read.
 -- Assumes nothing.
 use native.Mathlib.Omega.{arith}
-use borrow.Author.Rules.{rules}
 use Rattle.roles.proofs.is_of.Goals as goal
 
 pub returns-then-force_of-f : goal.returns-then-force_of-f

@@ -1,7 +1,6 @@
 -- `roles_ok::one_force` meets its contract: where no unit has the role there is nothing to ask, else the first stands for all.
 -- Assumes nothing.
 use native.Mathlib.Omega.{arith}
-use borrow.Author.Rules.{rules}
 use Rattle.position.proofs.Answers.{told}
 use Rattle.acceptance.proofs.Roles.{nobody, all_one, one_all}
 use Rattle.roles.proofs.one_force.Goals as goal

@@ -1,6 +1,5 @@
 -- `roles_ok::roles_ok` meets its contract: both roles are asked about, then their forces.
 -- Assumes nothing.
-use borrow.Author.Rules.{rules}
 use Rattle.position.proofs.Answers.{said, unsaid}
 use Rattle.roles.proofs.roles_ok.Goals as goal
 

@@ -1,6 +1,5 @@
 -- `rules::losses` meets its promise: refusal 1, or on a checked position that of the call it forwards to.
 -- Assumes nothing.
-use borrow.Author.Rules.{rules}
 use Rattle.ruling.proofs.Checks.{checked, unchecked, whole}
 use Rattle.rules.specs.Order.{rule_of}
 use Rattle.rules.proofs.losses.Goals as goal

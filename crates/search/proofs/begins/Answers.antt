@@ -1,7 +1,6 @@
 -- `search::begins` meets its contract: no step, the last one, or the recursion.
 -- Assumes nothing.
 use mathlib.Core.Path.{refl, sym, ◌∙◌}
-use borrow.Author.Rules.{rules}
 use Rattle.plot.proofs.Searching.{serves_done, serves_last}
 use Rattle.search.proofs.begins.Goals as goal
 

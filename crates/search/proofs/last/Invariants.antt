@@ -1,12 +1,7 @@
 -- `plot::search::last` meets its contract.
 -- Assumes nothing.
 use Prim.Native.Nat.{◌-◌}
-use mathlib.Core.Path.{refl, sym, ◌∙◌}
-use native.Mathlib.Omega.{arith}
-use borrow.Author.Rules.{rules}
-use Rattle.position.proofs.Tallies.{any_zero}
-use Rattle.plot.proofs.Plots.{next_below}
-use Rattle.plot.proofs.Searching.{Unserved, served, unserved, unserved_off, unserved_over}
+use Rattle.plot.proofs.Searching.{Unserved}
 use Rattle.search.proofs.last.Given as goal
 
 abbrev pub invariant-loop-d : goal.invariant-loop-d

@@ -2,7 +2,6 @@
 -- Assumes nothing.
 use mathlib.Core.Path.{refl, sym, ◌∙◌}
 use native.Mathlib.Omega.{arith}
-use borrow.Author.Rules.{rules}
 use Rattle.plot.proofs.Searching.{last_free, last_loose, on_plot, over_far, over_shut}
 use Rattle.search.proofs.last_over.Goals as goal
 

@@ -1,7 +1,6 @@
 -- `shape::entry` meets its contract: both numbers are read and compared.
 -- Assumes nothing.
 use native.Mathlib.Omega.{arith}
-use borrow.Author.Rules.{rules}
 use Rattle.position.specs.Layout.{offset, extent}
 use Rattle.shape.proofs.entry.Goals as goal
 

@@ -2,9 +2,8 @@
 -- Assumes nothing.
 use mathlib.Core.Path.{refl, subst}
 use native.Mathlib.Omega.{arith}
-use borrow.Author.Rules.{rules}
 use Rattle.position.specs.Layout.{map_at}
-use Rattle.position.specs.Laid.{Sized, SizedOf}
+use Rattle.position.specs.Laid.{SizedOf}
 use Rattle.position.proofs.Answers.{said, unsaid}
 use Rattle.position.proofs.Shapes.{entry_is}
 use Rattle.shape.proofs.shape.Goals as goal

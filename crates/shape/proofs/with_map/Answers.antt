@@ -2,7 +2,6 @@
 -- Assumes nothing.
 use mathlib.Core.Path.{sym, ◌∙◌}
 use native.Mathlib.Omega.{arith}
-use borrow.Author.Rules.{rules}
 use Rattle.position.specs.Layout.{map_at, units_at, desk_at}
 use Rattle.position.proofs.Answers.{said, unsaid, carry}
 use Rattle.position.proofs.Shapes.{width_is, height_is}

@@ -1,9 +1,7 @@
 -- `shape::with_units` meets its contract: what the counts come to is where the bodies begin, and where the position ends.
 -- Assumes nothing.
-use Prim.Native.Nat.{◌*◌, ◌≤◌}
 use mathlib.Core.Path.{◌≡◌, ◌∙◌}
 use native.Mathlib.Omega.{arith}
-use borrow.Author.Rules.{rules}
 use Rattle.position.specs.Layout.{map_at, hexes, units_at, count, desk_at}
 use Rattle.position.proofs.Answers.{carry}
 use Rattle.position.proofs.Shapes.{area, hexes_is, count_is, named_most}

@@ -1,11 +1,9 @@
 -- `march_off` meets its contract. The loop's invariant: the steps and pushes that are left, done to the position as it is, make what the
 -- whole march makes. The measure is how many steps are left.
 -- Assumes nothing.
-use Prim.Native.Nat.{◌-◌}
 use native.Mathlib.Omega.{arith}
-use borrow.Author.Rules.{rules}
 use Rattle.position.proofs.Changes.{laid_makes}
-use Rattle.shoves.proofs.Marching.{March, march_all, march_more, march_none}
+use Rattle.shoves.proofs.Marching.{march_all, march_more, march_none}
 use Rattle.shoves.proofs.march_off.Goals as goal
 
 pub loop-i-init : goal.loop-i-init

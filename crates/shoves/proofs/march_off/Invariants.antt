@@ -2,10 +2,7 @@
 -- whole march makes. The measure is how many steps are left.
 -- Assumes nothing.
 use Prim.Native.Nat.{◌-◌}
-use native.Mathlib.Omega.{arith}
-use borrow.Author.Rules.{rules}
-use Rattle.position.proofs.Changes.{laid_makes}
-use Rattle.shoves.proofs.Marching.{March, march_all, march_more, march_none}
+use Rattle.shoves.proofs.Marching.{March}
 use Rattle.shoves.proofs.march_off.Given as goal
 
 abbrev pub invariant-loop-i : goal.invariant-loop-i

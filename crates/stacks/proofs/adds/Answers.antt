@@ -1,7 +1,6 @@
 -- `stacks_ok::adds` meets its contract, which has a case for each answer.
 -- Assumes nothing.
 use mathlib.Core.Path.{refl}
-use borrow.Author.Rules.{rules}
 use Rattle.acceptance.specs.Seats.{first, more, strange, full}
 use Rattle.stacks.proofs.adds.Goals as goal
 

@@ -1,6 +1,5 @@
 -- `stacks_ok::block_ok` meets its contract: its table is empty.
 -- Assumes nothing.
-use borrow.Author.Rules.{rules}
 use Rattle.acceptance.proofs.Seating.{empty_table}
 use Rattle.stacks.proofs.block_ok.Goals as goal
 

@@ -3,7 +3,6 @@
 use Prim.Native.Nat.{◌<◌}
 use native.Mathlib.Omega.{arith}
 use Rattle.acceptance.proofs.Seating.{seated_past, seated_of, adds_fits, counts_low, counts_high, refused_low, refused_high}
-use borrow.Author.Rules.{rules}
 use Rattle.stacks.proofs.seat.Goals as goal
 
 pub returns-then-h-base : goal.returns-then-h-base

@@ -1,11 +1,7 @@
 -- `stacks_ok::seat_all` meets its contract. The loop's invariant: the table counts the units below u. The measure is how many are left.
 -- Assumes nothing.
-use Prim.Native.Nat.{◌-◌, ◌≤◌}
 use mathlib.Core.Path.{sym, ◌∙◌}
 use native.Mathlib.Omega.{arith}
-use borrow.Author.Rules.{rules}
-use Rattle.position.specs.Board.{board}
-use Rattle.acceptance.specs.Seats.{Seated}
 use Rattle.acceptance.proofs.Seating.{nobody_seated, counted, overfull, all_seated}
 use Rattle.stacks.proofs.seat_all.Goals as goal
 

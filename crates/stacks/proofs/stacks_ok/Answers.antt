@@ -1,12 +1,8 @@
 -- `stacks_ok::stacks_ok` meets its contract. The loop's invariant: the stacks on the hexes below `base` are in order. The measure is how
 -- many hexes are left.
 -- Assumes nothing.
-use Prim.Native.Nat.{◌-◌}
 use native.Mathlib.Omega.{arith}
-use borrow.Author.Rules.{rules}
-use Rattle.position.specs.Board.{board}
 use Rattle.position.proofs.Answers.{said, unsaid}
-use Rattle.acceptance.specs.Asked.{StacksIn}
 use Rattle.acceptance.proofs.Seating.{no_stacks, more_stacks, block_of}
 use Rattle.acceptance.proofs.Asking.{alone_force, alone_hex}
 use Rattle.stacks.proofs.stacks_ok.Goals as goal

@@ -2,13 +2,8 @@
 -- many hexes are left.
 -- Assumes nothing.
 use Prim.Native.Nat.{◌-◌}
-use native.Mathlib.Omega.{arith}
-use borrow.Author.Rules.{rules}
 use Rattle.position.specs.Board.{board}
-use Rattle.position.proofs.Answers.{said, unsaid}
 use Rattle.acceptance.specs.Asked.{StacksIn}
-use Rattle.acceptance.proofs.Seating.{no_stacks, more_stacks, block_of}
-use Rattle.acceptance.proofs.Asking.{alone_force, alone_hex}
 use Rattle.stacks.proofs.stacks_ok.Given as goal
 
 abbrev pub invariant-loop-base : goal.invariant-loop-base

@@ -1,7 +1,6 @@
 -- `desk_ok::during_ok` meets its contract: the stage says whose answer it is.
 -- Assumes nothing.
 use native.Mathlib.Omega.{arith}
-use borrow.Author.Rules.{rules}
 use Rattle.position.proofs.Answers.{told}
 use Rattle.stages.proofs.during_ok.Goals as goal
 

@@ -2,7 +2,6 @@
 -- Assumes nothing.
 use mathlib.Core.Path.{sym}
 use native.Mathlib.Omega.{arith}
-use borrow.Author.Rules.{rules}
 use Rattle.position.proofs.Answers.{said, unsaid, carry}
 use Rattle.stages.proofs.losses_ok.Goals as goal
 

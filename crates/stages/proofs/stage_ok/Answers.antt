@@ -1,6 +1,5 @@
 -- `desk_ok::stage_ok` meets its contract: all three questions are asked.
 -- Assumes nothing.
-use borrow.Author.Rules.{rules}
 use Rattle.position.proofs.Answers.{said, unsaid}
 use Rattle.stages.proofs.stage_ok.Goals as goal
 

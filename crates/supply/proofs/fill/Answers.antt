@@ -1,7 +1,6 @@
 -- `supply::fill` meets its contract: the walk over the grades leaves the supply map.
 -- Assumes nothing.
 use mathlib.Core.Path.{sym}
-use borrow.Author.Rules.{rules}
 use Rattle.position.specs.Board.{board}
 use Rattle.field.specs.Scene.{scene}
 use Rattle.supply.proofs.Supplies.{graded_list, graded, walked_map}

@@ -1,7 +1,6 @@
 -- `supply::grades` meets its contract: what is painted is graded.
 -- Assumes nothing.
 use native.Mathlib.Omega.{arith}
-use borrow.Author.Rules.{rules}
 use Rattle.position.proofs.Sides.{area_view, on_view, on_first}
 use Rattle.supply.proofs.Grading.{map_shows}
 use Rattle.supply.proofs.grades.Goals as goal

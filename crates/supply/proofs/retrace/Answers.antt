@@ -1,7 +1,6 @@
 -- `supply::retrace` meets its contract: what the walk over the grades for Canada leaves, likewise.
 -- Assumes nothing.
 use mathlib.Core.Path.{sym}
-use borrow.Author.Rules.{rules}
 use Rattle.position.specs.Kind.{canada}
 use Rattle.position.specs.Board.{board}
 use Rattle.field.specs.Scene.{scene}

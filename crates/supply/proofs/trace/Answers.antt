@@ -1,7 +1,6 @@
 -- `supply::trace` meets its contract: what the walk over the grades leaves tells of each hex whether it is open and whether it is supplied.
 -- Assumes nothing.
 use mathlib.Core.Path.{sym}
-use borrow.Author.Rules.{rules}
 use Rattle.position.specs.Board.{board}
 use Rattle.field.specs.Scene.{scene}
 use Rattle.supply.proofs.Supplies.{graded, traced}

@@ -1,12 +1,9 @@
 -- `eastward` meets its contract. The invariant: what was swept so far.
 -- Assumes nothing.
 use Prim.Native.Nat.{◌-◌}
-use mathlib.Core.Path.{◌∙◌}
-use borrow.Author.Rules.{rules}
 use Rattle.position.specs.Board.{ground}
 use Rattle.position.specs.Ground.{next}
 use Rattle.walk.specs.Swept.{Swept}
-use Rattle.walk.proofs.Joins.{map_on, swept_none, swept_trans}
 use Rattle.sweeping.proofs.eastward.Given as goal
 
 abbrev pub invariant-loop-c : goal.invariant-loop-c

@@ -1,6 +1,5 @@
 -- `from_behind` meets its contract: it looks in one direction, which is north or south.
 -- Assumes nothing.
-use borrow.Author.Rules.{rules}
 use Rattle.walk.proofs.Joins.{joined}
 use Rattle.sweeping.proofs.from_behind.Goals as goal
 

@@ -1,6 +1,5 @@
 -- `from_east` meets its contract: it looks in the two directions to the east.
 -- Assumes nothing.
-use borrow.Author.Rules.{rules}
 use Rattle.walk.proofs.Joins.{joined}
 use Rattle.sweeping.proofs.from_east.Goals as goal
 

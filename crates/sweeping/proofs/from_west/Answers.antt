@@ -1,6 +1,5 @@
 -- `from_west` meets its contract: it looks in the two directions to the west.
 -- Assumes nothing.
-use borrow.Author.Rules.{rules}
 use Rattle.walk.proofs.Joins.{joined}
 use Rattle.sweeping.proofs.from_west.Goals as goal
 

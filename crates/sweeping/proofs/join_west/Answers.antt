@@ -1,6 +1,5 @@
 -- `join_west` meets its contract: a hex that becomes a source has one beside it, and else nothing changes.
 -- Assumes nothing.
-use borrow.Author.Rules.{rules}
 use Rattle.walk.specs.Chain.{mark}
 use Rattle.walk.proofs.Joins.{spot_in, swept_none, swept_join}
 use Rattle.sweeping.proofs.join_west.Goals as goal

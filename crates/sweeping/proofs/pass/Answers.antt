@@ -1,7 +1,6 @@
 -- `pass` meets its contract: what was swept in the row, or nothing.
 -- Assumes nothing.
 use mathlib.Core.Path.{◌∙◌}
-use borrow.Author.Rules.{rules}
 use Rattle.position.proofs.Sides.{area_view}
 use Rattle.walk.proofs.Joins.{map_on, swept_none}
 use Rattle.sweeping.proofs.pass.Goals as goal

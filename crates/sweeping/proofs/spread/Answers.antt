@@ -1,7 +1,6 @@
 -- `spread` meets its contract: what was swept to the east, and then to the west.
 -- Assumes nothing.
 use mathlib.Core.Path.{◌∙◌}
-use borrow.Author.Rules.{rules}
 use Rattle.position.proofs.Sides.{area_view}
 use Rattle.walk.proofs.Joins.{map_on, swept_trans}
 use Rattle.sweeping.proofs.spread.Goals as goal

@@ -1,12 +1,7 @@
 -- `up` meets its contract. The invariant: what was swept so far, and how many rows are left.
 -- Assumes nothing.
-use Prim.Native.Nat.{◌≤◌}
 use mathlib.Core.Path.{◌∙◌}
 use native.Mathlib.Omega.{arith}
-use borrow.Author.Rules.{rules}
-use Rattle.position.specs.Board.{ground}
-use Rattle.position.specs.Ground.{next}
-use Rattle.walk.specs.Swept.{Swept}
 use Rattle.walk.proofs.Joins.{swept_none, swept_trans}
 use Rattle.sweeping.proofs.up.Goals as goal
 

@@ -1,12 +1,7 @@
 -- `westward` meets its contract. The invariant: what was swept so far, and how far it is still to go.
 -- Assumes nothing.
-use Prim.Native.Nat.{◌≤◌}
 use mathlib.Core.Path.{◌∙◌}
 use native.Mathlib.Omega.{arith}
-use borrow.Author.Rules.{rules}
-use Rattle.position.specs.Board.{ground}
-use Rattle.position.specs.Ground.{next}
-use Rattle.walk.specs.Swept.{Swept}
 use Rattle.walk.proofs.Joins.{map_on, swept_none, swept_trans}
 use Rattle.sweeping.proofs.westward.Goals as goal
 

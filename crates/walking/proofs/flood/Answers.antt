@@ -3,16 +3,11 @@
 -- Assumes nothing.
 use mathlib.Core.Path.{◌∙◌}
 use lib.ListN.{length-set}
-use borrow.Author.Rules.{rules}
 use Rattle.grid.specs.Spot.{SpotOf}
-use Rattle.position.specs.Ground.{beside, next}
 use Rattle.position.specs.Board.{ground}
-use Rattle.walk.specs.Chain.{mark}
-use Rattle.walk.specs.Trail.{Kept, Step, Last}
-use Rattle.walk.proofs.Marks.{weigh}
+use Rattle.walk.specs.Trail.{Step, Last}
 use Rattle.walk.proofs.Steps.{two_way}
-use Rattle.walk.proofs.Trails.{Way}
-use Rattle.walk.proofs.Runs.{work, kept_refl, kept_trans, step_kept, step_way, step_falls, way_ready, start_in, start_way, flooded}
+use Rattle.walk.proofs.Runs.{kept_refl, kept_trans, step_kept, step_way, step_falls, way_ready, start_in, start_way, flooded}
 use Rattle.walking.proofs.flood.Goals as goal
 
 pub bounds-buf-at : goal.bounds-buf-at

@@ -1,18 +1,14 @@
 -- `flood` meets its contract. The invariant: what steps keep is kept, and a walk is under way at spot `s`. The measure is the work that the
 -- marks leave to do.
 -- Assumes nothing.
-use mathlib.Core.Path.{◌∙◌}
-use lib.ListN.{length-set}
-use borrow.Author.Rules.{rules}
 use Rattle.grid.specs.Spot.{SpotOf}
 use Rattle.position.specs.Ground.{beside, next}
 use Rattle.position.specs.Board.{ground}
 use Rattle.walk.specs.Chain.{mark}
-use Rattle.walk.specs.Trail.{Kept, Step, Last}
+use Rattle.walk.specs.Trail.{Kept}
 use Rattle.walk.proofs.Marks.{weigh}
-use Rattle.walk.proofs.Steps.{two_way}
 use Rattle.walk.proofs.Trails.{Way}
-use Rattle.walk.proofs.Runs.{work, kept_refl, kept_trans, step_kept, step_way, step_falls, way_ready, start_in, start_way, flooded}
+use Rattle.walk.proofs.Runs.{work}
 use Rattle.walking.proofs.flood.Given as goal
 
 abbrev pub invariant-loop-t : goal.invariant-loop-t

@@ -3,8 +3,6 @@
 -- Assumes nothing.
 use mathlib.Core.Path.{◌∙◌}
 use native.Mathlib.Omega.{arith}
-use borrow.Author.Tests.{not-true}
-use borrow.Author.Rules.{rules}
 use Rattle.position.specs.Board.{ground}
 use Rattle.walk.proofs.Steps.{two_way}
 use Rattle.walk.proofs.Joins.{swept_none, swept_trans, swept_grades}

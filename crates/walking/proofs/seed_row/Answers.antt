@@ -1,14 +1,8 @@
 -- `seed_row` meets its contract. The invariant: the walks from the hexes of the row that lie before column c.
 -- Assumes nothing.
-use Prim.Native.Nat.{◌+◌, ◌-◌, ◌*◌}
 use mathlib.Core.Path.{◌∙◌}
 use native.Mathlib.Omega.{arith}
-use borrow.Author.Tests.{not-true}
-use borrow.Author.Rules.{rules}
-use Rattle.position.specs.Board.{ground}
-use Rattle.position.specs.Ground.{next}
 use Rattle.position.proofs.Sides.{area_view}
-use Rattle.walk.specs.Trail.{Sown}
 use Rattle.walk.proofs.Joins.{map_on, apart_next}
 use Rattle.walk.proofs.Runs.{sown_none, sown_on, sown_less}
 use Rattle.walking.proofs.seed_row.Goals as goal

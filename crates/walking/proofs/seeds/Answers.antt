@@ -1,13 +1,8 @@
 -- `seeds` meets its contract. The invariant: the walks from the hexes of the rows before row `row`.
 -- Assumes nothing.
-use Prim.Native.Nat.{◌-◌, ◌*◌}
 use mathlib.Core.Path.{◌∙◌}
 use native.Mathlib.Omega.{arith}
-use borrow.Author.Rules.{rules}
-use Rattle.position.specs.Board.{ground}
-use Rattle.position.specs.Ground.{next}
 use Rattle.position.proofs.Sides.{area_view}
-use Rattle.walk.specs.Trail.{Sown}
 use Rattle.walk.proofs.Joins.{row_past, row_next}
 use Rattle.walk.proofs.Runs.{sown_none, sown_on, sown_all}
 use Rattle.walking.proofs.seeds.Goals as goal

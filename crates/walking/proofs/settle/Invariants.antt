@@ -1,12 +1,8 @@
 -- `settle` meets its contract. The invariant: the marks below hex i are settled, and the others are as they were.
 -- Assumes nothing.
 use Prim.Native.Nat.{◌-◌}
-use mathlib.Core.Path.{refl}
-use mathlib.Core.Logic.{⊎_elim, inl, inr}
 use lib.ListN.{length}
-use borrow.Author.Rules.{rules}
-use Rattle.walk.specs.Chain.{mark}
-use Rattle.walk.proofs.Runs.{Settling, settle_none, settle_turn, settle_all}
+use Rattle.walk.proofs.Runs.{Settling}
 use Rattle.walking.proofs.settle.Given as goal
 
 abbrev pub invariant-loop-i : goal.invariant-loop-i

@@ -1,6 +1,5 @@
 -- `walk` meets its contract: the marks of the hexes that were reached are settled.
 -- Assumes nothing.
-use borrow.Author.Rules.{rules}
 use Rattle.walk.proofs.Runs.{reached}
 use Rattle.walking.proofs.walk.Goals as goal
 

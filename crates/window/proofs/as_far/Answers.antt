@@ -5,7 +5,6 @@ use mathlib.Core.Path.{ap, ◌∙◌}
 use lib.Dec.{eqb}
 use Rattle.position.proofs.Sides.{on_view}
 use Rattle.routes.proofs.Steps.{far_view}
-use borrow.Author.Rules.{rules}
 use Rattle.window.proofs.as_far.Goals as goal
 
 pub distance-requires : goal.distance-requires

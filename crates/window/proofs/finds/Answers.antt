@@ -1,7 +1,6 @@
 -- `window::finds` meets its contract: what the search found is asked.
 -- Assumes nothing.
 use mathlib.Core.Path.{sym, ap, ◌∙◌}
-use borrow.Author.Rules.{rules}
 use Rattle.routes.specs.Search.{found}
 use Rattle.window.proofs.finds.Goals as goal
 

@@ -3,7 +3,6 @@
 use mathlib.Core.Path.{sym, ap, ◌∙◌}
 use mathlib.Core.Bool.{not}
 use Rattle.routes.proofs.Windows.{free_held, free_vacant}
-use borrow.Author.Rules.{rules}
 use Rattle.window.proofs.free.Goals as goal
 
 pub returns-then-has : goal.returns-then-has

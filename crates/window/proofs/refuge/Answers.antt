@@ -6,7 +6,6 @@ use Rattle.position.specs.Board.{board}
 use Rattle.grid.specs.Region.{Inside, place_of}
 use Rattle.position.proofs.Sides.{on_view}
 use Rattle.routes.proofs.Windows.{refuge_barred, refuge_free, window_marked}
-use borrow.Author.Rules.{rules}
 use Rattle.window.proofs.refuge.Goals as goal
 
 pub spot-s-requires : goal.spot-s-requires

@@ -1,13 +1,8 @@
 -- `window::search` meets its contract: at each turn of a loop the answer is what is still ahead (Ahead.antt).
 -- The measures are how many directions are left.
 -- Assumes nothing.
-use Prim.Native.Nat.{◌-◌}
 use native.Mathlib.Omega.{arith}
-use Rattle.position.specs.Board.{board}
-use Rattle.routes.specs.declared.Found.TheVariants.{Nothing}
-use Rattle.routes.specs.Search.{first_route}
-use Rattle.routes.proofs.Ahead.{from, further, rest, Ahead, begins, none, reached, inward, outward, done}
-use borrow.Author.Rules.{rules}
+use Rattle.routes.proofs.Ahead.{begins, none, reached, inward, outward, done}
 use Rattle.window.proofs.search.Goals as goal
 
 pub search-init : goal.search-init

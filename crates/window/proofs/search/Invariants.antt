@@ -2,12 +2,10 @@
 -- The measures are how many directions are left.
 -- Assumes nothing.
 use Prim.Native.Nat.{◌-◌}
-use native.Mathlib.Omega.{arith}
 use Rattle.position.specs.Board.{board}
 use Rattle.routes.specs.declared.Found.TheVariants.{Nothing}
 use Rattle.routes.specs.Search.{first_route}
-use Rattle.routes.proofs.Ahead.{from, further, rest, Ahead, begins, none, reached, inward, outward, done}
-use borrow.Author.Rules.{rules}
+use Rattle.routes.proofs.Ahead.{from, further, rest, Ahead}
 use Rattle.window.proofs.search.Given as goal
 
 abbrev pub invariant-loop-d3 : goal.invariant-loop-d3

@@ -3,7 +3,6 @@
 use mathlib.Core.Path.{sym, ◌∙◌}
 use Rattle.position.proofs.Sides.{next_in_lem}
 use Rattle.routes.proofs.Steps.{step_off, step_lands, step_barred}
-use borrow.Author.Rules.{rules}
 use Rattle.window.proofs.step.Goals as goal
 
 pub returns-in_default : goal.returns-in_default

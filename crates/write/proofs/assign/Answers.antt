@@ -2,7 +2,6 @@
 -- Assumes nothing.
 use Rattle.position.specs.Layout.{set_role}
 use Rattle.position.specs.Change.{make}
-use borrow.Author.Rules.{rules}
 use Rattle.write.proofs.assign.Goals as goal
 
 pub returns : goal.returns

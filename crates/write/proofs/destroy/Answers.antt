@@ -8,7 +8,6 @@ use Rattle.position.specs.Bits.{faced}
 use Rattle.position.specs.Layout.{marks_field, role_field, marks, set_unit, set_marks, set_role}
 use Rattle.position.specs.Change.{make}
 use Rattle.position.proofs.Laying.{laid_unit, laid_hex}
-use borrow.Author.Rules.{rules}
 use Rattle.write.proofs.destroy.Goals as goal
 
 pub set_unit-requires : goal.set_unit-requires

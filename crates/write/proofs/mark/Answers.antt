@@ -5,7 +5,6 @@ use mathlib.Core.Path.{ap, ◌∙◌}
 use Rattle.position.specs.Bits.{faced}
 use Rattle.position.specs.Layout.{marks_field, set_unit, set_marks}
 use Rattle.position.specs.Change.{make}
-use borrow.Author.Rules.{rules}
 use Rattle.write.proofs.mark.Goals as goal
 
 pub returns : goal.returns

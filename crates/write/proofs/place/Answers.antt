@@ -3,7 +3,6 @@
 use mathlib.Core.Path.{sym, ◌∙◌}
 use native.Mathlib.Omega.{arith}
 use Rattle.position.proofs.Laying.{placed_in, placed_out}
-use borrow.Author.Rules.{rules}
 use Rattle.write.proofs.place.Goals as goal
 
 pub returns-then-h-hexes : goal.returns-then-h-hexes

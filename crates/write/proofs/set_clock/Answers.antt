@@ -7,7 +7,6 @@ use native.Mathlib.Omega.{arith}
 use Rattle.position.specs.Layout.{force_field, phase_field, set_desk, set_clock}
 use Rattle.position.specs.Change.{make}
 use Rattle.position.proofs.Laying.{laid_desk}
-use borrow.Author.Rules.{rules}
 use Rattle.write.proofs.set_clock.Goals as goal
 
 pub set_desk-requires-2 : goal.set_desk-requires-2

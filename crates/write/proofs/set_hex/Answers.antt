@@ -6,7 +6,6 @@ use mathlib.Core.List.{List}
 use native.Mathlib.Omega.{arith}
 use Rattle.position.specs.Layout.{hex_field, set_unit, set_hex}
 use Rattle.position.proofs.Laying.{laid_unit}
-use borrow.Author.Rules.{rules}
 use Rattle.write.proofs.set_hex.Goals as goal
 
 pub set_unit-requires-2 : goal.set_unit-requires-2

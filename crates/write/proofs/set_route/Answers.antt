@@ -6,7 +6,6 @@ use Prim.Native.Nat.{ℕ}
 use native.Mathlib.Omega.{arith}
 use Rattle.position.specs.Layout.{set_route_hex}
 use Rattle.position.proofs.Laying.{laid_route_hex, routed_in, routed_out}
-use borrow.Author.Rules.{rules}
 use Rattle.write.proofs.set_route.Goals as goal
 
 pub returns-then-r-ge-ROUTE_COUNT : goal.returns-then-r-ge-ROUTE_COUNT

@@ -6,7 +6,6 @@ use mathlib.Core.List.{List}
 use native.Mathlib.Omega.{arith}
 use Rattle.position.specs.Layout.{route_field, set_desk, set_route_hex}
 use Rattle.position.proofs.Laying.{laid_desk}
-use borrow.Author.Rules.{rules}
 use Rattle.write.proofs.set_route_hex.Goals as goal
 
 pub set_desk-requires-2 : goal.set_desk-requires-2

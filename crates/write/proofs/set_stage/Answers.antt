@@ -7,7 +7,6 @@ use native.Mathlib.Omega.{arith}
 use Rattle.position.specs.Layout.{owed_field, need_field, set_desk, set_stage}
 use Rattle.position.specs.Change.{make}
 use Rattle.position.proofs.Laying.{laid_desk}
-use borrow.Author.Rules.{rules}
 use Rattle.write.proofs.set_stage.Goals as goal
 
 pub set_desk-requires-2 : goal.set_desk-requires-2

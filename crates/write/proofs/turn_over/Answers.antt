@@ -6,7 +6,6 @@ use Rattle.position.specs.Bits.{with}
 use Rattle.position.specs.Layout.{marks_field, set_unit, set_marks}
 use Rattle.position.specs.Change.{turned}
 use Rattle.position.proofs.Laying.{with_small}
-use borrow.Author.Rules.{rules}
 use Rattle.write.proofs.turn_over.Goals as goal
 
 pub set_unit-requires : goal.set_unit-requires

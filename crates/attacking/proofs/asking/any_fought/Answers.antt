@@ -1,14 +1,12 @@
 -- `asking::any_fought` meets its contract. The loop's invariant: no unit passed has fought there. The measure is how many are left.
 -- Assumes nothing.
-use Prim.Native.Nat.{◌-◌}
 use mathlib.Core.Path.{◌∙◌, ap, sym}
 use native.Mathlib.Omega.{arith}
-use borrow.Author.Rules.{rules}
 use Rattle.position.proofs.Tallies.{any_true}
 use Rattle.position.specs.Board.{board}
 use Rattle.position.specs.Tally.{any}
 use Rattle.battle.specs.Attack.{fought_on}
-use Rattle.field.proofs.Zones.{None, none_yet, one_more, none_at_all}
+use Rattle.field.proofs.Zones.{none_yet, one_more, none_at_all}
 use Rattle.attacking.proofs.asking.any_fought.Goals as goal
 
 pub loop-u-init : goal.loop-u-init

@@ -1,7 +1,6 @@
 -- `asking::attacker` meets its contract: each test's answer is its function's, one after the other.
 -- Assumes nothing.
 use mathlib.Core.Path.{◌∙◌, sym}
-use borrow.Author.Rules.{rules}
 use Rattle.battle.proofs.Asks.{passes_attacker, stops_apart, stops_named, stops_phasing, stops_type}
 use Rattle.attacking.proofs.asking.attacker.Goals as goal
 

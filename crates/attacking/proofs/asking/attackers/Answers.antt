@@ -1,13 +1,11 @@
 -- `asking::attackers` meets its contract. The loop's invariant: what meets the tests from the next place on meets them all.
 -- The measure is how many places are left.
 -- Assumes nothing.
-use Prim.Native.Nat.{◌-◌}
 use mathlib.Core.Path.{subst}
 use native.Mathlib.Omega.{arith}
-use borrow.Author.Rules.{rules}
 use Rattle.ruling.proofs.Going.{gone_end, gone_none, gone_stop}
 use Rattle.ruling.specs.Judged.{TestedOf}
-use Rattle.battle.proofs.Asks.{Asked, asked_more}
+use Rattle.battle.proofs.Asks.{asked_more}
 use Rattle.battle.specs.Attack.{attackers}
 use Rattle.attacking.proofs.asking.attackers.Goals as goal
 

@@ -2,13 +2,7 @@
 -- The measure is how many places are left.
 -- Assumes nothing.
 use Prim.Native.Nat.{◌-◌}
-use mathlib.Core.Path.{subst}
-use native.Mathlib.Omega.{arith}
-use borrow.Author.Rules.{rules}
-use Rattle.ruling.proofs.Going.{gone_end, gone_none, gone_stop}
-use Rattle.ruling.specs.Judged.{TestedOf}
-use Rattle.battle.proofs.Asks.{Asked, asked_more}
-use Rattle.battle.specs.Attack.{attackers}
+use Rattle.battle.proofs.Asks.{Asked}
 use Rattle.attacking.proofs.asking.attackers.Given as goal
 
 abbrev pub invariant-loop-i : goal.invariant-loop-i

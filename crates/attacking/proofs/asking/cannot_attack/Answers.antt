@@ -1,10 +1,7 @@
 -- `asking::cannot_attack` meets its contract: the type is asked first, then the mark.
 -- Assumes nothing.
-use mathlib.Core.Path.{◌∙◌, ◌≡◌, ap, sym}
-use borrow.Author.Rules.{rules}
-use borrow.Author.Tests.{not-true}
+use mathlib.Core.Path.{◌∙◌, ap, sym}
 use Rattle.position.specs.Bits.{fought, has}
-use Rattle.position.specs.Board.{board}
 use Rattle.position.specs.Kind.{may_attack}
 use Rattle.battle.proofs.Asks.{cannot_mark, cannot_type}
 use Rattle.position.proofs.Answers.{holds}

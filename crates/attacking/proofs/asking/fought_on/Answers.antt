@@ -1,7 +1,6 @@
 -- `asking::fought_on` meets its contract: where the unit stands is asked first, then the mark.
 -- Assumes nothing.
 use mathlib.Core.Path.{◌∙◌, ap, sym}
-use borrow.Author.Rules.{rules}
 use Rattle.position.specs.Bits.{fought, has}
 use Rattle.battle.proofs.Asks.{fought_here, fought_off}
 use Rattle.attacking.proofs.asking.fought_on.Goals as goal

@@ -1,18 +1,16 @@
 -- `asking::in_range` meets its contract: each test of a length or a number, and then the tests along the list.
 -- Assumes nothing.
 use mathlib.Core.Bool.{false, not}
-use mathlib.Core.Path.{◌∙◌, ◌≡◌, ap, sym}
+use mathlib.Core.Path.{◌∙◌, ap, sym}
 use native.Mathlib.Omega.{arith}
 use borrow.Author.Tests.{le-leb, lt-leb}
-use lib.Dec.{eqb, leb}
 use Rattle.position.specs.Board.{board}
 use Rattle.ruling.proofs.Going.{tested_through}
 use Rattle.ruling.proofs.Meets.{pass, stop}
 use Rattle.supply.proofs.Supplies.{other_length, own_length}
 use Rattle.field.proofs.Lists.{list_fits, list_long, list_short}
-use Rattle.field.specs.Listed.{list_length}
 use Rattle.battle.proofs.Asks.{die_fits_lem, die_high, die_low}
-use Rattle.battle.specs.Attack.{die_fits, in_range}
+use Rattle.battle.specs.Attack.{in_range}
 use Rattle.attacking.proofs.asking.in_range.Goals as goal
 
 pub returns-then-units-lt1 : goal.returns-then-units-lt1

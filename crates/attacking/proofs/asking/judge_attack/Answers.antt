@@ -2,12 +2,9 @@
 -- Assumes nothing.
 use mathlib.Core.Bool.{not}
 use mathlib.Core.Path.{◌∙◌, ap, subst, sym}
-use borrow.Author.Rules.{rules}
-use Rattle.position.specs.Board.{board}
 use Rattle.ruling.proofs.Going.{tested_through}
 use Rattle.ruling.proofs.Meets.{pass, stop}
-use Rattle.ruling.specs.Judged.{Passes, TestedOf}
-use Rattle.battle.specs.Asked.{InRange}
+use Rattle.ruling.specs.Judged.{TestedOf}
 use Rattle.battle.specs.Attack.{attack_checks, in_range}
 use Rattle.attacking.proofs.asking.judge_attack.Goals as goal
 

@@ -2,7 +2,6 @@
 -- Assumes nothing.
 use Prim.Native.Nat.{ℕ}
 use mathlib.Core.Path.{◌∙◌, ap, sym}
-use borrow.Author.Rules.{rules}
 use lib.Dec.{eqb}
 use Rattle.clock.specs.Phase as Phase
 use Rattle.battle.proofs.Asks.{attack_late, attack_phase}

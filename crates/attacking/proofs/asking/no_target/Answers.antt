@@ -1,9 +1,7 @@
 -- `asking::no_target` meets its contract: no Enemy there, or one that has fought.
 -- Assumes nothing.
 use Prim.Native.Nat.{ℕ}
-use mathlib.Core.Path.{◌∙◌, ◌≡◌, ap, sym}
-use borrow.Author.Rules.{rules}
-use borrow.Author.Tests.{not-false, not-true}
+use mathlib.Core.Path.{◌∙◌, ap, sym}
 use Rattle.position.specs.Board.{board}
 use Rattle.field.specs.Scene.{scene}
 use Rattle.field.specs.Zone.{holds_enemy}

@@ -1,6 +1,5 @@
 -- `Clock::next` is the next clock: each of its three answers by the tests that lead there.
 -- Assumes nothing.
-use borrow.Author.Rules.{rules}
 use borrow.Author.Tests.{eq-eqb, ne_eqb}
 use Rattle.clock.specs.Phase as Phase
 use Rattle.clock.specs.Clock.{last_force, next_clock}

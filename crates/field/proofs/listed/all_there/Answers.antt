@@ -1,13 +1,12 @@
 -- `listed::all_there` meets its contract. The loop's invariant: what meets the tests from the next place on meets them all.
 -- The measure is how many places are left.
 -- Assumes nothing.
-use Prim.Native.Nat.{◌+◌, ◌-◌}
+use Prim.Native.Nat.{◌+◌}
 use native.Mathlib.Omega.{arith}
-use borrow.Author.Rules.{rules}
 use lib.ListN.{get_or}
 use Rattle.position.specs.Board.{board}
 use Rattle.ruling.proofs.Going.{gone_end, gone_none, gone_stop}
-use Rattle.field.proofs.Lists.{There, is_none, there_more}
+use Rattle.field.proofs.Lists.{is_none, there_more}
 use Rattle.field.specs.Listed.{all_there}
 use Rattle.field.proofs.listed.all_there.Goals as goal
 

@@ -1,12 +1,11 @@
 -- `listed::named` meets its contract. The loop's invariant: none of those passed is the unit. The measure is how many are left.
 -- Assumes nothing.
-use Prim.Native.Nat.{◌-◌, ℕ}
+use Prim.Native.Nat.{ℕ}
 use mathlib.Core.List.{List}
 use mathlib.Core.Path.{◌∙◌, ap, sym}
 use native.Mathlib.Omega.{arith}
-use borrow.Author.Rules.{rules}
 use lib.ListN.{take}
-use Rattle.field.proofs.Lists.{Unnamed, map_self, unnamed_all, unnamed_hit, unnamed_more, unnamed_none}
+use Rattle.field.proofs.Lists.{map_self, unnamed_all, unnamed_hit, unnamed_more, unnamed_none}
 use Rattle.field.specs.Listed.{named}
 use Rattle.field.proofs.listed.named.Goals as goal
 

@@ -1,13 +1,7 @@
 -- `listed::named` meets its contract. The loop's invariant: none of those passed is the unit. The measure is how many are left.
 -- Assumes nothing.
-use Prim.Native.Nat.{◌-◌, ℕ}
-use mathlib.Core.List.{List}
-use mathlib.Core.Path.{◌∙◌, ap, sym}
-use native.Mathlib.Omega.{arith}
-use borrow.Author.Rules.{rules}
-use lib.ListN.{take}
-use Rattle.field.proofs.Lists.{Unnamed, map_self, unnamed_all, unnamed_hit, unnamed_more, unnamed_none}
-use Rattle.field.specs.Listed.{named}
+use Prim.Native.Nat.{◌-◌}
+use Rattle.field.proofs.Lists.{Unnamed}
 use Rattle.field.proofs.listed.named.Given as goal
 
 abbrev pub invariant-loop-j : goal.invariant-loop-j

@@ -1,6 +1,5 @@
 -- `listed::on_map_all` meets its contract: its first place is 1.
 -- Assumes nothing.
-use borrow.Author.Rules.{rules}
 use Rattle.field.specs.Listed.{on_map_all, on_map_from}
 use Rattle.field.proofs.listed.on_map_all.Goals as goal
 

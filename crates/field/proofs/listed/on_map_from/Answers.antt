@@ -1,10 +1,8 @@
 -- `listed::on_map_from` meets its contract. The loop's invariant: what meets the tests from the next place on meets them all.
 -- The measure is how many places are left.
 -- Assumes nothing.
-use Prim.Native.Nat.{◌-◌}
 use native.Mathlib.Omega.{arith}
-use borrow.Author.Rules.{rules}
-use Rattle.field.proofs.Lists.{OnMap, map_end, map_more, map_none, map_stop}
+use Rattle.field.proofs.Lists.{map_end, map_more, map_none, map_stop}
 use Rattle.field.proofs.listed.on_map_from.Goals as goal
 
 pub loop-i-init : goal.loop-i-init

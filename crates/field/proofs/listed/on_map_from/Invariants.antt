@@ -2,9 +2,7 @@
 -- The measure is how many places are left.
 -- Assumes nothing.
 use Prim.Native.Nat.{◌-◌}
-use native.Mathlib.Omega.{arith}
-use borrow.Author.Rules.{rules}
-use Rattle.field.proofs.Lists.{OnMap, map_end, map_more, map_none, map_stop}
+use Rattle.field.proofs.Lists.{OnMap}
 use Rattle.field.proofs.listed.on_map_from.Given as goal
 
 abbrev pub invariant-loop-i : goal.invariant-loop-i

@@ -3,7 +3,6 @@
 use Prim.Native.Nat.{ℕ}
 use mathlib.Core.Path.{sym, ap₂, ◌∙◌}
 use mathlib.Core.Bool.{not}
-use borrow.Author.Rules.{rules}
 use lib.Dec.{eqb}
 use Rattle.field.proofs.Workings.{phasing_destroyed, phasing_mapped}
 use Rattle.field.proofs.unit.not_phasing.Goals as goal

@@ -1,7 +1,6 @@
 -- `zone::holds_neutral` meets its contract: the desk names no players, and so none is neutral, or the loop is asked.
 -- Assumes nothing.
 use mathlib.Core.Path.{sym, ◌∙◌}
-use borrow.Author.Rules.{rules}
 use Rattle.position.proofs.Players.{none_neutral}
 use Rattle.field.proofs.Zones.{holds_no_neutral}
 use Rattle.field.proofs.zone.holds_neutral.Goals as goal

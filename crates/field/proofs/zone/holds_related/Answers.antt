@@ -1,15 +1,11 @@
 -- `zone::holds_related` meets its contract. The loop's invariant: no unit passed is in the relation and stands there.
 -- The measure is how many units are left.
 -- Assumes nothing.
-use Prim.Native.Nat.{◌-◌}
 use mathlib.Core.Path.{sym, ◌∙◌}
 use native.Mathlib.Omega.{arith}
-use borrow.Author.Rules.{rules}
-use Rattle.position.specs.Board.{board}
 use Rattle.position.proofs.Tallies.{any_true}
-use Rattle.field.specs.Scene.{scene}
 use Rattle.field.specs.Zone.{related_on}
-use Rattle.field.proofs.Zones.{None, none_yet, one_more, none_at_all, holds_any}
+use Rattle.field.proofs.Zones.{none_yet, one_more, none_at_all, holds_any}
 use Rattle.field.proofs.zone.holds_related.Goals as goal
 
 pub loop-u-init : goal.loop-u-init

@@ -2,14 +2,10 @@
 -- The measure is how many units are left.
 -- Assumes nothing.
 use Prim.Native.Nat.{◌-◌}
-use mathlib.Core.Path.{sym, ◌∙◌}
-use native.Mathlib.Omega.{arith}
-use borrow.Author.Rules.{rules}
 use Rattle.position.specs.Board.{board}
-use Rattle.position.proofs.Tallies.{any_true}
 use Rattle.field.specs.Scene.{scene}
 use Rattle.field.specs.Zone.{related_on}
-use Rattle.field.proofs.Zones.{None, none_yet, one_more, none_at_all, holds_any}
+use Rattle.field.proofs.Zones.{None}
 use Rattle.field.proofs.zone.holds_related.Given as goal
 
 abbrev pub invariant-loop-u : goal.invariant-loop-u

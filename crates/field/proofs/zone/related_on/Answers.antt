@@ -2,7 +2,6 @@
 -- Assumes nothing.
 use mathlib.Core.Path.{sym, ap, ◌∙◌}
 use native.Mathlib.Omega.{arith}
-use borrow.Author.Rules.{rules}
 use Rattle.position.specs.Board.{board, relates}
 use Rattle.field.proofs.Zones.{related_here, related_off}
 use Rattle.field.proofs.zone.related_on.Goals as goal

@@ -3,7 +3,6 @@
 use native.Mathlib.Omega.{arith}
 use Prim.Native.Nat.{◌+◌}
 use borrow.Author.Tests.{ltb-true}
-use borrow.Author.Rules.{rules}
 use Rattle.grid.proofs.Spots.{spot_column}
 use Rattle.grid.proofs.Regions.{away_left, away_right}
 use Rattle.grid.proofs.region.aside.Goals as goal

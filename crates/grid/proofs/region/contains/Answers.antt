@@ -4,7 +4,6 @@ use native.Mathlib.Omega.{arith}
 use mathlib.Core.Path.{sym, ap, ◌∙◌}
 use Prim.Native.Nat.{ℕ, ◌+◌}
 use lib.Dec.{ltb}
-use borrow.Author.Rules.{rules}
 use Rattle.grid.proofs.Spots.{spot_column, spot_row}
 use Rattle.grid.proofs.Regions.{outside_left, outside_right, outside_top, by_bottom}
 use Rattle.grid.proofs.region.contains.Goals as goal

@@ -2,7 +2,6 @@
 -- Assumes nothing.
 use native.Mathlib.Omega.{arith}
 use Prim.Native.Nat.{◌+◌, ◌-◌, ◌/◌, ◌<◌}
-use borrow.Author.Rules.{rules}
 use native.Mathlib.Nat.{mod-lt, mul_comm, div-lt_iff_lt-mul}
 use Rattle.grid.proofs.Arith.{small, column, row}
 use Rattle.grid.proofs.Regions.{positive, placed, hex_there}

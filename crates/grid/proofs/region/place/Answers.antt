@@ -2,7 +2,6 @@
 -- Assumes nothing.
 use native.Mathlib.Omega.{arith}
 use Prim.Native.Nat.{◌+◌, ◌-◌}
-use borrow.Author.Rules.{rules}
 use Rattle.grid.proofs.Arith.{small}
 use Rattle.grid.proofs.Spots.{spot_column, spot_row}
 use Rattle.grid.proofs.Regions.{place-in, spot_place}

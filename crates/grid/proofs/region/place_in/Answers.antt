@@ -3,8 +3,6 @@
 use native.Mathlib.Omega.{arith}
 use mathlib.Core.Path.{sym, ap, subst, ◌∙◌}
 use Rattle.grid.specs.Region.{Inside, inside, place_of}
-use borrow.Author.Rules.{rules}
-use borrow.Author.Tests.{not-true, not-false}
 use Rattle.grid.proofs.Arith.{small}
 use Rattle.grid.proofs.Tests.{on_facts}
 use Rattle.grid.proofs.Regions.{inside_facts, place_some, place_none, off_map_lem}

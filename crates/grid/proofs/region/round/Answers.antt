@@ -2,7 +2,6 @@
 -- Assumes nothing.
 use native.Mathlib.Omega.{arith}
 use mathlib.Core.Path.{refl}
-use borrow.Author.Rules.{rules}
 use Rattle.grid.proofs.Spots.{spot_column, spot_row}
 use Rattle.grid.proofs.Regions.{round_is}
 use Rattle.grid.proofs.region.round.Goals as goal

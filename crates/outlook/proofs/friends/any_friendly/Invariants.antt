@@ -2,13 +2,9 @@
 -- are left.
 -- Assumes nothing.
 use Prim.Native.Nat.{◌-◌, ◌≤◌}
-use mathlib.Core.Logic.{⊎_elim}
-use mathlib.Core.Path.{◌≡◌, ap, sym, ◌∙◌}
-use native.Mathlib.Omega.{arith}
-use borrow.Author.Rules.{rules}
+use mathlib.Core.Path.{◌≡◌}
 use Rattle.position.specs.Tally.{any}
-use Rattle.position.proofs.Tallies.{any_hit, any_miss, any_zero}
-use Rattle.routes.specs.Outlook.{friendly, friendly_at}
+use Rattle.routes.specs.Outlook.{friendly_at}
 use Rattle.outlook.proofs.friends.any_friendly.Given as goal
 
 abbrev pub invariant-loop-i : goal.invariant-loop-i

@@ -1,13 +1,8 @@
 -- `cast::around` meets its contract. The loop's invariant: the zone over the directions below d is marked.
 -- Assumes nothing.
-use Prim.Native.Nat.{ℕ, ◌-◌, ◌≤◌}
-use mathlib.Core.Path.{ap}
-use native.Mathlib.Omega.{arith}
+use Prim.Native.Nat.{◌-◌, ◌≤◌}
 use Rattle.position.specs.Board.{ground}
 use Rattle.paint.specs.Paint.{Adds, reaches}
-use Rattle.paint.proofs.Adding.{room_kept, adds_none, adds_as, adds_also}
-use Rattle.paint.proofs.Casting.{reaches_none, reaches_step}
-use borrow.Author.Rules.{rules}
 use Rattle.paint.proofs.cast.around.Given as goal
 
 abbrev pub invariant-loop-d : goal.invariant-loop-d

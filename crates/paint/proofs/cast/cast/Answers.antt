@@ -6,7 +6,6 @@ use Rattle.field.specs.Scene.{scene}
 use Rattle.paint.specs.Paint.{in_zone}
 use Rattle.paint.proofs.Adding.{adds_none, adds_as}
 use Rattle.paint.proofs.Units.{shown_no_cast, part_none, part_reaches}
-use borrow.Author.Rules.{rules}
 use Rattle.paint.proofs.cast.cast.Goals as goal
 
 pub around-requires : goal.around-requires

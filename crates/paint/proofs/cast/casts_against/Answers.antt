@@ -8,7 +8,6 @@ use Rattle.position.specs.Kind.{casts_zone}
 use Rattle.field.proofs.Zones.{force_in_lem}
 use Rattle.paint.proofs.Units.{enemy_told}
 use Rattle.paint.proofs.Casting.{casts_force, casts_friend, casts_enemy}
-use borrow.Author.Rules.{rules}
 use Rattle.paint.proofs.cast.casts_against.Goals as goal
 
 pub returns-then-g-ge-FORCES : goal.returns-then-g-ge-FORCES

@@ -7,7 +7,6 @@ use Rattle.position.proofs.Sides.{beside_view}
 use Rattle.paint.proofs.Adding.{adds_none, adds_as}
 use Rattle.paint.proofs.Units.{zone_stamp}
 use Rattle.paint.proofs.Casting.{near_off, near_at, covers_edge, covers_stopped, covers_sea, covers_land, cast_none, cast_only}
-use borrow.Author.Rules.{rules}
 use Rattle.paint.proofs.cast.over.Goals as goal
 
 pub returns-in_default : goal.returns-in_default

@@ -5,7 +5,6 @@ use Rattle.paint.specs.Paint.{inked}
 use native.Mathlib.Omega.{arith}
 use Rattle.grid.proofs.Regions.{inside_facts, inside_not}
 use Rattle.paint.proofs.Adding.{adds_set, adds_outside}
-use borrow.Author.Rules.{rules}
 use Rattle.paint.proofs.ink.stamp.Goals as goal
 
 pub contains-requires : goal.contains-requires

@@ -7,7 +7,6 @@ use Rattle.field.proofs.Zones.{force_in_lem}
 use Rattle.paint.specs.Paint.{by_depot}
 use Rattle.paint.proofs.Adding.{adds_none, adds_as}
 use Rattle.paint.proofs.Units.{depot_stamp, shown_depot, shown_no_depot, shown_other_depot, part_none, part_only}
-use borrow.Author.Rules.{rules}
 use Rattle.paint.proofs.stand.depot.Goals as goal
 
 pub returns-then-force_of-f : goal.returns-then-force_of-f

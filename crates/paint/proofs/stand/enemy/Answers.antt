@@ -5,7 +5,6 @@ use Rattle.field.specs.Scene.{scene}
 use Rattle.paint.specs.Paint.{by_enemy}
 use Rattle.paint.proofs.Adding.{adds_none, adds_as}
 use Rattle.paint.proofs.Units.{enemy_told, enemy_stamp, shown_enemy, shown_friend, part_none, part_only}
-use borrow.Author.Rules.{rules}
 use Rattle.paint.proofs.stand.enemy.Goals as goal
 
 pub stamp-requires : goal.stamp-requires

@@ -7,7 +7,6 @@ use Rattle.field.proofs.Zones.{force_in_lem}
 use Rattle.paint.specs.Paint.{by_own}
 use Rattle.paint.proofs.Adding.{adds_none, adds_as}
 use Rattle.paint.proofs.Units.{own_stamp, shown_own, shown_other, part_none, part_only}
-use borrow.Author.Rules.{rules}
 use Rattle.paint.proofs.stand.own.Goals as goal
 
 pub stamp-requires : goal.stamp-requires

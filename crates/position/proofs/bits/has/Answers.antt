@@ -1,7 +1,6 @@
 -- `bits::has` meets its contract.
 -- Assumes nothing.
 use mathlib.Core.Path.{refl}
-use borrow.Author.Rules.{rules}
 use Rattle.position.specs.Bits.{has}
 use Rattle.position.proofs.bits.has.Goals as goal
 

@@ -2,7 +2,6 @@
 -- Assumes nothing.
 use mathlib.Core.Path.{refl}
 use native.Mathlib.Omega.{arith}
-use borrow.Author.Rules.{rules}
 use Rattle.position.specs.Bits.{with}
 use Rattle.position.proofs.BitLaws.{low, high}
 use Rattle.position.proofs.bits.with.Goals as goal

@@ -1,9 +1,7 @@
 -- `layout::cell` meets its contract: what it reads lies within the table.
 -- Assumes nothing.
-use Prim.Native.Nat.{◌+◌, ◌*◌, ◌<◌}
 use mathlib.Core.Path.{sym, ◌∙◌}
 use native.Mathlib.Omega.{arith}
-use borrow.Author.Rules.{rules}
 use Rattle.position.proofs.Cells.{inside, cell_in, cell_out}
 use Rattle.position.proofs.layout.cell.Goals as goal
 

@@ -1,7 +1,6 @@
 -- `layout::column_byte` meets its contract: the view says how many columns there are.
 -- Assumes nothing.
 use mathlib.Core.Path.{refl}
-use borrow.Author.Rules.{rules}
 use Rattle.position.specs.Layout.{column_size, column_byte}
 use Rattle.position.proofs.Cells.{read_at}
 use Rattle.position.proofs.layout.column_byte.Goals as goal

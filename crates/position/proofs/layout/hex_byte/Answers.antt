@@ -1,7 +1,6 @@
 -- `layout::hex_byte` meets its contract: the view says where the hexes begin and how many there are.
 -- Assumes nothing.
 use native.Mathlib.Omega.{arith}
-use borrow.Author.Rules.{rules}
 use Rattle.position.specs.Layout.{hex_size, hex_byte, map_at}
 use Rattle.position.proofs.Cells.{read_at}
 use Rattle.position.proofs.layout.hex_byte.Goals as goal

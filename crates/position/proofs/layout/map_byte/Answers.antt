@@ -2,7 +2,6 @@
 -- Assumes nothing.
 use mathlib.Core.Path.{sym, ◌∙◌}
 use native.Mathlib.Omega.{arith}
-use borrow.Author.Rules.{rules}
 use Rattle.position.specs.Layout.{hex_size, hex_byte, map_at}
 use Rattle.position.proofs.Cells.{cell_in, read_at}
 use Rattle.position.proofs.layout.map_byte.Goals as goal

@@ -2,7 +2,6 @@
 -- Assumes nothing.
 use Prim.Native.Nat.{◌+◌}
 use native.Mathlib.Omega.{arith}
-use borrow.Author.Rules.{rules}
 use borrow.Author.Tests.{eq-eqb, ne_eqb}
 use Rattle.position.specs.Layout.{desk_body, players_field, forces, extent, players_named}
 use Rattle.position.proofs.layout.players_named.Goals as goal

@@ -4,7 +4,6 @@ use Prim.Native.Nat.{ℕ}
 use mathlib.Core.Path.{sym, ap, ◌∙◌}
 use native.Mathlib.Omega.{arith}
 use lib.ListN.{set}
-use borrow.Author.Rules.{rules}
 use Rattle.position.specs.Layout.{unit_at}
 use Rattle.position.proofs.Tables.{set_unit_in, set_unit_out}
 use Rattle.position.proofs.layout.set_unit.Goals as goal

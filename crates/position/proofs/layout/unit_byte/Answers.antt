@@ -1,7 +1,6 @@
 -- `layout::unit_byte` meets its contract: the view says where the units begin and how many there are.
 -- Assumes nothing.
 use native.Mathlib.Omega.{arith}
-use borrow.Author.Rules.{rules}
 use Rattle.position.specs.Layout.{unit_size, unit_byte}
 use Rattle.position.proofs.Cells.{read_at}
 use Rattle.position.proofs.layout.unit_byte.Goals as goal

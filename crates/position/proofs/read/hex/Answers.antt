@@ -1,7 +1,6 @@
 -- `read::hex` meets its contract: 65535 past the last unit, and two bytes of the unit up to it.
 -- Assumes nothing.
 use native.Mathlib.Omega.{arith}
-use borrow.Author.Rules.{rules}
 use Rattle.position.proofs.Tables.{hex_in, hex_out}
 use Rattle.position.proofs.read.hex.Goals as goal
 

@@ -1,7 +1,6 @@
 -- `read::route` meets its contract: 65535 past the last route and its last number, and two bytes of the desk up to them.
 -- Assumes nothing.
 use native.Mathlib.Omega.{arith}
-use borrow.Author.Rules.{rules}
 use Rattle.position.proofs.Tables.{route_in, route_past, route_over}
 use Rattle.position.proofs.read.route.Goals as goal
 

@@ -1,8 +1,7 @@
 -- `read::shown` meets its contract: a unit that is tried shows its strength, another nothing.
 -- Assumes nothing.
-use mathlib.Core.Path.{◌≡◌, sym, ap, ◌∙◌}
+use mathlib.Core.Path.{sym, ap, ◌∙◌}
 use native.Mathlib.Omega.{arith}
-use borrow.Author.Rules.{rules}
 use Rattle.position.specs.Bits.{has, tried}
 use Rattle.position.specs.Layout.{marks}
 use Rattle.position.proofs.Effects.{shown_is, shown_not}

@@ -1,11 +1,9 @@
 -- `draw::bar_all` meets its contract. The loop's invariant: the units below u have barred their hexes.
 -- Assumes nothing.
-use Prim.Native.Nat.{ℕ, ◌-◌, ◌≤◌}
+use Prim.Native.Nat.{ℕ}
 use mathlib.Core.Path.{ap}
 use native.Mathlib.Omega.{arith}
-use borrow.Author.Rules.{rules}
 use Rattle.position.specs.Board.{board}
-use Rattle.paint.specs.Paint.{Adds}
 use Rattle.paint.proofs.Adding.{room_kept, adds_none, adds_as, adds_also}
 use Rattle.pushes.specs.Drawn.{bars_below}
 use Rattle.pushes.proofs.Drawing.{below_none, below_step}

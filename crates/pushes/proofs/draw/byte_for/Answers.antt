@@ -3,7 +3,6 @@
 use Prim.Native.Nat.{ℕ, ◌+◌}
 use mathlib.Core.Path.{sym, ap, ap₂, ◌∙◌}
 use native.Mathlib.Omega.{arith}
-use borrow.Author.Rules.{rules}
 use Rattle.position.specs.Board.{board}
 use Rattle.position.proofs.Sides.{on_first, area_view}
 use Rattle.grid.proofs.Regions.{place_one}
@@ -20,7 +19,6 @@ returns-in_default c =
       λ x i e. absurd (rw (view.width, view.height) at (hex_nowhere c.hex_of.ensures c.in_default.is) x i e),
       omega arith,
     )
-open-bits-requires c κs = search rules
 
 pub stand_at-requires : goal.stand_at-requires
 stand_at-requires c =

@@ -1,13 +1,8 @@
 -- `draw::draw` meets its contract. The loop's invariant: the places passed are drawn, and the others are shown.
 -- Assumes nothing.
-use Prim.Native.Nat.{ℕ, ◌-◌, ◌*◌, ◌≤◌}
-use mathlib.Core.Path.{sym, ap₂, subst, ◌∙◌}
-use native.Mathlib.Omega.{arith}
-use borrow.Author.Rules.{rules}
+use Prim.Native.Nat.{◌-◌, ◌≤◌}
 use Rattle.position.specs.Board.{board}
-use Rattle.paint.proofs.Bytes.{blank_long, blank_all}
-use Rattle.pushes.specs.Drawn.{ShownIn, DrawnTo}
-use Rattle.pushes.proofs.Drawing.{round_room, drawing_none, shown_in, drawing_more, drawn}
+use Rattle.pushes.specs.Drawn.{DrawnTo}
 use Rattle.pushes.proofs.draw.draw.Given as goal
 
 abbrev pub invariant-loop-i : goal.invariant-loop-i

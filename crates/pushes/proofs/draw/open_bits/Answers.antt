@@ -1,14 +1,12 @@
 -- `draw::open_bits` meets its contract. The loop's invariant: the bits of the directions passed. The measure is how many are left.
 -- Assumes nothing.
-use Prim.Native.Nat.{◌-◌, ◌≤◌}
 use mathlib.Core.Path.{◌≡◌, sym, ap, ◌∙◌}
-use mathlib.Core.Logic.{⊎_elim}
 use native.Mathlib.Omega.{arith}
-use borrow.Author.Rules.{rules}
 use Rattle.position.specs.Board.{ground}
 use Rattle.pushes.specs.Drawn.{open_bits}
 use Rattle.pushes.proofs.Drawing.{opens_at, opens_off, bits_none, bits_open, bits_shut, bits_low}
 use Rattle.pushes.proofs.draw.open_bits.Goals as goal
+use Rattle.pushes.proofs.draw.open_bits.Goals.{in-At, in_default}
 
 pub loop-d-init : goal.loop-d-init
 loop-d-init c = (omega arith, sym (bits_none _ _))
@@ -25,10 +23,10 @@ loop-d-preserved c =
     let d = c.loop-d.d in
     let e = c.next.ensures in (
       omega arith,
-      ⊎_elim
-          (λ w. omega (arith, w.3, w.2.ensures, c.loop-d.invariant.1, bits_open m a.x d (opens_at m a.x d e w.1.given.1)))
-          (λ w. omega (arith, w.2, c.loop-d.invariant.1, bits_shut m a.x d (opens_off m a.x d e w.1.given.1)))
-          c.match-next.branch,
+      elim c.match-next.branch [
+        | in-At w ↦ omega (arith, w.m-is, w.side_bit-m.ensures, c.loop-d.invariant.1, bits_open m a.x d (opens_at m a.x d e w.in-At.is))
+        | in_default w ↦ omega (arith, w.m-is, c.loop-d.invariant.1, bits_shut m a.x d (opens_off m a.x d e w.in_default.is))
+      ],
     )
 
 pub returns : goal.returns

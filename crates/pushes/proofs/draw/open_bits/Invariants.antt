@@ -1,13 +1,9 @@
 -- `draw::open_bits` meets its contract. The loop's invariant: the bits of the directions passed. The measure is how many are left.
 -- Assumes nothing.
 use Prim.Native.Nat.{◌-◌, ◌≤◌}
-use mathlib.Core.Path.{◌≡◌, sym, ap, ◌∙◌}
-use mathlib.Core.Logic.{⊎_elim}
-use native.Mathlib.Omega.{arith}
-use borrow.Author.Rules.{rules}
+use mathlib.Core.Path.{◌≡◌}
 use Rattle.position.specs.Board.{ground}
 use Rattle.pushes.specs.Drawn.{open_bits}
-use Rattle.pushes.proofs.Drawing.{opens_at, opens_off, bits_none, bits_open, bits_shut, bits_low}
 use Rattle.pushes.proofs.draw.open_bits.Given as goal
 
 abbrev pub invariant-loop-d : goal.invariant-loop-d

@@ -1,6 +1,5 @@
 -- `draw::show` meets its contract: over what is painted come the bars.
 -- Assumes nothing.
-use borrow.Author.Rules.{rules}
 use Rattle.paint.proofs.Adding.{room_kept}
 use Rattle.pushes.proofs.Drawing.{shown}
 use Rattle.pushes.proofs.draw.show.Goals as goal

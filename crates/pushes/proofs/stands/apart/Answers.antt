@@ -3,7 +3,6 @@
 use mathlib.Core.Path.{sym, ◌∙◌}
 use Rattle.position.specs.Board.{board}
 use Rattle.pushes.proofs.Standing.{apart_elsewhere, apart_stays, apart_owes}
-use borrow.Author.Rules.{rules}
 use Rattle.pushes.proofs.stands.apart.Goals as goal
 
 pub returns-then-hex-h : goal.returns-then-hex-h

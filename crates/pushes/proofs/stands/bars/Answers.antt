@@ -1,10 +1,8 @@
 -- `stands::bars` meets its contract, test by test.
 -- Assumes nothing.
 use mathlib.Core.Path.{sym, ◌∙◌}
-use borrow.Author.Tests.{not-true, not-false}
 use Rattle.position.specs.Board.{board}
 use Rattle.pushes.proofs.Standing.{bars_not, bars_there}
-use borrow.Author.Rules.{rules}
 use Rattle.pushes.proofs.stands.bars.Goals as goal
 
 pub returns-then-not-apart : goal.returns-then-not-apart

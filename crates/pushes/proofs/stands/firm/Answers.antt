@@ -5,7 +5,6 @@ use mathlib.Core.Path.{sym, ap, ◌∙◌}
 use lib.Dec.{eqb}
 use Rattle.position.specs.Board.{board}
 use Rattle.pushes.proofs.Standing.{firm_other, firm_supply, firm_owes}
-use borrow.Author.Rules.{rules}
 use Rattle.pushes.proofs.stands.firm.Goals as goal
 
 pub returns-then-force_of-f : goal.returns-then-force_of-f

@@ -1,8 +1,6 @@
 -- `stands::own_stand` meets its contract: test by test.
 -- Assumes nothing.
 use mathlib.Core.Path.{sym, ◌∙◌}
-use borrow.Author.Rules.{rules}
-use borrow.Author.Tests.{not-true, not-false}
 use Rattle.position.specs.Board.{board}
 use Rattle.pushes.proofs.Standing.{stand_alone, stand_firm, stand_loose}
 use Rattle.pushes.proofs.stands.own_stand.Goals as goal

@@ -3,8 +3,6 @@
 use Prim.Native.Nat.{ℕ}
 use mathlib.Core.Path.{◌≡◌, sym, ap, subst, ◌∙◌}
 use mathlib.Core.Bool.{true}
-use borrow.Author.Rules.{rules}
-use borrow.Author.Tests.{not-true, not-false}
 use Rattle.position.specs.Board.{board}
 use Rattle.routes.specs.Bears.{bears}
 use Rattle.chains.specs.Stand.{stand}
@@ -34,9 +32,11 @@ returns-then-not-has c =
 
 pub own_stand-requires : goal.own_stand-requires
 own_stand-requires c =
-    let a = c.args in
-    (c.requires.0, subst (λ (h : ℕ). bears (board a.p.now) a.f h ≡ true) c.if-h-a.true (borne (board c.args.p.now) c.args.f c.args.a c.args.h c.requires.2
-    (sym c.standable.ensures ∙ c.if-not-standable.false) (sym c.has.ensures ∙ c.if-has.false)))
+    let a = c.args in (
+      c.requires.0,
+      subst (λ (h : ℕ). bears (board a.p.now) a.f h ≡ true) c.if-h-a.true (borne (board c.args.p.now) c.args.f c.args.a c.args.h c.requires.2
+          (sym c.standable.ensures ∙ c.if-not-standable.false) (sym c.has.ensures ∙ c.if-has.false)),
+    )
 
 pub returns-then-h-a : goal.returns-then-h-a
 returns-then-h-a c =

@@ -2,7 +2,6 @@
 -- Assumes nothing.
 use mathlib.Core.Path.{◌∙◌, sym}
 use native.Mathlib.Omega.{arith}
-use borrow.Author.Rules.{rules}
 use Rattle.results.proofs.Upshots.{upshot_a, upshot_ae, upshot_ax, upshot_d, upshot_de, upshot_dx}
 use Rattle.results.proofs.codes.upshot.Goals as goal
 

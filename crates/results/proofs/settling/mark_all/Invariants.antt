@@ -1,10 +1,7 @@
 -- `settling::mark_all` meets its contract. The loop's invariant: the units passed have fought. The measure is how many are left.
 -- Assumes nothing.
 use Prim.Native.Nat.{◌-◌}
-use mathlib.Core.Path.{refl}
-use native.Mathlib.Omega.{arith}
-use borrow.Author.Rules.{rules}
-use Rattle.results.proofs.Settles.{Marking, fought_byte, marking_all, marking_more, marking_none}
+use Rattle.results.proofs.Settles.{Marking}
 use Rattle.results.proofs.settling.mark_all.Given as goal
 
 abbrev pub invariant-loop-i : goal.invariant-loop-i

@@ -1,10 +1,8 @@
 -- `settling::route_hexes` meets its contract. The loop's invariant: the hexes of those passed are written, once each.
 -- The measure is how many are left.
 -- Assumes nothing.
-use Prim.Native.Nat.{◌-◌}
 use native.Mathlib.Omega.{arith}
-use borrow.Author.Rules.{rules}
-use Rattle.results.proofs.Settles.{Routing, laid_once, routing_all, routing_more, routing_none}
+use Rattle.results.proofs.Settles.{laid_once, routing_all, routing_more, routing_none}
 use Rattle.results.proofs.settling.route_hexes.Goals as goal
 
 pub loop-i-init : goal.loop-i-init

@@ -2,9 +2,7 @@
 -- The measure is how many are left.
 -- Assumes nothing.
 use Prim.Native.Nat.{◌-◌}
-use native.Mathlib.Omega.{arith}
-use borrow.Author.Rules.{rules}
-use Rattle.results.proofs.Settles.{Routing, laid_once, routing_all, routing_more, routing_none}
+use Rattle.results.proofs.Settles.{Routing}
 use Rattle.results.proofs.settling.route_hexes.Given as goal
 
 abbrev pub invariant-loop-i : goal.invariant-loop-i

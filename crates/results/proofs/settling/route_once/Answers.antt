@@ -2,10 +2,9 @@
 -- Assumes nothing.
 use Prim.Native.Nat.{ℕ}
 use mathlib.Core.List.{map}
-use mathlib.Core.Path.{◌∙◌, ◌≡◌, ap, sym}
+use mathlib.Core.Path.{◌∙◌, ap, sym}
 use native.Mathlib.Omega.{arith}
-use borrow.Author.Rules.{rules}
-use lib.ListN.{get_or, take}
+use lib.ListN.{take}
 use Rattle.position.specs.Board.{nowhere}
 use Rattle.position.specs.Change.{make}
 use Rattle.position.specs.Change.Change.{routed}

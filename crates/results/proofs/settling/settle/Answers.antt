@@ -4,9 +4,7 @@ use Prim.Native.Nat.{ℕ}
 use mathlib.Core.List.{List, map}
 use mathlib.Core.Path.{◌∙◌, ap}
 use native.Mathlib.Omega.{arith}
-use borrow.Author.Rules.{rules}
 use Rattle.position.specs.Change.{makes}
-use Rattle.position.specs.Laid.{Laid}
 use Rattle.position.proofs.Changes.{laid_makes}
 use Rattle.results.proofs.Settles.{all_behind, all_long, all_settled, likened_refl, turned_over}
 use Rattle.results.specs.Results.{suffers}

@@ -1,11 +1,9 @@
 -- `settling::stood_before` meets its contract. The loop's invariant: none of those passed stands there. The measure is how many are left.
 -- Assumes nothing.
-use Prim.Native.Nat.{◌-◌}
 use mathlib.Core.Path.{◌∙◌, sym}
 use native.Mathlib.Omega.{arith}
-use borrow.Author.Rules.{rules}
 use Rattle.position.specs.Layout.{hex}
-use Rattle.field.proofs.Lists.{Unnamed, unnamed_all, unnamed_hit, unnamed_more, unnamed_none}
+use Rattle.field.proofs.Lists.{unnamed_all, unnamed_hit, unnamed_more, unnamed_none}
 use Rattle.results.proofs.settling.stood_before.Goals as goal
 
 pub loop-j-init : goal.loop-j-init

@@ -1,11 +1,8 @@
 -- `settling::stood_before` meets its contract. The loop's invariant: none of those passed stands there. The measure is how many are left.
 -- Assumes nothing.
 use Prim.Native.Nat.{◌-◌}
-use mathlib.Core.Path.{◌∙◌, sym}
-use native.Mathlib.Omega.{arith}
-use borrow.Author.Rules.{rules}
 use Rattle.position.specs.Layout.{hex}
-use Rattle.field.proofs.Lists.{Unnamed, unnamed_all, unnamed_hit, unnamed_more, unnamed_none}
+use Rattle.field.proofs.Lists.{Unnamed}
 use Rattle.results.proofs.settling.stood_before.Given as goal
 
 abbrev pub invariant-loop-j : goal.invariant-loop-j

@@ -1,11 +1,8 @@
 -- `settling::suffer` meets its contract. The loop's invariant: the units passed have suffered. The measure is how many are left.
 -- Assumes nothing.
-use Prim.Native.Nat.{◌-◌}
 use mathlib.Core.Path.{refl}
 use native.Mathlib.Omega.{arith}
-use borrow.Author.Rules.{rules}
-use Rattle.field.proofs.Making.{Making, making_all, making_more, making_none}
-use Rattle.results.specs.Results.{suffers}
+use Rattle.field.proofs.Making.{making_all, making_more, making_none}
 use Rattle.results.proofs.settling.suffer.Goals as goal
 
 pub loop-i-init : goal.loop-i-init

@@ -1,10 +1,7 @@
 -- `settling::suffer` meets its contract. The loop's invariant: the units passed have suffered. The measure is how many are left.
 -- Assumes nothing.
 use Prim.Native.Nat.{◌-◌}
-use mathlib.Core.Path.{refl}
-use native.Mathlib.Omega.{arith}
-use borrow.Author.Rules.{rules}
-use Rattle.field.proofs.Making.{Making, making_all, making_more, making_none}
+use Rattle.field.proofs.Making.{Making}
 use Rattle.results.specs.Results.{suffers}
 use Rattle.results.proofs.settling.suffer.Given as goal
 

@@ -1,7 +1,6 @@
 -- `settling::suffer_one` meets its contract: the unit is destroyed or gets its role.
 -- Assumes nothing.
 use mathlib.Core.Path.{◌∙◌, ap, sym}
-use borrow.Author.Rules.{rules}
 use Rattle.position.specs.Change.{make}
 use Rattle.results.proofs.Settles.{suffers_lost, suffers_role}
 use Rattle.results.proofs.settling.suffer_one.Goals as goal

@@ -1,10 +1,8 @@
 -- `settling::turn_all` meets its contract. The loop's invariant: the units passed are turned over. The measure is how many are left.
 -- Assumes nothing.
-use Prim.Native.Nat.{◌-◌}
 use mathlib.Core.Path.{refl}
 use native.Mathlib.Omega.{arith}
-use borrow.Author.Rules.{rules}
-use Rattle.results.proofs.Settles.{Turning, turning_all, turning_more, turning_none}
+use Rattle.results.proofs.Settles.{turning_all, turning_more, turning_none}
 use Rattle.results.proofs.settling.turn_all.Goals as goal
 
 pub loop-i-init : goal.loop-i-init

@@ -1,15 +1,10 @@
 -- `chart_ok::codes_ok` meets its contract. The loop's invariant: the codes of every die before this one are codes.
 -- Assumes nothing.
-use Prim.Native.Nat.{ℕ, ◌+◌, ◌-◌}
 use mathlib.Core.Path.{sym}
-use mathlib.Core.List.{List}
 use native.Mathlib.Omega.{arith}
-use borrow.Author.Rules.{rules}
-use Rattle.position.specs.Shape.{In}
-use Rattle.position.specs.Layout.{code, die_faces}
-use Rattle.position.proofs.Answers.{said, unsaid, carry, Passed, none_yet, one_more, all, not_all}
+use Rattle.position.specs.Layout.{code}
+use Rattle.position.proofs.Answers.{said, unsaid, carry, none_yet, one_more, all, not_all}
 use Rattle.setting.proofs.chart_ok.codes_ok.Goals as goal
-use Rattle.setting.proofs.chart_ok.codes_ok.Invariants.{Coded}
 
 pub loop-die-init : goal.loop-die-init
 loop-die-init c = none_yet

@@ -1,7 +1,6 @@
 -- `chart_ok::column_ok` meets its contract: the odds are read and measured, and the rest is the codes' answer.
 -- Assumes nothing.
 use mathlib.Core.Path.{sym}
-use borrow.Author.Rules.{rules}
 use Rattle.position.proofs.Answers.{said, unsaid, told, carry}
 use Rattle.setting.proofs.chart_ok.column_ok.Goals as goal
 

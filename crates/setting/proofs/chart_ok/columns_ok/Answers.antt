@@ -1,11 +1,7 @@
 -- `chart_ok::columns_ok` meets its contract. The loop's invariant: every column before c is as it should be.
 -- Assumes nothing.
-use Prim.Native.Nat.{◌-◌}
 use native.Mathlib.Omega.{arith}
-use borrow.Author.Rules.{rules}
-use Rattle.setting.specs.Setting.{ColumnOk}
-use Rattle.position.specs.Board.{results}
-use Rattle.position.proofs.Answers.{said, unsaid, Passed, none_yet, one_more, all, not_all}
+use Rattle.position.proofs.Answers.{said, unsaid, none_yet, one_more, all, not_all}
 use Rattle.setting.proofs.chart_ok.columns_ok.Goals as goal
 
 pub loop-c-init : goal.loop-c-init

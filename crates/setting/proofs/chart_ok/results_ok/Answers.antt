@@ -1,6 +1,5 @@
 -- `chart_ok::results_ok` meets its contract: both questions are asked.
 -- Assumes nothing.
-use borrow.Author.Rules.{rules}
 use Rattle.position.proofs.Answers.{said, unsaid}
 use Rattle.setting.proofs.chart_ok.results_ok.Goals as goal
 

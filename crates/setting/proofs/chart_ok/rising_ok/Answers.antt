@@ -1,9 +1,7 @@
 -- `chart_ok::rising_ok` meets its contract: the products that it compares are those of the odds.
 -- Assumes nothing.
-use Prim.Native.Nat.{◌+◌, ◌*◌}
-use mathlib.Core.Path.{◌≡◌, ap₂}
+use mathlib.Core.Path.{ap₂}
 use native.Mathlib.Omega.{arith}
-use borrow.Author.Rules.{rules}
 use Rattle.position.specs.Layout.{attack_odds, defence_odds}
 use Rattle.position.proofs.Shapes.{bytes_product}
 use Rattle.setting.proofs.chart_ok.rising_ok.Goals as goal

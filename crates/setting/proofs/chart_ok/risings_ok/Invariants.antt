@@ -1,11 +1,9 @@
 -- `chart_ok::risings_ok` meets its contract. The loop's invariant: the odds rise from every column before c to the next.
 -- Assumes nothing.
 use Prim.Native.Nat.{◌-◌}
-use native.Mathlib.Omega.{arith}
-use borrow.Author.Rules.{rules}
 use Rattle.setting.specs.Setting.{RisingOk}
 use Rattle.position.specs.Board.{results}
-use Rattle.position.proofs.Answers.{said, unsaid, Passed, none_yet, one_more}
+use Rattle.position.proofs.Answers.{Passed}
 use Rattle.setting.proofs.chart_ok.risings_ok.Given as goal
 
 abbrev pub invariant-loop-c : goal.invariant-loop-c

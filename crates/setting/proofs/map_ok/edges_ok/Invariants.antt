@@ -1,12 +1,9 @@
 -- `map_ok::edges_ok` meets its contract. The loop's invariant: every side before d is as it should be.
 -- Assumes nothing.
 use Prim.Native.Nat.{◌-◌}
-use native.Mathlib.Omega.{arith}
-use borrow.Author.Rules.{rules}
 use Rattle.setting.specs.Setting.{EdgeOk}
 use Rattle.position.specs.Board.{ground}
-use Rattle.position.proofs.Answers.{said, unsaid, Passed, none_yet, one_more, all, not_all}
-use Rattle.setting.proofs.Rims.{all_plain}
+use Rattle.position.proofs.Answers.{Passed}
 use Rattle.setting.proofs.map_ok.edges_ok.Given as goal
 
 abbrev pub invariant-loop-d : goal.invariant-loop-d

@@ -1,6 +1,5 @@
 -- `map_ok::hex_ok` meets its contract: each number of the hex is read and measured.
 -- Assumes nothing.
-use borrow.Author.Rules.{rules}
 use Rattle.setting.proofs.Hexes.{measured}
 use Rattle.setting.proofs.map_ok.hex_ok.Goals as goal
 

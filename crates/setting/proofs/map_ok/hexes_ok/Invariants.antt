@@ -1,11 +1,8 @@
 -- `map_ok::hexes_ok` meets its contract. The loop's invariant: every hex before h is as it should be.
 -- Assumes nothing.
-use Prim.Native.Nat.{◌+◌, ◌-◌}
-use native.Mathlib.Omega.{arith}
-use borrow.Author.Rules.{rules}
+use Prim.Native.Nat.{◌-◌}
 use Rattle.position.specs.Board.{ground}
-use Rattle.position.proofs.Answers.{said, unsaid, Passed, none_yet, several_more}
-use Rattle.position.proofs.Shapes.{sizes}
+use Rattle.position.proofs.Answers.{Passed}
 use Rattle.setting.specs.Setting.{HexOk}
 use Rattle.setting.proofs.map_ok.hexes_ok.Given as goal
 

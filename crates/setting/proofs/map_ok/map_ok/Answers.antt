@@ -1,7 +1,6 @@
 -- `map_ok::map_ok` meets its contract: both questions are asked.
 -- Assumes nothing.
 use mathlib.Core.Path.{refl}
-use borrow.Author.Rules.{rules}
 use Rattle.position.specs.Layout.{hexes}
 use Rattle.position.proofs.Answers.{said, unsaid}
 use Rattle.setting.proofs.map_ok.map_ok.Goals as goal

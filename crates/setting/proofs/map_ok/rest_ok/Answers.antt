@@ -1,11 +1,7 @@
 -- `map_ok::rest_ok` meets its contract. The loop's invariant: every hex before h is as it should be.
 -- Assumes nothing.
-use Prim.Native.Nat.{◌-◌}
 use native.Mathlib.Omega.{arith}
-use borrow.Author.Rules.{rules}
-use Rattle.position.specs.Board.{ground}
-use Rattle.position.proofs.Answers.{said, unsaid, Passed, one_more, all, not_all}
-use Rattle.setting.specs.Setting.{HexOk}
+use Rattle.position.proofs.Answers.{said, unsaid, one_more, all, not_all}
 use Rattle.setting.proofs.map_ok.rest_ok.Goals as goal
 
 pub loop-h-init : goal.loop-h-init

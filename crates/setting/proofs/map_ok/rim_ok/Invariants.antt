@@ -1,10 +1,7 @@
 -- `map_ok::rim_ok` meets its contract. The loop's invariant: every hex before h has its sides as they should be, and h is the rim's next.
 -- Assumes nothing.
 use Prim.Native.Nat.{◌-◌}
-use native.Mathlib.Omega.{arith}
-use borrow.Author.Rules.{rules}
-use Rattle.position.proofs.Answers.{said, unsaid, all, not_all}
-use Rattle.setting.proofs.Rims.{Round, round_begins, round_goes_on}
+use Rattle.setting.proofs.Rims.{Round}
 use Rattle.setting.proofs.map_ok.rim_ok.Given as goal
 
 abbrev pub invariant-loop-h : goal.invariant-loop-h

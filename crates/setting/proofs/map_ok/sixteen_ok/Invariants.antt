@@ -2,12 +2,8 @@
 -- Assumes nothing.
 use Prim.Native.Nat.{ℕ, ◌+◌, ◌-◌, ◌≤◌, ◌<◌}
 use mathlib.Core.List.{List}
-use native.Mathlib.Omega.{arith}
-use borrow.Author.Rules.{rules}
 use Rattle.position.specs.Board.{ground}
 use Rattle.position.specs.Laid.{Says}
-use Rattle.position.proofs.Answers.{said_more, told}
-use Rattle.position.proofs.Shapes.{sizes}
 use Rattle.setting.specs.Setting.{HexOk}
 use Rattle.setting.proofs.map_ok.sixteen_ok.Given as goal
 

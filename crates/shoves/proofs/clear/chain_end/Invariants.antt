@@ -1,14 +1,9 @@
 -- `clear::chain_end` meets its contract. The loop's invariant: every hex passed is held. The measure is how many pushes are left.
 -- Assumes nothing.
 use Prim.Native.Nat.{◌-◌}
-use mathlib.Core.Path.{sym, ap, ◌∙◌}
-use native.Mathlib.Omega.{arith}
-use borrow.Author.Rules.{rules}
 use lib.ListN.{length}
 use Rattle.position.specs.Board.{board}
-use Rattle.field.specs.Zone.{vacant}
 use Rattle.shoves.specs.Shoves.{Chained}
-use Rattle.shoves.proofs.Clearing.{chain_more, chain_none}
 use Rattle.shoves.proofs.clear.chain_end.Given as goal
 
 abbrev pub invariant-loop-e : goal.invariant-loop-e

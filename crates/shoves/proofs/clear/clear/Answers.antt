@@ -4,12 +4,11 @@
 use Prim.Native.Nat.{ℕ, ◌-◌}
 use mathlib.Core.Path.{ap, ◌∙◌}
 use native.Mathlib.Omega.{arith}
-use borrow.Author.Rules.{rules}
 use lib.ListN.{get_or}
 use Rattle.position.specs.Board.{board}
 use Rattle.position.specs.Change.{makes}
 use Rattle.shoves.specs.Shoves.{stack_to}
-use Rattle.shoves.proofs.Clearing.{DoneFrom, done_all, done_more, done_none}
+use Rattle.shoves.proofs.Clearing.{done_all, done_more, done_none}
 use Rattle.shoves.proofs.clear.clear.Goals as goal
 
 pub chain_end-end-requires : goal.chain_end-end-requires

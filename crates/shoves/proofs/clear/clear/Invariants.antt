@@ -1,15 +1,8 @@
 -- `clear::clear` meets its contract. The loop's invariant: the pushes of the chain from number j on are carried out. The measure is how many
 -- of them are left.
 -- Assumes nothing.
-use Prim.Native.Nat.{ℕ, ◌-◌}
-use mathlib.Core.Path.{ap, ◌∙◌}
-use native.Mathlib.Omega.{arith}
-use borrow.Author.Rules.{rules}
-use lib.ListN.{get_or}
-use Rattle.position.specs.Board.{board}
-use Rattle.position.specs.Change.{makes}
-use Rattle.shoves.specs.Shoves.{stack_to}
-use Rattle.shoves.proofs.Clearing.{DoneFrom, done_all, done_more, done_none}
+use Prim.Native.Nat.{◌-◌}
+use Rattle.shoves.proofs.Clearing.{DoneFrom}
 use Rattle.shoves.proofs.clear.clear.Given as goal
 
 abbrev pub invariant-loop-j : goal.invariant-loop-j

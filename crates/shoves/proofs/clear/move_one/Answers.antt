@@ -1,7 +1,6 @@
 -- `clear::move_one` meets its contract: a unit that does not stand there is left alone, one that does goes.
 -- Assumes nothing.
 use mathlib.Core.Path.{sym, ◌∙◌}
-use borrow.Author.Rules.{rules}
 use Rattle.field.proofs.Zones.{stands_here, stands_off}
 use Rattle.shoves.proofs.Turns.{dealt_with, left_alone, shifts_there}
 use Rattle.shoves.proofs.clear.move_one.Goals as goal

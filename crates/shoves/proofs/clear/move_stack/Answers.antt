@@ -1,13 +1,11 @@
 -- `clear::move_stack` meets its contract. The loop's invariant: the units passed that stood there have gone, the others are as they were.
 -- The measure is how many are left.
 -- Assumes nothing.
-use Prim.Native.Nat.{◌-◌}
 use native.Mathlib.Omega.{arith}
-use borrow.Author.Rules.{rules}
 use mathlib.Core.Path.{refl}
 use Rattle.shoves.specs.Group.{stack}
-use Rattle.shoves.specs.Shoves.{shifts, stack_to}
-use Rattle.shoves.proofs.Sweeps.{Sweep, alike_standing, own_shifts, standing, sweep_all, sweep_more, sweep_none}
+use Rattle.shoves.specs.Shoves.{stack_to}
+use Rattle.shoves.proofs.Sweeps.{alike_standing, own_shifts, sweep_all, sweep_more, sweep_none}
 use Rattle.shoves.proofs.clear.move_stack.Goals as goal
 
 pub loop-u-init : goal.loop-u-init

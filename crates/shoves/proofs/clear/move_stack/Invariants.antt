@@ -2,12 +2,8 @@
 -- The measure is how many are left.
 -- Assumes nothing.
 use Prim.Native.Nat.{◌-◌}
-use native.Mathlib.Omega.{arith}
-use borrow.Author.Rules.{rules}
-use mathlib.Core.Path.{refl}
-use Rattle.shoves.specs.Group.{stack}
-use Rattle.shoves.specs.Shoves.{shifts, stack_to}
-use Rattle.shoves.proofs.Sweeps.{Sweep, alike_standing, own_shifts, standing, sweep_all, sweep_more, sweep_none}
+use Rattle.shoves.specs.Shoves.{shifts}
+use Rattle.shoves.proofs.Sweeps.{Sweep, standing}
 use Rattle.shoves.proofs.clear.move_stack.Given as goal
 
 abbrev pub invariant-loop-u : goal.invariant-loop-u

@@ -3,7 +3,6 @@
 use Prim.Native.Nat.{◌-◌}
 use mathlib.Core.Path.{sym}
 use native.Mathlib.Omega.{arith}
-use borrow.Author.Rules.{rules}
 use Rattle.shoves.proofs.Clearing.{out_first, out_later}
 use Rattle.shoves.proofs.clear.out_of.Goals as goal
 

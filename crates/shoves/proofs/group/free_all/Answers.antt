@@ -1,13 +1,10 @@
 -- `group::free_all` meets its contract. The loop's invariant: the units passed that owed there have no role any more, the others are
 -- as they were. The measure is how many are left.
 -- Assumes nothing.
-use Prim.Native.Nat.{◌-◌}
 use native.Mathlib.Omega.{arith}
-use borrow.Author.Rules.{rules}
 use mathlib.Core.Path.{refl}
 use Rattle.shoves.specs.Group.{group}
-use Rattle.shoves.specs.Shoves.{frees}
-use Rattle.shoves.proofs.Sweeps.{Sweep, alike_owing, own_frees, owing, sweep_all, sweep_more, sweep_none}
+use Rattle.shoves.proofs.Sweeps.{alike_owing, own_frees, sweep_all, sweep_more, sweep_none}
 use Rattle.shoves.proofs.group.free_all.Goals as goal
 
 pub loop-u-init : goal.loop-u-init

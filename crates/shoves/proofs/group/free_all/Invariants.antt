@@ -2,12 +2,8 @@
 -- as they were. The measure is how many are left.
 -- Assumes nothing.
 use Prim.Native.Nat.{◌-◌}
-use native.Mathlib.Omega.{arith}
-use borrow.Author.Rules.{rules}
-use mathlib.Core.Path.{refl}
-use Rattle.shoves.specs.Group.{group}
 use Rattle.shoves.specs.Shoves.{frees}
-use Rattle.shoves.proofs.Sweeps.{Sweep, alike_owing, own_frees, owing, sweep_all, sweep_more, sweep_none}
+use Rattle.shoves.proofs.Sweeps.{Sweep, owing}
 use Rattle.shoves.proofs.group.free_all.Given as goal
 
 abbrev pub invariant-loop-u : goal.invariant-loop-u

@@ -1,8 +1,6 @@
 -- `group::free_one` meets its contract: a unit that does not owe there is left alone, one that does has no role any more.
 -- Assumes nothing.
 use mathlib.Core.Path.{sym, ◌∙◌}
-use borrow.Author.Rules.{rules}
-use borrow.Author.Tests.{not-false, not-true}
 use Rattle.shoves.proofs.Turns.{dealt_with, frees_it, left_alone}
 use Rattle.shoves.proofs.group.free_one.Goals as goal
 

@@ -1,7 +1,6 @@
 -- `group::go` meets its contract: a supply unit is destroyed, another is placed.
 -- Assumes nothing.
 use mathlib.Core.Path.{sym, ◌∙◌}
-use borrow.Author.Rules.{rules}
 use Rattle.shoves.proofs.Turns.{goes_supply, goes_there}
 use Rattle.shoves.proofs.group.go.Goals as goal
 

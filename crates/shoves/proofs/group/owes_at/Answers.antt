@@ -2,7 +2,6 @@
 -- Assumes nothing.
 use Prim.Native.Nat.{ℕ}
 use mathlib.Core.Path.{ap, sym, ◌∙◌}
-use borrow.Author.Rules.{rules}
 use lib.Dec.{eqb}
 use Rattle.shoves.proofs.Turns.{owes_not, owes_where}
 use Rattle.shoves.proofs.group.owes_at.Goals as goal

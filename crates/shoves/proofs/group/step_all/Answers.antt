@@ -1,13 +1,10 @@
 -- `group::step_all` meets its contract. The loop's invariant: the units passed that owed there have gone, the others are as they were.
 -- The measure is how many are left.
 -- Assumes nothing.
-use Prim.Native.Nat.{◌-◌}
 use native.Mathlib.Omega.{arith}
-use borrow.Author.Rules.{rules}
-use Rattle.position.specs.Board.{board}
 use Rattle.shoves.specs.Group.{group}
-use Rattle.shoves.specs.Shoves.{goes_to, group_to}
-use Rattle.shoves.proofs.Sweeps.{Sweep, alike_owing, own_goes, owing, sweep_all, sweep_more, sweep_none}
+use Rattle.shoves.specs.Shoves.{group_to}
+use Rattle.shoves.proofs.Sweeps.{alike_owing, own_goes, sweep_all, sweep_more, sweep_none}
 use Rattle.shoves.proofs.Turns.{goes_same}
 use Rattle.shoves.proofs.group.step_all.Goals as goal
 

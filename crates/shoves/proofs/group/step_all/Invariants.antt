@@ -2,13 +2,9 @@
 -- The measure is how many are left.
 -- Assumes nothing.
 use Prim.Native.Nat.{◌-◌}
-use native.Mathlib.Omega.{arith}
-use borrow.Author.Rules.{rules}
 use Rattle.position.specs.Board.{board}
-use Rattle.shoves.specs.Group.{group}
-use Rattle.shoves.specs.Shoves.{goes_to, group_to}
-use Rattle.shoves.proofs.Sweeps.{Sweep, alike_owing, own_goes, owing, sweep_all, sweep_more, sweep_none}
-use Rattle.shoves.proofs.Turns.{goes_same}
+use Rattle.shoves.specs.Shoves.{goes_to}
+use Rattle.shoves.proofs.Sweeps.{Sweep, owing}
 use Rattle.shoves.proofs.group.step_all.Given as goal
 
 abbrev pub invariant-loop-u : goal.invariant-loop-u

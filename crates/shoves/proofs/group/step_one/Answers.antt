@@ -1,8 +1,6 @@
 -- `group::step_one` meets its contract: a unit that does not owe there is left alone, one that does goes.
 -- Assumes nothing.
 use mathlib.Core.Path.{sym, ◌∙◌}
-use borrow.Author.Rules.{rules}
-use borrow.Author.Tests.{not-false, not-true}
 use Rattle.shoves.proofs.Turns.{dealt_with, left_alone}
 use Rattle.shoves.proofs.group.step_one.Goals as goal
 

@@ -1,12 +1,9 @@
 -- `owing::among` meets its contract. The loop's invariant: the hex is none of those passed. The measure is how many are left.
 -- Assumes nothing.
-use Prim.Native.Nat.{ℕ, ◌-◌, ◌≤◌}
-use mathlib.Core.Path.{◌≡◌, sym, ap, ◌∙◌}
+use Prim.Native.Nat.{◌-◌, ◌≤◌}
+use mathlib.Core.Path.{◌≡◌}
 use mathlib.Core.Bool.{false}
-use native.Mathlib.Omega.{arith}
-use borrow.Author.Rules.{rules}
 use Rattle.acceptance.specs.Noted.{among}
-use Rattle.acceptance.proofs.Notes.{among_none, among_found, among_past}
 use Rattle.stages.proofs.owing.among.Given as goal
 
 abbrev pub invariant-loop-j : goal.invariant-loop-j

@@ -2,7 +2,6 @@
 -- Assumes nothing.
 use mathlib.Core.Path.{sym, ◌∙◌}
 use native.Mathlib.Omega.{arith}
-use borrow.Author.Rules.{rules}
 use Rattle.acceptance.proofs.Notes.{note_known, note_full, note_fresh}
 use Rattle.stages.proofs.owing.note.Goals as goal
 

@@ -1,13 +1,8 @@
 -- `owing::owing_hexes` meets its contract. The loop's invariant: the first k of the list are the hexes of the units before u that owe.
 -- The measure is how many units are left.
 -- Assumes nothing.
-use Prim.Native.Nat.{◌-◌, ◌≤◌}
 use mathlib.Core.Path.{refl, sym}
 use native.Mathlib.Omega.{arith}
-use borrow.Author.Rules.{rules}
-use Rattle.position.specs.Layout.{route_count}
-use Rattle.position.specs.Board.{board}
-use Rattle.acceptance.specs.Noted.{Noted}
 use Rattle.acceptance.proofs.Notes.{noted_none, noted_past, noted_more, noted_over, noted_all}
 use Rattle.stages.proofs.owing.owing_hexes.Goals as goal
 

@@ -6,7 +6,6 @@ use lib.Dec.{eqb}
 use Rattle.position.specs.Board.{board}
 use Rattle.field.specs.Scene.{scene}
 use Rattle.supply.proofs.Grading.{coastal_is}
-use borrow.Author.Rules.{rules}
 use Rattle.supply.proofs.grade.coastal.Goals as goal
 
 pub returns : goal.returns

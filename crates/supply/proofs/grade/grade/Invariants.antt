@@ -1,14 +1,10 @@
 -- `grade::grade` meets its contract. The loop's invariant: the hexes below h hold their grades, and the others their paint.
 -- Assumes nothing.
 use Prim.Native.Nat.{◌-◌, ◌≤◌}
-use mathlib.Core.Path.{ap, ◌∙◌}
-use native.Mathlib.Omega.{arith}
 use Rattle.position.specs.Board.{board}
 use Rattle.field.specs.Scene.{scene}
-use Rattle.paint.proofs.Bytes.{Pass, pass_none, pass_set}
+use Rattle.paint.proofs.Bytes.{Pass}
 use Rattle.supply.specs.Graded.{grade_by}
-use Rattle.supply.proofs.Grading.{all_graded}
-use borrow.Author.Rules.{rules}
 use Rattle.supply.proofs.grade.grade.Given as goal
 
 abbrev pub invariant-loop-h : goal.invariant-loop-h

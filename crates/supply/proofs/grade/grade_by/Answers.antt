@@ -2,12 +2,10 @@
 -- Assumes nothing.
 use mathlib.Core.Path.{sym, ◌∙◌}
 use native.Mathlib.Omega.{arith}
-use borrow.Author.Tests.{not-true}
 use Rattle.position.specs.Board.{board}
 use Rattle.position.proofs.Answers.{holds}
 use Rattle.field.specs.Scene.{scene}
 use Rattle.supply.proofs.Grading.{grade_closed, grade_source, grade_open}
-use borrow.Author.Rules.{rules}
 use Rattle.supply.proofs.grade.grade_by.Goals as goal
 
 pub returns-then-not-open_by : goal.returns-then-not-open_by

@@ -7,7 +7,6 @@ use Rattle.position.specs.Board.{board}
 use Rattle.position.specs.Bits.{has}
 use Rattle.field.specs.Scene.{scene}
 use Rattle.supply.proofs.Grading.{home_yes, home_no}
-use borrow.Author.Rules.{rules}
 use Rattle.supply.proofs.grade.home_source.Goals as goal
 
 pub returns-then-has : goal.returns-then-has

@@ -1,12 +1,10 @@
 -- `grade::landing` meets its contract: each return by what the tests before it decide.
 -- Assumes nothing.
 use mathlib.Core.Path.{sym, ap, ◌∙◌}
-use borrow.Author.Tests.{not-true, not-false}
 use Rattle.position.specs.Board.{board}
 use Rattle.position.specs.Bits.{has}
 use Rattle.field.specs.Scene.{scene}
 use Rattle.supply.proofs.Grading.{landing_port, landing_inland, landing_urban, landing_supply}
-use borrow.Author.Rules.{rules}
 use Rattle.supply.proofs.grade.landing.Goals as goal
 
 pub returns-then-has : goal.returns-then-has

@@ -5,7 +5,6 @@ use native.Mathlib.Omega.{arith}
 use Rattle.position.specs.Board.{board}
 use Rattle.field.specs.Scene.{scene}
 use Rattle.supply.proofs.Grading.{open_water, open_enemy, open_zone, open_free}
-use borrow.Author.Rules.{rules}
 use Rattle.supply.proofs.grade.open_by.Goals as goal
 
 pub returns-then-surface-gt1 : goal.returns-then-surface-gt1

@@ -1,12 +1,10 @@
 -- `grade::regrade` meets its contract. The loop's invariant: the hexes below h hold their grades, and the others what was traced.
 -- Assumes nothing.
-use Prim.Native.Nat.{◌-◌, ◌≤◌}
 use mathlib.Core.Path.{ap, ◌∙◌}
 use native.Mathlib.Omega.{arith}
-use borrow.Author.Rules.{rules}
 use Rattle.position.specs.Board.{board}
 use Rattle.field.specs.Scene.{scene}
-use Rattle.paint.proofs.Bytes.{Pass, pass_none, pass_set}
+use Rattle.paint.proofs.Bytes.{pass_none, pass_set}
 use Rattle.supply.specs.Traced.{regrade_by}
 use Rattle.supply.proofs.Grading.{all_regraded}
 use Rattle.supply.proofs.grade.regrade.Goals as goal

@@ -4,7 +4,6 @@ use mathlib.Core.Path.{sym, ◌∙◌}
 use Rattle.position.specs.Board.{board}
 use Rattle.field.specs.Scene.{scene}
 use Rattle.supply.proofs.Grading.{source_us, source_canada, source_landed}
-use borrow.Author.Rules.{rules}
 use Rattle.supply.proofs.grade.source_by.Goals as goal
 
 pub returns-then-n-eq-US : goal.returns-then-n-eq-US

@@ -1,9 +1,6 @@
 -- `count` meets its contract. The invariant: it has counted at most as many as it has passed.
 -- Assumes nothing.
 use Prim.Native.Nat.{◌+◌, ◌-◌, ◌≤◌}
-use mathlib.Core.Logic.{⊎_elim}
-use native.Mathlib.Omega.{arith}
-use borrow.Author.Rules.{rules}
 use Rattle.sweeping.proofs.row.count.Given as goal
 
 abbrev pub invariant-loop-i : goal.invariant-loop-i

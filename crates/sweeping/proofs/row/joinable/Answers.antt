@@ -1,7 +1,5 @@
 -- `joinable` meets its contract: without an open hex, and without a source in three rows, no open hex of the row has a source beside it.
 -- Assumes nothing.
-use borrow.Author.Tests.{not-true}
-use borrow.Author.Rules.{rules}
 use Rattle.walk.proofs.Joins.{found_one, row_closed, row_apart}
 use Rattle.sweeping.proofs.row.joinable.Goals as goal
 

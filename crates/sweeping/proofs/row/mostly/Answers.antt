@@ -1,7 +1,6 @@
 -- `mostly` meets its contract: a row of the map lies in the buffer, and its hexes can be counted in a byte.
 -- Assumes nothing.
 use native.Mathlib.Omega.{arith}
-use borrow.Author.Rules.{rules}
 use Rattle.grid.proofs.Arith.{small}
 use Rattle.sweeping.proofs.row.mostly.Goals as goal
 

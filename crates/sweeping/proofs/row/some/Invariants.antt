@@ -1,14 +1,10 @@
 -- `some` meets its contract. The invariant: as long as none is found, none of the hexes below hex i has the mark.
 -- Assumes nothing.
 use Prim.Native.Nat.{◌-◌}
-use mathlib.Core.Path.{◌≡◌, sym, ◌∙◌}
+use mathlib.Core.Path.{◌≡◌}
 use mathlib.Core.Bool.{false}
-use mathlib.Core.Logic.{⊎_elim}
-use native.Mathlib.Omega.{arith}
-use borrow.Author.Rules.{rules}
 use Rattle.walk.specs.Chain.{mark}
 use Rattle.walk.specs.Swept.{None}
-use Rattle.walk.proofs.Joins.{none_more, found_one}
 use Rattle.sweeping.proofs.row.some.Given as goal
 
 abbrev pub invariant-loop-i : goal.invariant-loop-i

@@ -1,6 +1,5 @@
 -- `arrive` meets its contract: it tells the two kinds of neighbour apart.
 -- Assumes nothing.
-use borrow.Author.Rules.{rules}
 use Rattle.walking.proofs.step.arrive.Goals as goal
 
 pub returns-in_default : goal.returns-in_default

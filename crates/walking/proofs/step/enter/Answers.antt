@@ -2,7 +2,6 @@
 -- Assumes nothing.
 use mathlib.Core.Path.{◌≡◌, refl}
 use native.Mathlib.Omega.{arith}
-use borrow.Author.Rules.{rules}
 use Rattle.grid.specs.declared.Beside.TheVariants.{At}
 use Rattle.grid.specs.Map.{neighbour_of}
 use Rattle.grid.specs.Spot.{SpotOf}

@@ -2,7 +2,6 @@
 -- Assumes nothing.
 use mathlib.Core.Path.{refl}
 use native.Mathlib.Omega.{arith}
-use borrow.Author.Rules.{rules}
 use Rattle.walk.proofs.Steps.{beyond}
 use Rattle.walk.proofs.Goings.{goes_home}
 use Rattle.walking.proofs.step.home.Goals as goal

@@ -1,7 +1,6 @@
 -- `step` meets its contract: with a hex to enter it goes down, without one it goes home or is over.
 -- Assumes nothing.
 use mathlib.Core.Path.{◌∙◌}
-use borrow.Author.Rules.{rules}
 use Rattle.position.proofs.Sides.{beside_view, area_view}
 use Rattle.position.specs.Board.{ground}
 use Rattle.walk.proofs.Steps.{two_way}

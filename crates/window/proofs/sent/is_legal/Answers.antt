@@ -1,14 +1,9 @@
 -- `sent::is_legal` meets its contract. The loop's invariant: what is left of the test is the test of what is left of the route.
 -- The measure is how many hexes are left.
 -- Assumes nothing.
-use Prim.Native.Nat.{◌-◌, ◌≤◌}
 use mathlib.Core.Path.{sym, refl}
 use native.Mathlib.Omega.{arith}
-use borrow.Author.Rules.{rules}
-use borrow.Author.Tests.{not-true, not-false}
-use Rattle.position.specs.Board.{board}
-use Rattle.routes.specs.Legal.{legal}
-use Rattle.routes.proofs.Legal.{wrong_length, right_length, Still, all_passed, stopped, passed}
+use Rattle.routes.proofs.Legal.{wrong_length, right_length, all_passed, stopped, passed}
 use Rattle.window.proofs.sent.is_legal.Goals as goal
 
 pub returns-then-route-n : goal.returns-then-route-n

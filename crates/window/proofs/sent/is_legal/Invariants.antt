@@ -2,13 +2,9 @@
 -- The measure is how many hexes are left.
 -- Assumes nothing.
 use Prim.Native.Nat.{◌-◌, ◌≤◌}
-use mathlib.Core.Path.{sym, refl}
-use native.Mathlib.Omega.{arith}
-use borrow.Author.Rules.{rules}
-use borrow.Author.Tests.{not-true, not-false}
 use Rattle.position.specs.Board.{board}
 use Rattle.routes.specs.Legal.{legal}
-use Rattle.routes.proofs.Legal.{wrong_length, right_length, Still, all_passed, stopped, passed}
+use Rattle.routes.proofs.Legal.{Still}
 use Rattle.window.proofs.sent.is_legal.Given as goal
 
 abbrev pub invariant-loop-i : goal.invariant-loop-i

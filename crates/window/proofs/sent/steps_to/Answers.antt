@@ -2,8 +2,6 @@
 -- Assumes nothing.
 use mathlib.Core.Path.{sym, ◌∙◌}
 use native.Mathlib.Omega.{arith}
-use borrow.Author.Rules.{rules}
-use borrow.Author.Tests.{not-true, not-false}
 use Rattle.routes.specs.Legal.{steps_to}
 use Rattle.routes.proofs.Steps.{joined_in}
 use Rattle.window.proofs.sent.steps_to.Goals as goal
