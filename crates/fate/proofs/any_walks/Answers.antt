@@ -1,15 +1,13 @@
 -- `fate::any_walks` meets its contract. The loop's invariant: no unit passed owes there, but for supply units.
 -- The measure is how many are left.
 -- Assumes nothing.
-use Prim.Native.Nat.{◌-◌}
 use mathlib.Core.Path.{◌∙◌, ap, sym}
 use native.Mathlib.Omega.{arith}
-use borrow.Author.Rules.{rules}
 use Rattle.position.proofs.Tallies.{any_true}
 use Rattle.position.specs.Board.{board}
 use Rattle.position.specs.Tally.{any}
 use Rattle.retreat.specs.Retreat.{walks_from}
-use Rattle.field.proofs.Zones.{None, none_at_all, none_yet, one_more}
+use Rattle.field.proofs.Zones.{none_at_all, none_yet, one_more}
 use Rattle.fate.proofs.any_walks.Goals as goal
 
 pub loop-u-init : goal.loop-u-init

@@ -2,14 +2,9 @@
 -- The measure is how many are left.
 -- Assumes nothing.
 use Prim.Native.Nat.{◌-◌}
-use mathlib.Core.Path.{◌∙◌, ap, sym}
-use native.Mathlib.Omega.{arith}
-use borrow.Author.Rules.{rules}
-use Rattle.position.proofs.Tallies.{any_true}
 use Rattle.position.specs.Board.{board}
-use Rattle.position.specs.Tally.{any}
 use Rattle.retreat.specs.Retreat.{walks_from}
-use Rattle.field.proofs.Zones.{None, none_at_all, none_yet, one_more}
+use Rattle.field.proofs.Zones.{None}
 use Rattle.fate.proofs.any_walks.Given as goal
 
 abbrev pub invariant-loop-u : goal.invariant-loop-u

@@ -1,27 +1,16 @@
 -- `fate::decide` meets its contract: whether others than supply units owe is asked first, then what the outlook is.
 -- Assumes nothing.
-use mathlib.Core.Bool.{Bool, true}
+use Rattle.std.proofs.Common.{Bool, ℕ, List}
 use mathlib.Core.Path.{◌≡◌, refl, sym, ap, subst, ◌∙◌}
-use borrow.Author.Rules.{rules}
-use borrow.Author.Tests.{not-false, not-true}
-use Rattle.position.specs.Board.{board}
-use Rattle.position.specs.Tally.{any}
+use Rattle.position.specs.Board.{Board, board}
 use Rattle.routes.specs.Outlook.{OutlookOf}
 use Rattle.routes.specs.declared.Outlook.{Outlook}
 use Rattle.shoves.specs.Group.{group_force}
 use Rattle.retreat.specs.Fate.{lost_fate}
-use Rattle.retreat.specs.Retreat.{walks_from}
 use Rattle.retreat.proofs.Alone.{alone_series}
 use Rattle.retreat.proofs.Fates.{fate_illegal, fate_legal, fate_served, fate_supply, fate_trapped}
 use Rattle.retreat.proofs.Groups.{outlook_as, told_alone, told_friends, told_illegal, told_legal}
 use Rattle.fate.proofs.decide.Goals as goal
-
--- others than supply units owe
-walks :
-    (c : goal.Else-not-any_walks)
-    → let s = c.args in
-    any (walks_from (board s.p.now) s.h) (board s.p.now).units.count ≡ true
-walks c = sym c.any_walks.ensures ∙ c.if-not-any_walks.false
 
 pub returns-then-not-any_walks : goal.returns-then-not-any_walks
 returns-then-not-any_walks c =
@@ -31,47 +20,44 @@ returns-then-not-any_walks c =
 
 -- what the outlook says
 seen :
-    (c : goal.After-judge) {r : Outlook} → c.judge.result ≡ r
-    → let s = c.args in
-    let b = board s.p.now in
-    OutlookOf b (group_force b s.h) s.h b.desk.battle.owed s.route.now r
-seen c {r} e =
-    outlook_as _ _ _ r refl c.owed.ensures.is (subst (OutlookOf _ _ _ _ _) e c.judge.ensures)
+    (b : Board) (h n : ℕ) (route : List ℕ) (x r : Outlook) → n ≡ b.desk.battle.owed → OutlookOf b (group_force b h) h n route x → x ≡ r
+    → OutlookOf b (group_force b h) h b.desk.battle.owed route r
+seen b h n route x r i o e = outlook_as b h route r refl i (subst (OutlookOf b (group_force b h) h n route) e o)
 
 pub by_pushes-requires : goal.by_pushes-requires
 by_pushes-requires c =
-    let e = told_friends (board c.args.p.now) c.args.h c.args.route.now (seen c.before.before.before c.in-Friends.is) in
+    let e = told_friends (board c.args.p.now) c.args.h c.args.route.now (seen _ _ _ _ _ _ c.owed.ensures.is c.judge.ensures c.in-Friends.is) in
     (c.requires.0, c.requires.1, c.requires.3, e.0, e.1)
 
 pub is_part-requires : goal.is_part-requires
 is_part-requires c =
-    let e = told_alone (board c.args.p.now) c.args.h c.args.route.now (seen c.before.before.before c.in-Alone.is) in
+    let e = told_alone (board c.args.p.now) c.args.h c.args.route.now (seen _ _ _ _ _ _ c.owed.ensures.is c.judge.ensures c.in-Alone.is) in
     (c.requires.0, c.requires.1, c.requires.3, e.0, e.1)
 
 pub returns-in-Legal : goal.returns-in-Legal
 returns-in-Legal c =
     let s = c.args in
-    let e = told_legal (board s.p.now) s.h s.route.now (seen c.before.before.before c.in-Legal.is) in
+    let e = told_legal (board s.p.now) s.h s.route.now (seen _ _ _ _ _ _ c.owed.ensures.is c.judge.ensures c.in-Legal.is) in
     c.by_route.ensures
-    ∙ fate_legal (board s.p.now) s.h s.route.now s.pushes.now (walks c.before.before.before.before.before) e.0 e.1
+    ∙ fate_legal (board s.p.now) s.h s.route.now s.pushes.now (sym c.any_walks.ensures ∙ c.if-not-any_walks.false) e.0 e.1
 
 pub returns-in-Illegal : goal.returns-in-Illegal
 returns-in-Illegal c =
     let s = c.args in
-    let e = told_illegal (board s.p.now) s.h s.route.now (seen c.before.before c.in-Illegal.is) in
-    fate_illegal (board s.p.now) s.h s.route.now s.pushes.now (walks c.before.before.before.before) e.0 e.1
+    let e = told_illegal (board s.p.now) s.h s.route.now (seen _ _ _ _ _ _ c.owed.ensures.is c.judge.ensures c.in-Illegal.is) in
+    fate_illegal (board s.p.now) s.h s.route.now s.pushes.now (sym c.any_walks.ensures ∙ c.if-not-any_walks.false) e.0 e.1
 
 pub returns-in-Friends : goal.returns-in-Friends
 returns-in-Friends c =
     let s = c.args in
-    let e = told_friends (board s.p.now) s.h s.route.now (seen c.before.before.before.before c.in-Friends.is) in
-    c.by_pushes.ensures ∙ fate_served (board s.p.now) s.h s.route.now s.pushes.now (walks c.before.before.before.before.before.before) e.0
+    let e = told_friends (board s.p.now) s.h s.route.now (seen _ _ _ _ _ _ c.owed.ensures.is c.judge.ensures c.in-Friends.is) in
+    c.by_pushes.ensures ∙ fate_served (board s.p.now) s.h s.route.now s.pushes.now (sym c.any_walks.ensures ∙ c.if-not-any_walks.false) e.0
 
 pub returns-in-Alone : goal.returns-in-Alone
 returns-in-Alone c =
     let b = board c.args.p.now in
     let h = c.args.h in
-    let e = told_alone b h c.args.route.now (seen c.before.before.before.before.before c.in-Alone.is) in
+    let e = told_alone b h c.args.route.now (seen _ _ _ _ _ _ c.owed.ensures.is c.judge.ensures c.in-Alone.is) in
     c.by_part-in-Alone.ensures
     ∙ ap (λ (t : Bool). lost_fate t c.args.pushes.now) c.is_part.ensures
-    ∙ fate_trapped b h c.args.route.now c.args.pushes.now (walks c.before.before.before.before.before.before.before) e.0 (alone_series b h c.requires.3 e.2 e.0)
+    ∙ fate_trapped b h c.args.route.now c.args.pushes.now (sym c.any_walks.ensures ∙ c.if-not-any_walks.false) e.0 (alone_series b h c.requires.3 e.2 e.0)

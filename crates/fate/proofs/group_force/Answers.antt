@@ -1,7 +1,6 @@
 -- `fate::group_force` meets its contract: the force of the first that owes.
 -- Assumes nothing.
 use mathlib.Core.Path.{ap, ◌∙◌}
-use borrow.Author.Rules.{rules}
 use Rattle.position.specs.Board.{board, force_of}
 use Rattle.shoves.specs.Group.{group_force}
 use Rattle.fate.proofs.group_force.Goals as goal

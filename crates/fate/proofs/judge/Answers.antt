@@ -1,7 +1,6 @@
 -- `fate::judge` meets its contract: it is asked for the group's force.
 -- Assumes nothing.
 use mathlib.Core.Path.{refl}
-use borrow.Author.Rules.{rules}
 use Rattle.position.specs.Board.{board}
 use Rattle.retreat.proofs.Groups.{outlook_as}
 use Rattle.fate.proofs.judge.Goals as goal

@@ -1,14 +1,9 @@
 -- `fate::leader` meets its contract. The loop's invariant: no unit passed owes there. The measure is how many are left.
 -- Assumes nothing.
 use Prim.Native.Nat.{◌-◌}
-use mathlib.Core.Path.{◌∙◌, ap, sym}
-use native.Mathlib.Omega.{arith}
-use borrow.Author.Rules.{rules}
-use Rattle.retreat.proofs.Groups.{first_owing_lem, none_owing}
 use Rattle.position.specs.Board.{board}
-use Rattle.position.specs.Tally.{any}
 use Rattle.position.specs.Crowd.{owes_at}
-use Rattle.field.proofs.Zones.{None, none_at_all, none_yet, one_more}
+use Rattle.field.proofs.Zones.{None}
 use Rattle.fate.proofs.leader.Given as goal
 
 abbrev pub invariant-loop-u : goal.invariant-loop-u

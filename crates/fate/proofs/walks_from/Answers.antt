@@ -3,8 +3,6 @@
 use Prim.Native.Nat.{ℕ}
 use mathlib.Core.Bool.{not}
 use mathlib.Core.Path.{ap, sym, ◌∙◌}
-use borrow.Author.Rules.{rules}
-use borrow.Author.Tests.{not-false, not-true}
 use lib.Dec.{eqb}
 use Rattle.retreat.proofs.Groups.{walks_kind, walks_not}
 use Rattle.fate.proofs.walks_from.Goals as goal

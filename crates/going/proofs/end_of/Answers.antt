@@ -1,6 +1,5 @@
 -- `going::end_of` meets its contract: the last hex is the one that is owed.
 -- Assumes nothing.
-use borrow.Author.Rules.{rules}
 use Rattle.position.specs.Board.{board}
 use Rattle.retreat.proofs.Leaving.{ends}
 use Rattle.going.proofs.end_of.Goals as goal

@@ -1,14 +1,12 @@
 -- `going::fall_all` meets its contract. The loop's invariant: the units passed that owed there are destroyed, the others are as they were.
 -- The measure is how many are left.
 -- Assumes nothing.
-use Prim.Native.Nat.{◌-◌}
 use mathlib.Core.Path.{◌∙◌, ap, refl}
 use native.Mathlib.Omega.{arith}
-use borrow.Author.Rules.{rules}
 use Rattle.position.specs.Change.{makes}
-use Rattle.shoves.proofs.Sweeps.{Sweep, alike_owing, owing, sweep_all, sweep_more, sweep_none}
+use Rattle.shoves.proofs.Sweeps.{alike_owing, sweep_all, sweep_more, sweep_none}
 use Rattle.shoves.specs.Group.{group}
-use Rattle.retreat.proofs.Leaving.{falls, gather_falls, own_falls}
+use Rattle.retreat.proofs.Leaving.{gather_falls, own_falls}
 use Rattle.going.proofs.fall_all.Goals as goal
 
 pub loop-u-init : goal.loop-u-init

@@ -2,13 +2,8 @@
 -- The measure is how many are left.
 -- Assumes nothing.
 use Prim.Native.Nat.{◌-◌}
-use mathlib.Core.Path.{◌∙◌, ap, refl}
-use native.Mathlib.Omega.{arith}
-use borrow.Author.Rules.{rules}
-use Rattle.position.specs.Change.{makes}
-use Rattle.shoves.proofs.Sweeps.{Sweep, alike_owing, owing, sweep_all, sweep_more, sweep_none}
-use Rattle.shoves.specs.Group.{group}
-use Rattle.retreat.proofs.Leaving.{falls, gather_falls, own_falls}
+use Rattle.shoves.proofs.Sweeps.{Sweep, owing}
+use Rattle.retreat.proofs.Leaving.{falls}
 use Rattle.going.proofs.fall_all.Given as goal
 
 abbrev pub invariant-loop-u : goal.invariant-loop-u

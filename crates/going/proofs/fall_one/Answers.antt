@@ -1,8 +1,6 @@
 -- `going::fall_one` meets its contract: a unit that does not owe there stays as it is, one that does is destroyed.
 -- Assumes nothing.
 use mathlib.Core.Path.{sym, ◌∙◌}
-use borrow.Author.Rules.{rules}
-use borrow.Author.Tests.{not-false, not-true}
 use Rattle.shoves.proofs.Turns.{dealt_with, left_alone}
 use Rattle.retreat.proofs.Leaving.{falls_made}
 use Rattle.going.proofs.fall_one.Goals as goal

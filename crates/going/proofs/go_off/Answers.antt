@@ -1,6 +1,5 @@
 -- `going::go_off` meets its contract: start and route are written, the group leaves, and the stage passes on.
 -- Assumes nothing.
-use borrow.Author.Rules.{rules}
 use Rattle.position.proofs.Changes.{laid_make, laid_makes}
 use Rattle.position.specs.Board.{board}
 use Rattle.aftermath.proofs.Stages.{then_on_lem}

@@ -2,7 +2,6 @@
 -- Assumes nothing.
 use mathlib.Core.Path.{sym, ◌∙◌}
 use native.Mathlib.Omega.{arith}
-use borrow.Author.Rules.{rules}
 use Rattle.position.proofs.Changes.{laid_make}
 use Rattle.retreat.proofs.Leaving.{leave_supply, leave_walks}
 use Rattle.going.proofs.leave.Goals as goal

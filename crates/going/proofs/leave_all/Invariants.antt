@@ -2,15 +2,9 @@
 -- The measure is how many are left.
 -- Assumes nothing.
 use Prim.Native.Nat.{◌-◌}
-use mathlib.Core.Path.{◌∙◌, ap}
-use native.Mathlib.Omega.{arith}
-use borrow.Author.Rules.{rules}
 use Rattle.position.specs.Board.{board}
-use Rattle.position.specs.Change.{makes}
 use Rattle.retreat.specs.Retreat.{leaves}
-use Rattle.shoves.proofs.Sweeps.{Sweep, alike_owing, owing, sweep_all, sweep_more, sweep_none}
-use Rattle.shoves.specs.Group.{group}
-use Rattle.retreat.proofs.Leaving.{gather_leaves, leaves_same, own_leaves}
+use Rattle.shoves.proofs.Sweeps.{Sweep, owing}
 use Rattle.going.proofs.leave_all.Given as goal
 
 abbrev pub invariant-loop-u : goal.invariant-loop-u

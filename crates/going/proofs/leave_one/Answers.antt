@@ -1,8 +1,6 @@
 -- `going::leave_one` meets its contract: a unit that does not owe there stays as it is, one that does leaves.
 -- Assumes nothing.
 use mathlib.Core.Path.{sym, ◌∙◌}
-use borrow.Author.Rules.{rules}
-use borrow.Author.Tests.{not-false, not-true}
 use Rattle.shoves.proofs.Turns.{dealt_with, left_alone}
 use Rattle.going.proofs.leave_one.Goals as goal
 

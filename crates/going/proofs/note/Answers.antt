@@ -1,6 +1,5 @@
 -- `going::note` meets its contract: the numbers that are written are those of the route.
 -- Assumes nothing.
-use borrow.Author.Rules.{rules}
 use Rattle.retreat.proofs.Leaving.{noted}
 use Rattle.going.proofs.note.Goals as goal
 

@@ -2,8 +2,6 @@
 -- Assumes nothing.
 use mathlib.Core.Path.{subst, sym, ◌∙◌}
 use native.Mathlib.Omega.{arith}
-use borrow.Author.Rules.{rules}
-use borrow.Author.Tests.{not-false, not-true}
 use Rattle.position.specs.Board.{board}
 use Rattle.ruling.specs.Judged.{TestedOf}
 use Rattle.retreat.proofs.Groups.{
@@ -60,7 +58,7 @@ returns-then-stage-ne-RETREATS c =
     (omega (arith, c.if-hexes-h.false, c.requires.view.hexes))
     (subst (TestedOf _ _ _) c.in_default.is c.on_map_all.ensures).0
     (subst (TestedOf _ _ _) c.in_default-on_map_from.is c.on_map_from.ensures).0
-    (λ c.before.before.before.before.before.before.before.before. c.if-stage-ne-RETREATS.true (c.stage.ensures.is ∙ c.before.before.before.before.before.before.before.before))
+    (λ e. c.if-stage-ne-RETREATS.true (c.stage.ensures.is ∙ e))
 
 pub returns-then-not-any_owes : goal.returns-then-not-any_owes
 returns-then-not-any_owes c =

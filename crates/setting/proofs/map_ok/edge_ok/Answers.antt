@@ -1,7 +1,7 @@
 -- `map_ok::edge_ok` meets its contract: by the view the neighbour is the map's.
 -- Assumes nothing.
 use Prim.Native.Nat.{ℕ}
-use mathlib.Core.Path.{sym, ◌∙◌}
+use mathlib.Core.Path.{◌≡◌, sym, ◌∙◌}
 use native.Mathlib.Omega.{arith}
 use Rattle.position.proofs.Sides.{beside_view}
 use Rattle.setting.proofs.map_ok.edge_ok.Goals as goal
