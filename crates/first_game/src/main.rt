@@ -1,6 +1,6 @@
 // Plays the samples of examples/, one after the other.
 #![tactic(auto)]
 
-fn main() {
-    record::play();
+fn main(rt: HostRuntime) {
+    record::play(&rt);
 }

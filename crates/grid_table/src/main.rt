@@ -4,14 +4,16 @@
 ghost use Rattle.grid.specs.Map.{On};
 
 use grid::Beside;
-use libc::STDOUT_FILENO;
+
+// The descriptor of the standard output.
+const STDOUT: i32 = 1;
 
 fn text(bytes: &[u8]) {
-    io::write_all(STDOUT_FILENO, bytes);
+    io::write_all(STDOUT, bytes);
 }
 
 fn number(n: usize) {
-    io::print_decimal(STDOUT_FILENO, n as u64);
+    io::print_decimal(STDOUT, n as u64);
 }
 
 fn map(w: usize, h: usize) {

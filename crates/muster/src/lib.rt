@@ -4,9 +4,11 @@
 ghost use Rattle.std.specs.Prelude.{◌≡◌, ◌<◌, length};
 ghost use Rattle.position.specs.Laid.{Laid};
 
-use libc::STDIN_FILENO;
 use page::Output;
 use position::{Checked, View, read};
+
+// The descriptor of the standard input.
+const STDIN: i32 = 0;
 
 // Room for the supply of a map's hexes, and of all five nationalities.
 const MAP: usize = 4096;
@@ -74,7 +76,7 @@ fn written(out: &Output, full: usize) {
 pub fn run() {
     let mut input = [0u8; 32768];
     let mut out = [0u8; 65536];
-    let got = io::read_full(STDIN_FILENO, &mut input);
+    let got = io::read_full(STDIN, &mut input);
     let full = roster(&mut out, 0, &input[..got]);
     written(&out, full);
 }

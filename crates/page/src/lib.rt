@@ -3,7 +3,8 @@
 
 ghost use Rattle.io.specs.Counts.{IsPrefixLen};
 
-use libc::STDOUT_FILENO;
+// The descriptor of the standard output.
+const STDOUT: i32 = 1;
 
 // For the output, until it is written.
 pub type Output = [u8; 65536];
@@ -21,7 +22,7 @@ pub fn within(n: usize, s: &[u8]) -> usize
 // Writes out what the buffer holds.
 pub fn flush(out: &[u8], full: usize) {
     let n = within(full, out);
-    io::write_all(STDOUT_FILENO, &out[..n]);
+    io::write_all(STDOUT, &out[..n]);
 }
 
 pub fn put(out: &mut Output, full: usize, b: u8) -> usize {

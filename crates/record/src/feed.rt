@@ -1,10 +1,10 @@
 // The record, piece by piece and byte by byte.
 use crate::game::Game;
 use crate::{echo, game, orders};
-use libc::STDIN_FILENO;
 use page::Output;
 use reading::rooms::{Numbers, Room};
 use reading::{Line, Stage, words};
+use std::io::Read;
 
 // The game, the line that is being read, and whether the record has ended.
 #[derive(Clone, Copy)]
@@ -82,8 +82,9 @@ fn last(
     byte(s, b'\n', pos, next, lent, nums, out)
 }
 
-// Reads a piece and answers it.
-fn turn(
+// Reads a piece and answers it. A read that fails ends the record.
+fn turn<R: Read>(
+    input: &mut R,
     s: State,
     pos: &mut Room,
     next: &mut Room,
@@ -92,8 +93,7 @@ fn turn(
     out: &mut Output,
 ) -> State {
     let mut chunk = [0u8; 65536];
-    let got = libc::read(STDIN_FILENO, &mut chunk);
-    let n = io::count(got, &chunk);
+    let n = input.read(&mut chunk).unwrap_or(0);
     if n == 0 {
         let after = last(s, pos, next, lent, nums, out);
         return written(after, true, out);
@@ -103,7 +103,7 @@ fn turn(
 }
 
 // Reads to the end. The turns are more than any run uses up.
-pub fn feed() {
+pub fn feed<R: Read>(input: &mut R) {
     let mut pos = [0u8; 65535];
     let mut next = [0u8; 65535];
     let mut lent = [0u8; 65535];
@@ -117,7 +117,9 @@ pub fn feed() {
     let mut turns = u64::MAX;
     while 0 < turns {
         turns -= 1;
-        s = turn(s, &mut pos, &mut next, &mut lent, &mut nums, &mut out);
+        s = turn(
+            input, s, &mut pos, &mut next, &mut lent, &mut nums, &mut out,
+        );
         if s.ended {
             return;
         }

@@ -10,6 +10,6 @@ mod lines;
 mod orders;
 
 // Plays the record on standard input.
-pub fn play() {
-    feed::feed();
+pub fn play(rt: &impl Input) {
+    feed::feed(&mut rt.reader());
 }

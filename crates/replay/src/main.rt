@@ -1,6 +1,6 @@
 // Answers a game record on standard input, a line for each call. Its stored run is a record of generated cases.
 #![tactic(auto)]
 
-fn main() {
-    record::play();
+fn main(rt: HostRuntime) {
+    record::play(&rt);
 }

@@ -1,8 +1,6 @@
 -- `grid_table::six` is safe and ends: the direction counts up to 6.
 -- Assumes nothing.
 use Prim.Native.Nat.{◌-◌, ◌≤◌}
-use native.Mathlib.Omega.{arith}
-use borrow.Author.Rules.{rules}
 use Rattle.grid_table.proofs.six.Given as goal
 
 abbrev pub invariant-loop-dir : goal.invariant-loop-dir

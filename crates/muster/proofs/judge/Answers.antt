@@ -1,10 +1,7 @@
 -- `muster::judge` is safe: every part that it lends lies within the maps, whose length stays.
 -- Assumes nothing.
-use Prim.Native.Nat.{◌-◌, ◌≤◌}
-use mathlib.Core.Path.{◌≡◌}
 use native.Mathlib.Omega.{arith}
-use lib.ListN.{length, length-take, length-drop}
-use borrow.Author.Rules.{rules}
+use lib.ListN.{length-take, length-drop}
 use Rattle.muster.proofs.judge.Goals as goal
 
 pub loop-n-init : goal.loop-n-init

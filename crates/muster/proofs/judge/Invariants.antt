@@ -2,9 +2,7 @@
 -- Assumes nothing.
 use Prim.Native.Nat.{◌-◌, ◌≤◌}
 use mathlib.Core.Path.{◌≡◌}
-use native.Mathlib.Omega.{arith}
-use lib.ListN.{length, length-take, length-drop}
-use borrow.Author.Rules.{rules}
+use lib.ListN.{length}
 use Rattle.muster.proofs.judge.Given as goal
 
 abbrev pub invariant-loop-n : goal.invariant-loop-n

@@ -1,8 +1,6 @@
 -- `muster::lines` is safe.
 -- Assumes nothing.
-use Prim.Native.Nat.{◌-◌, ◌≤◌}
 use native.Mathlib.Omega.{arith}
-use borrow.Author.Rules.{rules}
 use Rattle.muster.proofs.lines.Goals as goal
 
 pub loop-u-init : goal.loop-u-init

@@ -1,8 +1,6 @@
 -- `muster::lines` is safe.
 -- Assumes nothing.
 use Prim.Native.Nat.{◌-◌, ◌≤◌}
-use native.Mathlib.Omega.{arith}
-use borrow.Author.Rules.{rules}
 use Rattle.muster.proofs.lines.Given as goal
 
 abbrev pub invariant-loop-u : goal.invariant-loop-u

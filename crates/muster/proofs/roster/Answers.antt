@@ -1,7 +1,6 @@
 -- `muster::roster` is safe: past the check the position is laid out, and the maps keep their length.
 -- Assumes nothing.
 use mathlib.Core.Path.{subst}
-use Rattle.position.specs.Laid.{Laid}
 use Rattle.acceptance.specs.Checked.{CheckedOf}
 use borrow.Author.Rules.{rules}
 use Rattle.muster.proofs.roster.Goals as goal

@@ -1,7 +1,6 @@
 -- `page::begins` is safe and ends: the index counts up to the length, and a bar is counted off only while some are left.
 -- Assumes nothing.
 use Prim.Native.Nat.{◌-◌, ◌≤◌}
-use borrow.Author.Rules.{rules}
 use Rattle.page.proofs.begins.Given as goal
 
 abbrev pub invariant-loop-i : goal.invariant-loop-i

@@ -1,7 +1,5 @@
 -- `page::blanks` is safe and ends: the counter counts up to `to`, if it is not past it.
 -- Assumes nothing.
-use Prim.Native.Nat.{◌-◌}
-use borrow.Author.Rules.{rules}
 use Rattle.page.proofs.blanks.Goals as goal
 
 pub loop-init : goal.loop-init

@@ -2,7 +2,6 @@
 -- Assumes nothing.
 use Prim.Native.Nat.{◌≤◌}
 use lib.ListN.{length}
-use borrow.Author.Rules.{rules}
 use Rattle.page.proofs.trimmed.Given as goal
 
 abbrev pub invariant-loop-f : goal.invariant-loop-f

@@ -1,7 +1,6 @@
 -- `page::up_to_bar` is safe and ends: the index counts up to the length.
 -- Assumes nothing.
 use Prim.Native.Nat.{◌-◌}
-use borrow.Author.Rules.{rules}
 use Rattle.page.proofs.up_to_bar.Given as goal
 
 abbrev pub invariant-loop-i : goal.invariant-loop-i

@@ -2,7 +2,6 @@
 -- Assumes nothing.
 use mathlib.Core.Path.{subst}
 use Rattle.acceptance.specs.Checked.{CheckedOf}
-use borrow.Author.Rules.{rules}
 use Rattle.story.proofs.battle.Goals as goal
 
 pub battle-requires : goal.battle-requires

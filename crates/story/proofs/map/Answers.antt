@@ -2,7 +2,6 @@
 -- Assumes nothing.
 use mathlib.Core.Path.{subst}
 use Rattle.acceptance.specs.Checked.{CheckedOf}
-use borrow.Author.Rules.{rules}
 use Rattle.story.proofs.map.Goals as goal
 
 pub drawn-requires : goal.drawn-requires

@@ -1,6 +1,6 @@
 -- `record::calls::fill` is safe and ends: the index counts up to the length, which stays.
 -- Assumes nothing.
-use Rattle.std.proofs.Common.{◌≡◌, ◌-◌, ◌≤◌, length, rules}
+use Rattle.std.proofs.Common.{◌≡◌, ◌-◌, ◌≤◌, length}
 use Rattle.record.proofs.calls.fill.Given as goal
 
 abbrev pub invariant-loop-i : goal.invariant-loop-i

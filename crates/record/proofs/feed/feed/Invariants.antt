@@ -1,10 +1,9 @@
 -- `record::feed::feed` is safe and ends: the turns count down, and nothing else has to hold from turn to turn.
 -- Assumes nothing.
-use Rattle.std.proofs.Common.{rules}
 use Rattle.record.proofs.feed.feed.Given as goal
 
 abbrev pub invariant-loop-turns : goal.invariant-loop-turns
-invariant-loop-turns l = Unit {0}
+invariant-loop-turns g l = Unit {0}
 
 abbrev pub decreases-loop-turns : goal.decreases-loop-turns
-decreases-loop-turns l = l.turns
+decreases-loop-turns g l = l.turns

@@ -1,6 +1,6 @@
 -- `record::feed::piece` is safe and ends: the index counts up to the length.
 -- Assumes nothing.
-use Rattle.std.proofs.Common.{◌-◌, ◌≤◌, rules}
+use Rattle.std.proofs.Common.{◌-◌, ◌≤◌}
 use Rattle.record.proofs.feed.piece.Given as goal
 
 abbrev pub invariant-loop-i : goal.invariant-loop-i

@@ -1,6 +1,6 @@
 -- `record::lines::copy` is safe and ends: the index counts up to `n`.
 -- Assumes nothing.
-use Rattle.std.proofs.Common.{◌-◌, ◌≤◌, rules}
+use Rattle.std.proofs.Common.{◌-◌, ◌≤◌}
 use Rattle.record.proofs.lines.copy.Given as goal
 
 abbrev pub invariant-loop-i : goal.invariant-loop-i

@@ -1,9 +1,6 @@
 -- `story::rows::line` is safe and ends: the column counts up to the width, which is at most 64.
 -- Assumes nothing.
 use Prim.Native.Nat.{◌-◌, ◌≤◌}
-use native.Mathlib.Omega.{arith}
-use Rattle.story.proofs.Widths.{at_most_64}
-use borrow.Author.Rules.{rules}
 use Rattle.story.proofs.rows.line.Given as goal
 
 abbrev pub invariant-loop-c : goal.invariant-loop-c

@@ -1,9 +1,7 @@
 -- `story::rows::rows` is safe and ends: each row begins a width later, and the width is 1 to 64.
 -- Assumes nothing.
-use Prim.Native.Nat.{◌-◌}
 use native.Mathlib.Omega.{arith}
 use Rattle.story.proofs.Widths.{at_least_1, at_most_64}
-use borrow.Author.Rules.{rules}
 use Rattle.story.proofs.rows.rows.Goals as goal
 
 pub loop-start-init : goal.loop-start-init

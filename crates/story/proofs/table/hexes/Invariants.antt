@@ -1,7 +1,6 @@
 -- `story::table::hexes` is safe and ends: the index counts up to the length.
 -- Assumes nothing.
 use Prim.Native.Nat.{◌-◌, ◌≤◌}
-use borrow.Author.Rules.{rules}
 use Rattle.story.proofs.table.hexes.Given as goal
 
 abbrev pub invariant-loop-i : goal.invariant-loop-i

@@ -1,7 +1,6 @@
 -- `story::table::routes` is safe and ends: six routes.
 -- Assumes nothing.
 use Prim.Native.Nat.{◌-◌, ◌≤◌}
-use borrow.Author.Rules.{rules}
 use Rattle.story.proofs.table.routes.Given as goal
 
 abbrev pub invariant-loop-r : goal.invariant-loop-r

@@ -1,7 +1,6 @@
 -- `story::tiles::letters` is safe and ends: the unit counts up to the count.
 -- Assumes nothing.
 use Prim.Native.Nat.{◌-◌, ◌≤◌}
-use borrow.Author.Rules.{rules}
 use Rattle.story.proofs.tiles.letters.Given as goal
 
 abbrev pub invariant-loop-u : goal.invariant-loop-u
