@@ -1,7 +1,6 @@
 # What play, host/compare and host/alike have in common: how the program replay is run. `root` is the project's folder.
-# Programs are compiled for x86-64 and run as rt runs them, by the toolchain's loader with its C library. Another processor
-# runs them in an emulator: the toolchain's own, or else Debian's qemu-user.
-program="$root/target/bin/replay"
+# Programs are compiled for x86-64. Another processor runs them in an emulator, Debian's qemu-user.
+program="$root/crates/replay/out/replay"
 
 not_run() {
     echo "$(basename "$0"): $1" >&2
@@ -10,16 +9,13 @@ not_run() {
 
 # Sets `replay`, the command that plays the record on its standard input.
 find_replay() {
-    local guide machine kit name emulator=''
+    local name emulator=''
     command -v rt > /dev/null || not_run "rt is missing; it is the command of the Rattle toolchain"
-    guide="$(rt doc)" || not_run "rt does not say where its toolchain is"
-    machine="$(uname -m)"
-    kit="$(dirname "$(dirname "$guide")")/on/$machine/toolchain"
-    replay=("$kit/lib/ld-linux-x86-64.so.2" --library-path "$kit/lib" "$program")
-    if [ "$machine" = x86_64 ]; then
+    replay=("$program")
+    if [ "$(uname -m)" = x86_64 ]; then
         return
     fi
-    for name in "$kit/bin/qemu-x86_64" qemu-x86_64 qemu-x86_64-static; do
+    for name in qemu-x86_64 qemu-x86_64-static; do
         if command -v "$name" > /dev/null; then
             emulator="$name"
             break
@@ -36,6 +32,6 @@ find_built_replay() {
         command -v "${replay[0]}" > /dev/null || not_run "${replay[0]} is not there"
         return
     fi
-    [ -x "$program" ] || not_run "target/bin/replay is not there; rt check replay builds it"
+    [ -x "$program" ] || not_run "crates/replay/out/replay is not there; rt run in crates/replay builds it"
     find_replay
 }

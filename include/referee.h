@@ -1,4 +1,4 @@
-/* The referee of Invasion: America as a C library: link libreferee.a, made by `rt staticlib referee`.
+/* The referee of Invasion: America as a C library: link libreferee.a, made by `rt lib` in crates/referee.
  *
  * A position is the bytes that the rules lay out. Its desk has 56 bytes, or 60 if it names the player of each force in the last four:
  * bytes 56 to 59 are the players of force 0, 1, 2 and 3, each 0 to 3, and force 3's is no other's. On a desk of 56 bytes each force has

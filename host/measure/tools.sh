@@ -1,7 +1,7 @@
 # What host/bench and host/stack have in common; `here` is their folder. The library is for x86-64: on another processor
 # the programs that call it are compiled by the cross compiler, whose name `tools` begins.
 root="$here/.."
-library="$root/target/staticlib/libreferee.a"
+library="$root/crates/referee/out/libreferee.a"
 tools=x86_64-linux-gnu-
 if [ "$(uname -m)" = x86_64 ]; then
     tools=
@@ -21,7 +21,7 @@ need_compiler() {
 
 # Builds the library, and the named programs in Rust.
 build() {
-    (cd "$root" && rt staticlib referee) > "$work/said" 2>&1 || { cat "$work/said" >&2; exit 2; }
+    (cd "$root/crates/referee" && rt lib) > "$work/said" 2>&1 || { cat "$work/said" >&2; exit 2; }
     cargo build --quiet --release --offline --manifest-path "$here/measure/Cargo.toml" --target-dir "$here/target" "$@"
 }
 

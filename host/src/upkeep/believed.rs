@@ -21,11 +21,10 @@ const CONTRACTS: [&str; 2] = ["crates/rules/src/lib.rt", "crates/referee/src/lib
 /// The first line of a file that nobody has to believe begins so.
 pub const BESIDE: &str = "-- Beside what is certain: ";
 
-/// The file that one piece of a line names, as `Rattle·grid.specs.Map` and `Rattle·grid·specs.specs.Map` do.
+/// The file that one piece of a line names, as `Rattle.grid.specs.Map` does.
 fn named(piece: &str) -> Option<Spec> {
-    let end = piece.find(|c: char| c == '.' || c == '·')?;
-    let (name, rest) = piece.split_at(end);
-    let path = rest.strip_prefix(".specs.").or_else(|| rest.strip_prefix("·specs.specs."))?;
+    let (name, rest) = piece.split_once('.')?;
+    let path = rest.strip_prefix("specs.")?;
     let file: String = path.chars().take_while(|c| c.is_alphanumeric()).collect();
     Some((name.to_string(), file))
 }
@@ -33,7 +32,7 @@ fn named(piece: &str) -> Option<Spec> {
 /// The files that a text brings names in from.
 fn brought_in(text: &str) -> Vec<Spec> {
     let uses = text.lines().filter(|line| line.starts_with("use ") || line.starts_with("ghost use "));
-    uses.filter_map(|line| line.split("Rattle·").nth(1)).filter_map(named).collect()
+    uses.filter_map(|line| line.split("Rattle.").nth(1)).filter_map(named).collect()
 }
 
 impl Specs {
@@ -118,21 +117,21 @@ mod tests {
     #[test]
     fn files_are_named_from_within_and_from_outside() {
         assert_eq!(named("grid.specs.Map.{On}"), Some(spec("grid", "Map")));
-        assert_eq!(named("grid·specs.specs.Walk as Walk"), Some(spec("grid", "Walk")));
+        assert_eq!(named("grid.specs.Walk as Walk"), Some(spec("grid", "Walk")));
         assert_eq!(named("grid.proofs.Laws.{other}"), None);
     }
 
     #[test]
     fn only_lines_that_bring_names_in_count() {
         let text =
-            "-- Rattle·a.specs.A\nuse Rattle·b.specs.B.{x}\nghost use Rattle·c.specs.C.{y};\nuse mathlib.Core.Path\n";
+            "-- Rattle.a.specs.A\nuse Rattle.b.specs.B.{x}\nghost use Rattle.c.specs.C.{y};\nuse mathlib.Core.Path\n";
         assert_eq!(brought_in(text), vec![spec("b", "B"), spec("c", "C")]);
     }
 
     #[test]
     fn a_file_stands_behind_what_it_speaks_of() {
-        let certain = "use Rattle·rules·specs.specs.Order.{step}\nuse Rattle·grid.specs.Map.{On}\n";
-        let order = "use Rattle·grid.specs.Map.{On}\n";
+        let certain = "use Rattle.rules.specs.Order.{step}\nuse Rattle.grid.specs.Map.{On}\n";
+        let order = "use Rattle.grid.specs.Map.{On}\n";
         let specs = Specs {
             texts: [
                 (("rules", "Certain"), certain),
