@@ -20,8 +20,8 @@ loop-u-preserved c =
     let u = c.loop-u.u in
     let f = hex a.p.now in
     elim c.if-hex-h.branch [
-      then-hex-h w ↦ omega (arith, tally_hit (equals f a.h) u (equals_yes f a.h u (omega arith)))
-    | else-hex-h w ↦ omega (arith, tally_miss (equals f a.h) u (equals_no f a.h u (λ e. w.if-hex-h.false (omega arith))))
+      | then-hex-h w ↦ omega (arith, tally_hit (equals f a.h) u (equals_yes f a.h u (omega arith)))
+      | else-hex-h w ↦ omega (arith, tally_miss (equals f a.h) u (equals_no f a.h u (λ e. w.if-hex-h.false (omega arith))))
     ]
 
 pub returns : goal.returns

@@ -20,8 +20,8 @@ loop-u-preserved c =
     let u = c.loop-u.u in
     let f = role a.p.now in
     elim c.if-role-r.branch [
-      then-role-r w ↦ omega (arith, tally_hit (equals f a.r) u (equals_yes f a.r u (omega arith)))
-    | else-role-r w ↦ omega (arith, tally_miss (equals f a.r) u (equals_no f a.r u (λ e. w.if-role-r.false (omega arith))))
+      | then-role-r w ↦ omega (arith, tally_hit (equals f a.r) u (equals_yes f a.r u (omega arith)))
+      | else-role-r w ↦ omega (arith, tally_miss (equals f a.r) u (equals_no f a.r u (λ e. w.if-role-r.false (omega arith))))
     ]
 
 pub returns : goal.returns

@@ -21,9 +21,9 @@ loop-u-preserved c =
     let f = hex a.p.now in
     let t = equals f a.h in
     elim c.if-hex-h.branch [
-      then-hex-h+then-u-w w ↦ omega (arith, tally_hit (but t a.w) u (but_other t a.w u w.if-u-w.true ∙ equals_yes f a.h u (omega arith)))
-    | then-hex-h+else-u-w w ↦ omega (arith, tally_miss (but t a.w) u (but_self t a.w u w.if-u-w.false))
-    | else-hex-h w ↦ omega (arith, tally_miss (but t a.w) u (but_fails t a.w u (equals_no f a.h u (λ e. w.if-hex-h.false (omega arith)))))
+      | then-hex-h+then-u-w w ↦ omega (arith, tally_hit (but t a.w) u (but_other t a.w u w.if-u-w.true ∙ equals_yes f a.h u (omega arith)))
+      | then-hex-h+else-u-w w ↦ omega (arith, tally_miss (but t a.w) u (but_self t a.w u w.if-u-w.false))
+      | else-hex-h w ↦ omega (arith, tally_miss (but t a.w) u (but_fails t a.w u (equals_no f a.h u (λ e. w.if-hex-h.false (omega arith)))))
     ]
 
 pub returns : goal.returns

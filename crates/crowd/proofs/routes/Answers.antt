@@ -19,8 +19,8 @@ loop-r-preserved c =
     let r = c.loop-r.r in
     let e = sym c.filled.ensures in
     elim c.if-filled.branch [
-      then-filled w ↦ omega (arith, tally_hit (filled (board a.p.now)) r (e ∙ w.if-filled.true))
-    | else-filled w ↦ omega (arith, tally_miss (filled (board a.p.now)) r (e ∙ w.if-filled.false))
+      | then-filled w ↦ omega (arith, tally_hit (filled (board a.p.now)) r (e ∙ w.if-filled.true))
+      | else-filled w ↦ omega (arith, tally_miss (filled (board a.p.now)) r (e ∙ w.if-filled.false))
     ]
 
 pub returns : goal.returns

@@ -17,8 +17,8 @@ loop-c-preserved c =
     let o = c.loop-c.invariant in
     let e = c.reached.ensures in
     elim c.if-reached.branch [
-      then-reached w ↦ highest_hit o (omega arith) (sym e ∙ w.if-reached.true) w.last-is
-    | else-reached w ↦ highest_miss o (omega arith) (sym e ∙ w.if-reached.false) w.last-is
+      | then-reached w ↦ highest_hit o (omega arith) (sym e ∙ w.if-reached.true) w.last-is
+      | else-reached w ↦ highest_miss o (omega arith) (sym e ∙ w.if-reached.false) w.last-is
     ]
 
 pub returns : goal.returns

@@ -42,8 +42,8 @@ loop-i-preserved c =
     let b = board c.args.p.now in
     let e : c.nationality.result ≡ b.units.counter.nationality (get_or c.args.who.now c.loop-i.i 0) = c.nationality.ensures.is ∙ ap b.units.counter.nationality c.word-u.ensures.is in
     elim c.if-nationality-nation.branch [
-      then-nationality-nation w ↦ arming_hit c.requires.1 c.loop-i.invariant (omega arith) (sym e ∙ w.if-nationality-nation.true) (w.armed.ensures.is ∙ ap₂ (strength_of b) c.word-u.ensures.is w.wide.ensures.is) w.fighting-is
-    | else-nationality-nation w ↦ arming_miss c.requires.1 c.loop-i.invariant (omega arith) (λ z. w.if-nationality-nation.false (e ∙ z)) w.fighting-is
+      | then-nationality-nation w ↦ arming_hit c.requires.1 c.loop-i.invariant (omega arith) (sym e ∙ w.if-nationality-nation.true) (w.armed.ensures.is ∙ ap₂ (strength_of b) c.word-u.ensures.is w.wide.ensures.is) w.fighting-is
+      | else-nationality-nation w ↦ arming_miss c.requires.1 c.loop-i.invariant (omega arith) (λ z. w.if-nationality-nation.false (e ∙ z)) w.fighting-is
     ]
 
 pub returns : goal.returns

@@ -38,8 +38,8 @@ overflow_add-n c = omega (arith, joining_room c.loop-u.invariant (omega arith) (
 pub loop-u-preserved : goal.loop-u-preserved
 loop-u-preserved c =
     elim c.if-hex-target.branch [
-      then-hex-target w ↦ joining_hit c.loop-u.invariant (omega arith) (room _ _ _ _ c.requires.0.view.count c.requires.1) (stands_here _ _ _ (sym c.hex.ensures.is ∙ w.if-hex-target.true)) w.who-is w.n-is
-    | else-hex-target w ↦ joining_miss c.loop-u.invariant (omega arith) (stands_off _ _ _ (λ e. w.if-hex-target.false (c.hex.ensures.is ∙ e))) w.who-is w.n-is
+      | then-hex-target w ↦ joining_hit c.loop-u.invariant (omega arith) (room _ _ _ _ c.requires.0.view.count c.requires.1) (stands_here _ _ _ (sym c.hex.ensures.is ∙ w.if-hex-target.true)) w.who-is w.n-is
+      | else-hex-target w ↦ joining_miss c.loop-u.invariant (omega arith) (stands_off _ _ _ (λ e. w.if-hex-target.false (c.hex.ensures.is ∙ e))) w.who-is w.n-is
     ]
 
 pub returns : goal.returns

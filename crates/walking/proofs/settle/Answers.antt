@@ -15,8 +15,8 @@ unfolding mark
 loop-i-preserved c =
     let a = c.loop-i in
     elim c.if-m-ge2.branch [
-      then-m-ge2 w ↦ settle_turn 1 w.buf-is c.loop-i-test.true a.invariant (inl (w.if-m-ge2.true, refl))
-    | else-m-ge2 w ↦ settle_turn 0 w.buf-is c.loop-i-test.true a.invariant (inr (w.if-m-ge2.false, refl))
+      | then-m-ge2 w ↦ settle_turn 1 w.buf-is c.loop-i-test.true a.invariant (inl (w.if-m-ge2.true, refl))
+      | else-m-ge2 w ↦ settle_turn 0 w.buf-is c.loop-i-test.true a.invariant (inr (w.if-m-ge2.false, refl))
     ]
 
 pub returns : goal.returns

@@ -22,8 +22,8 @@ returns-then-has-2 c =
     let a = c.args in
     let s = scene (board a.p.now) in
     c.landing.ensures ∙ sym (landed_own s a.h a.m (elim c.if-coastal.branch [
-      then-coastal+else-has w ↦ depot_none s a.h a.m (sym w.has.ensures ∙ w.if-has.false)
-    | else-coastal w ↦ depot_inland s a.h a.m (sym c.coastal.ensures ∙ w.if-coastal.false)
+      | then-coastal+else-has w ↦ depot_none s a.h a.m (sym w.has.ensures ∙ w.if-has.false)
+      | else-coastal w ↦ depot_inland s a.h a.m (sym c.coastal.ensures ∙ w.if-coastal.false)
     ]) (sym c.has-2.ensures ∙ c.if-has-2.true))
 
 pub returns : goal.returns
@@ -31,6 +31,6 @@ returns c =
     let a = c.args in
     let s = scene (board a.p.now) in
     sym (landed_not s a.h a.m (elim c.if-coastal.branch [
-      then-coastal+else-has w ↦ depot_none s a.h a.m (sym w.has.ensures ∙ w.if-has.false)
-    | else-coastal w ↦ depot_inland s a.h a.m (sym c.coastal.ensures ∙ w.if-coastal.false)
+      | then-coastal+else-has w ↦ depot_none s a.h a.m (sym w.has.ensures ∙ w.if-has.false)
+      | else-coastal w ↦ depot_inland s a.h a.m (sym c.coastal.ensures ∙ w.if-coastal.false)
     ]) (sym c.has-2.ensures ∙ c.if-has-2.false))

@@ -15,8 +15,8 @@ pub loop-i-preserved : goal.loop-i-preserved
 unfolding mark
 loop-i-preserved c =
     elim c.if-buf-i.branch [
-      then-buf-i w ↦ λ e. found_one (sym w.found-is ∙ e)
-    | else-buf-i w ↦ λ e. none_more _ _ (c.loop-i.invariant (sym w.found-is ∙ e)) w.if-buf-i.false
+      | then-buf-i w ↦ λ e. found_one (sym w.found-is ∙ e)
+      | else-buf-i w ↦ λ e. none_more _ _ (c.loop-i.invariant (sym w.found-is ∙ e)) w.if-buf-i.false
     ]
 
 pub returns : goal.returns
