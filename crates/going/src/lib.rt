@@ -26,6 +26,7 @@ fn hex_at(route: &[u16], i: usize) -> usize
 }
 
 // Unit `u` goes to hex `end` with no role; a supply unit is destroyed.
+#[tactic(auto, using(retreat::proofs::Leaving::leave_supply))]
 fn leave(p: &mut [u8], v: View, end: usize, u: usize)
     requires { Laid p.old v }
     ensures { p.new ≡ makes p.old (leaves (board p.old) end u) }

@@ -108,12 +108,15 @@ pub fn judge_move(p: &[u8], v: View, u: usize, path: &[u16]) -> Path
     steps(p, v, u, path)
 }
 
+// How many others fill a hex.
+const FULL: usize = 3;
+
 // The move is made, if there is room where it ends.
 fn arrive(p: &mut [u8], v: View, u: usize, h: usize, last: usize) -> Moved
     requires { Laid p.old v }
     ensures { Met p.old [] (arrival (board p.old) u last h) (moved_as result) p.new [] }
 {
-    if 3 <= crowd::others(p, v, u, h) {
+    if FULL <= crowd::others(p, v, u, h) {
         return Moved::Refused(11, last);
     }
     let marks = read::marks(p, v, u);

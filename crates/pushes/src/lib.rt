@@ -26,6 +26,7 @@ pub enum Served {
 }
 
 // Asks the plot that is drawn for the region `at`, on which the start has the place `home`.
+#[tactic(auto, using(crate::proofs::Judging::wrong_length))]
 fn judge_by(
     plot: &mut [u8; 182],
     v: View,

@@ -26,6 +26,7 @@ fn apart(p: &[u8], v: View, a: usize, h: usize, u: usize) -> bool
 }
 
 // Whether a stack with unit `u` can't be pushed by force `f`.
+#[tactic(auto, using(crate::proofs::Standing::firm_other, crate::proofs::Standing::firm_supply))]
 pub fn firm(p: &[u8], v: View, f: usize, u: usize) -> bool
     requires { Laid p.now v }
     ensures { result ≡ firm (board p.now) f u }

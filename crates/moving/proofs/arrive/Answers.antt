@@ -13,11 +13,11 @@ use Rattle.march.specs.Move.{arrival}
 use Rattle.march.proofs.Moves.{moved_small, both_made}
 use Rattle.moving.proofs.arrive.Goals as goal
 
-pub returns-then-others-ge3 : goal.returns-then-others-ge3
+pub returns-then-others-ge-FULL : goal.returns-then-others-ge-FULL
 unfolding arrival
-returns-then-others-ge3 c =
+returns-then-others-ge-FULL c =
     let a = c.args in
-    stop (le-leb 3 (others (board a.p.now) a.u a.h) (omega (arith, c.if-others-ge3.true, c.others.ensures.is)))
+    stop (le-leb 3 (others (board a.p.now) a.u a.h) (omega (arith, c.if-others-ge-FULL.true, c.others.ensures.is)))
 
 pub mark-requires : goal.mark-requires
 mark-requires c = (
@@ -30,7 +30,7 @@ unfolding arrival
 returns c =
     let a = c.args in
     let p = a.p.now in
-    pass (lt-leb 3 (others (board p) a.u a.h) (omega (arith, c.if-others-ge3.false, c.others.ensures.is)))
+    pass (lt-leb 3 (others (board p) a.u a.h) (omega (arith, c.if-others-ge-FULL.false, c.others.ensures.is)))
     (ruled
     (both_made p c.place.new.p _ a.u a.h c.with.result (c.with.ensures ∙ ap (with moved) c.marks-marks.ensures.is) c.place.ensures
     c.mark.ensures))
