@@ -25,7 +25,7 @@ use Rattle.aftermath.specs.Losses.{
   losses_rule,
 }
 
--- 'unfolding aftermathOpen' opens the questions of losses, for a row that is to be computed
+-- 'unfolding aftermath_open' opens the questions of losses, for a row that is to be computed
 unfoldable pub aftermath_open : ℕ
 unfolding force force_of any along judged outcome list_length no_unit all_there named and_then owes loss losses shown_total spared enough owes_phasing other_type spared_special passed_over short loss_checks losses_rule
 aftermath_open = 0

@@ -20,7 +20,7 @@ abbrev pub Answered : List Row → Type 0
 Answered [] = Unit {0}
 Answered (r ∷ rs) = (r.asked ≡ r.answered) × Answered rs
 
--- 'unfolding gridOpen' opens all of the grid, for a row that is to be computed
+-- 'unfolding grid_open' opens all of the grid, for a row that is to be computed
 unfoldable pub grid_open : ℕ
 unfolding on_map hex_at beside_even beside_odd beside_of neighbour_of far distance_of
 grid_open = 0

@@ -37,7 +37,8 @@ const FIRST: usize = 0;
 // One fighter more in the odds.
 fn add_fighting(total: usize, f: Fighter) -> usize
     requires { total ≤ most }
-    ensures { (result ≡ total + f.fighting) × (f.fighting < 256) }
+    ensures value { result ≡ total + f.fighting }
+    ensures byte { f.fighting < 256 }
 {
     total + f.fighting as usize
 }
@@ -45,7 +46,8 @@ fn add_fighting(total: usize, f: Fighter) -> usize
 // One fighter more in the losses.
 fn add_printed(total: usize, f: Fighter) -> usize
     requires { total ≤ most }
-    ensures { (result ≡ total + f.printed) × (f.printed < 256) }
+    ensures value { result ≡ total + f.printed }
+    ensures byte { f.printed < 256 }
 {
     total + f.printed as usize
 }

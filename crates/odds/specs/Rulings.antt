@@ -8,7 +8,7 @@ use Rattle.position.specs.Ground.{river_side, major_river_side}
 use Rattle.field.specs.Working.{half}
 use Rattle.odds.specs.Odds.{smaller, larger, side_multiple, smallest_from, smallest, defence_multiple, reached, last, column}
 
--- 'unfolding oddsOpen' opens the odds, for a row that is to be computed
+-- 'unfolding odds_open' opens the odds, for a row that is to be computed
 unfoldable pub odds_open : ℕ
 unfolding half smaller larger side_multiple smallest_from smallest defence_multiple reached last column
 odds_open = 0

@@ -9,7 +9,7 @@ use Rattle.field.specs.Zone.{stands_on, vacant, own_on, caster_on, holds_caster,
 use Rattle.routes.specs.Bears.{bears, refuge}
 use Rattle.routes.specs.Legal.{enters, steps_to, run_along, legal}
 
--- 'unfolding routesOpen' opens the test of a route, for a row that is to be computed
+-- 'unfolding routes_open' opens the test of a route, for a row that is to be computed
 unfoldable pub routes_open : ℕ
 unfolding grid_open any enemy stored stored_at side next is_at joined standable stands_on vacant own_on caster_on holds_caster caster_at casts_over casts enemy_casts enemy_zone bears refuge enters steps_to run_along legal
 routes_open = 0

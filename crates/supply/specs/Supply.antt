@@ -21,7 +21,7 @@ Supplied s n h = Chain (next s.map) (grade s n) h
 unfoldable pub grades : Scene → ℕ → List ℕ
 grades s n = tab s.map.hexes (grade s n)
 
--- the same as a test, which computes by sweeps over the map: true exactly if the chain exists (`supplied-right`)
+-- the same as a test, which computes by sweeps over the map: true exactly if the chain exists (`supplied_right`)
 unfoldable pub supplied : Scene → ℕ → ℕ → Bool
 supplied s n h = chained (next s.map) (grades s n) h
 

@@ -97,7 +97,7 @@ impl Specs {
 pub fn table(believed: &[Spec], crates: &str) -> String {
     let mut rows = String::from("| crate | files of `specs/`, in reading order |\n|---|---|\n");
     for line in crates.lines() {
-        let name = line.split(':').next().unwrap_or_default();
+        let name = line.split([':', ' ']).next().unwrap_or_default();
         let files: Vec<&str> = believed.iter().filter(|spec| spec.0 == name).map(|spec| spec.1.as_str()).collect();
         if !files.is_empty() {
             rows.push_str(&format!("| `{name}` | {} |\n", files.join(", ")));
@@ -147,6 +147,6 @@ mod tests {
         specs.visit(&spec("rules", "Certain"), &mut found, &mut BTreeSet::new());
         assert_eq!(found, vec![spec("grid", "Map"), spec("rules", "Order"), spec("rules", "Certain")]);
         assert_eq!(specs.mistold(&found), vec![spec("grid", "Spot")]);
-        assert_eq!(table(&found, "grid:\nrules: grid\n").lines().last(), Some("| `rules` | Order, Certain |"));
+        assert_eq!(table(&found, "grid:\nrules staticlib: grid\n").lines().last(), Some("| `rules` | Order, Certain |"));
     }
 }

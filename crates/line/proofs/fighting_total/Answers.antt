@@ -9,7 +9,7 @@ loop-i-init c = (sum_none fighting_of c.args.line.now, omega arith, omega arith)
 
 pub loop-i-preserved : goal.loop-i-preserved
 loop-i-preserved c = (
-  rw (c.add_fighting-total.ensures.0, c.loop-i.invariant.0, add-one) (sym (sum_next fighting_of c.args.line.now c.loop-i.i (fighter_of 0 0 0) c.loop-i-test.true)),
+  rw (c.add_fighting-total.ensures.value, c.loop-i.invariant.0, add-one) (sym (sum_next fighting_of c.args.line.now c.loop-i.i (fighter_of 0 0 0) c.loop-i-test.true)),
   omega arith,
   omega arith,
 )
