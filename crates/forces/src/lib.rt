@@ -13,7 +13,8 @@ pub fn player(p: &[u8], v: View, f: usize) -> usize
     requires { Laid p.now v }
     ensures { result ≡ player p.now f }
 {
-    if v.players <= f {
+    let unnamed = v.players <= f;
+    if unnamed {
         return f;
     }
     layout::desk_byte(p, v, layout::PLAYERS + f)

@@ -63,6 +63,7 @@ fn hexes_ok(p: &[u8], v: View) -> bool
 }
 
 // A stored side that no hex lies beyond is 0.
+#[tactic(auto, using(position::proofs::Sides::beside_view))]
 fn edge_ok(p: &[u8], v: View, h: usize, d: usize) -> bool
     requires { Laid p.now v × (d < 3) }
     ensures { Says result (EdgeOk (ground p.now) h d) }

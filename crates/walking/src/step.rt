@@ -63,6 +63,9 @@ fn enter(v: View, buf: &mut [u8], s: Spot, dir: usize) -> Going
     Going::To(t, 0)
 }
 
+// What `look_0` answers where there is no hex to enter.
+const NONE: usize = 6;
+
 // One step of the walk from spot `s`, where it was done with the directions below `from`: it enters the first hex that it finds from there
 // on, or goes home.
 pub fn step(p: &[u8], v: View, buf: &mut [u8], s: Spot, from: usize) -> Going
@@ -72,7 +75,7 @@ pub fn step(p: &[u8], v: View, buf: &mut [u8], s: Spot, from: usize) -> Going
     ensures { StepOf v.width v.height (next (ground p.now)) (beside (ground p.now)) buf.old s.hex from buf.new result }
 {
     let dir = looking::look_0(p, v, buf, s, from, 1);
-    if 6 <= dir {
+    if NONE <= dir {
         return leave(v, buf, s);
     }
     enter(v, buf, s, dir)

@@ -5,9 +5,9 @@ use native.Mathlib.Omega.{arith}
 use Rattle.position.proofs.Tables.{player_in, player_out}
 use Rattle.forces.proofs.player.Goals as goal
 
-pub returns-then-v-f : goal.returns-then-v-f
-returns-then-v-f c = sym (player_out _ _ (omega (arith, c.if-v-f.true, c.requires.view.players)))
+pub returns-then-unnamed : goal.returns-then-unnamed
+returns-then-unnamed c = sym (player_out _ _ (omega (arith, c.if-unnamed.true, c.requires.view.players)))
 
 pub returns : goal.returns
 returns c =
-    c.desk_byte.ensures.is ∙ sym (player_in _ _ (omega (arith, c.if-v-f.false, c.requires.view.players)))
+    c.desk_byte.ensures.is ∙ sym (player_in _ _ (omega (arith, c.if-unnamed.false, c.requires.view.players)))

@@ -2,7 +2,6 @@
 -- Assumes nothing.
 use mathlib.Core.Path.{sym}
 use native.Mathlib.Omega.{arith}
-use Rattle.position.specs.Layout.{code}
 use Rattle.position.proofs.Answers.{said, unsaid, carry, none_yet, one_more, all, not_all}
 use Rattle.setting.proofs.chart_ok.codes_ok.Goals as goal
 

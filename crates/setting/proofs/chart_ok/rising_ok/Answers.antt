@@ -3,7 +3,6 @@
 use mathlib.Core.Path.{ap₂}
 use native.Mathlib.Omega.{arith}
 use Prim.Native.Nat.{◌*◌}
-use Rattle.position.specs.Layout.{attack_odds, defence_odds}
 use Rattle.position.proofs.Shapes.{bytes_product}
 use Rattle.setting.proofs.chart_ok.rising_ok.Goals as goal
 

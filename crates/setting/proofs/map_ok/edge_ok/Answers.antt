@@ -1,7 +1,7 @@
 -- `map_ok::edge_ok` meets its contract: by the view the neighbour is the map's.
 -- Assumes nothing.
 use Prim.Native.Nat.{ℕ}
-use mathlib.Core.Path.{◌≡◌, sym, ◌∙◌}
+use mathlib.Core.Path.{◌≡◌, ◌∙◌}
 use native.Mathlib.Omega.{arith}
 use Rattle.position.proofs.Sides.{beside_view}
 use Rattle.setting.proofs.map_ok.edge_ok.Goals as goal
@@ -13,6 +13,5 @@ returns-in-At c =
           ((c.neighbour.ensures ∙ beside_view c.requires.0.view c.args.h c.args.d), c.in-At.is) in omega arith);
     }
 
-pub returns-then-stored-ne0 : goal.returns-then-stored-ne0
-returns-then-stored-ne0 c =
-    λ t. omega (arith, t.plain (sym (c.neighbour.ensures ∙ beside_view c.requires.0.view c.args.h c.args.d) ∙ c.in_default.is))
+pub returns : goal.returns
+returns c = record { plain = λ off. omega (arith, c.stored.ensures) }
