@@ -25,11 +25,11 @@ route_fate b h route pushes =
 unfoldable pub push_fate : Board → ℕ → List ℕ → List ℕ → Fate
 push_fate b h route pushes = cond (legal_pushes b (group_force b h) h b.desk.battle.owed route pushes) Pushing WrongPushes
 
--- the fate that an answer about pushes comes to; `lost` is that of a group whom none serve
+-- the fate that an answer about pushes comes to; `unserved` is that of a group whom none serve
 abbrev pub served_fate : Fate → Served → Fate
-served_fate lost None = lost
-served_fate lost Wrong = WrongPushes
-served_fate lost Right = Pushing
+served_fate unserved None = unserved
+served_fate unserved Wrong = WrongPushes
+served_fate unserved Right = Pushing
 
 unfoldable pub fate_of : Board → ℕ → List ℕ → List ℕ → Fate
 fate_of b h route pushes =
