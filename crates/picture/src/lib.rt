@@ -3,7 +3,7 @@
 #![tactic(auto)]
 
 mod counter;
-mod desk;
+mod desk_words;
 mod frame;
 mod hexes;
 mod layers;
