@@ -1,8 +1,6 @@
 // The counters in a hex, each in its own part of it, drawn from what is said of a unit: no strength that is face down.
 ghost use Rattle.std.specs.Prelude.{◌+◌, ◌<◌, ◌≤◌};
-ghost use Rattle.position.specs.Board.{board};
 ghost use Rattle.position.specs.Laid.{Laid};
-ghost use Rattle.story.specs.Look.{UnitOf};
 
 use crate::place::Place;
 use page::Output;
@@ -113,23 +111,6 @@ fn counter(out: &mut Output, full: usize, u: Unit, crowd: usize, k: usize, at: P
     numbers(out, q, u)
 }
 
-// Unit `u` of the board.
-fn look(p: &[u8], v: View, u: usize) -> Unit
-    requires { Laid p.now v }
-    ensures { UnitOf (board p.now) u result }
-{
-    Unit {
-        number: u,
-        nationality: read::nationality(p, v, u),
-        kind: read::kind(p, v, u),
-        hex: read::hex(p, v, u),
-        shown: read::shown(p, v, u),
-        allowance: read::allowance(p, v, u),
-        marks: read::marks(p, v, u),
-        role: read::role(p, v, u),
-    }
-}
-
 // Unit `u`, if it stands on hex `h`.
 fn unit(
     out: &mut Output,
@@ -148,7 +129,7 @@ fn unit(
         return s;
     }
     Stack {
-        full: counter(out, s.full, look(p, v, u), crowd, s.drawn, at),
+        full: counter(out, s.full, story::units::look(p, v, u), crowd, s.drawn, at),
         drawn: s.drawn + 1,
     }
 }

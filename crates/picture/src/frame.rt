@@ -2,7 +2,6 @@
 ghost use Rattle.std.specs.Prelude.{◌≤◌};
 ghost use Rattle.position.specs.Laid.{Laid};
 
-use crate::desk_words;
 use page::Output;
 use position::View;
 use wording::names;
@@ -92,7 +91,7 @@ pub fn head(out: &mut Output, full: usize, p: &[u8], v: View) -> usize
     let s = sizes(v.width, v.height);
     let f = first(out, full, s);
     let h = page::text(out, f, b"<title>");
-    let k = desk_words::state(out, h, p, v);
+    let k = story::table::state(out, h, p, v);
     let m = page::text(out, k, b"</title>\n");
     let n = paper(out, m, s);
     signs::define(out, n)
@@ -125,7 +124,7 @@ fn caption(out: &mut Output, full: usize, p: &[u8], v: View) -> usize
         full,
         b"<symbol id='key' viewBox='0 0 640 260'>\n<text x='6' y='22' font-size='15' font-weight='bold' text-anchor='start'>",
     );
-    let h = desk_words::state(out, f, p, v);
+    let h = story::table::state(out, f, p, v);
     page::text(out, h, b"</text>\n")
 }
 
@@ -141,7 +140,7 @@ fn players(out: &mut Output, full: usize, p: &[u8], v: View) -> usize
         full,
         b"<text x='6' y='252' font-size='10' text-anchor='start'>",
     );
-    let h = desk_words::players(out, f, p, v);
+    let h = story::table::players(out, f, p, v);
     page::text(out, h, b"</text>\n")
 }
 

@@ -3,7 +3,6 @@
 #![tactic(auto)]
 
 mod counter;
-mod desk_words;
 mod frame;
 mod hexes;
 mod layers;

@@ -10,22 +10,11 @@ use position::{View, kind};
 // Room for the shades of a map's hexes.
 const ROOM: usize = 4096;
 
-// The supply of a nationality; none for a number above 4.
-fn judge(p: &[u8], v: View, nationality: usize, supplied: &mut [u8])
-    requires { Laid p.now v × (length supplied.old ≡ 4096) }
-{
-    if 4 < nationality {
-        return;
-    }
-    let hexes = v.hexes;
-    supply::fill(p, v, nationality, &mut supplied[..hexes]);
-}
-
 fn supplied(out: &mut Output, full: usize, p: &[u8], v: View, nationality: usize) -> usize
     requires { Laid p.now v }
 {
     let mut shade = [0u8; ROOM];
-    judge(p, v, nationality, &mut shade);
+    story::rows::judge(p, v, nationality, &mut shade);
     rows::layer(out, full, p, v, &shade, rows::SUPPLIED)
 }
 

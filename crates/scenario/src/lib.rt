@@ -4,7 +4,6 @@
 
 mod chart;
 mod land;
-mod routes;
 mod table;
 mod units;
 

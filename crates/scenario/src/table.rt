@@ -1,7 +1,6 @@
 // The desk: the clock, the players if it names them, and an open battle.
 ghost use Rattle.position.specs.Laid.{Laid};
 
-use crate::routes;
 use page::Output;
 use position::{View, read};
 
@@ -59,5 +58,5 @@ pub fn lines(out: &mut Output, full: usize, p: &[u8], v: View) -> usize
         read::owed(p, v),
         read::need(p, v),
     );
-    routes::lines(out, c, p, v)
+    story::table::routes(out, c, p, v)
 }

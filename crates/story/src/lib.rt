@@ -2,10 +2,10 @@
 // the output and how full it is, and answers how full it is then.
 #![tactic(auto)]
 
-mod rows;
-mod table;
+pub mod rows;
+pub mod table;
 mod tiles;
-mod units;
+pub mod units;
 
 ghost use Rattle.position.specs.Laid.{Laid};
 

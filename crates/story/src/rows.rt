@@ -83,7 +83,7 @@ fn rows(out: &mut Output, full: usize, p: &[u8], v: View, supplied: &[u8]) -> us
 }
 
 // The supply of a nationality; none for a number above 4.
-fn judge(p: &[u8], v: View, nationality: usize, supplied: &mut [u8])
+pub fn judge(p: &[u8], v: View, nationality: usize, supplied: &mut [u8])
     requires { Laid p.now v × (length supplied.old ≡ 4096) }
 {
     if 4 < nationality {

@@ -118,7 +118,8 @@ fn route(out: &mut Output, full: usize, a: usize, b: usize, c: usize, d: usize) 
     page::line(out, m)
 }
 
-fn routes(out: &mut Output, full: usize, p: &[u8], v: View) -> usize
+// The routes that are written, a line each.
+pub fn routes(out: &mut Output, full: usize, p: &[u8], v: View) -> usize
     requires { Laid p.now v }
 {
     let mut f = full;
@@ -143,7 +144,7 @@ fn seat(out: &mut Output, full: usize, before: &[u8], f: usize, player: usize) -
 }
 
 // The player of each force, if the desk names them.
-fn players(out: &mut Output, full: usize, p: &[u8], v: View) -> usize
+pub fn players(out: &mut Output, full: usize, p: &[u8], v: View) -> usize
     requires { Laid p.now v }
 {
     if v.players == 0 {
@@ -156,13 +157,20 @@ fn players(out: &mut Output, full: usize, p: &[u8], v: View) -> usize
     page::line(out, m)
 }
 
-pub fn lines(out: &mut Output, full: usize, p: &[u8], v: View) -> usize
+// Turn, force, phase and stage.
+pub fn state(out: &mut Output, full: usize, p: &[u8], v: View) -> usize
     requires { Laid p.now v }
 {
     let d = look(p, v);
     let f = time(out, full, d);
-    let h = stage(out, f, d);
-    let k = page::line(out, h);
-    let m = players(out, k, p, v);
-    routes(out, m, p, v)
+    stage(out, f, d)
+}
+
+pub fn lines(out: &mut Output, full: usize, p: &[u8], v: View) -> usize
+    requires { Laid p.now v }
+{
+    let f = state(out, full, p, v);
+    let h = page::line(out, f);
+    let k = players(out, h, p, v);
+    routes(out, k, p, v)
 }

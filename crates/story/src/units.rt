@@ -9,7 +9,7 @@ use position::{View, layout, read};
 use wording::names;
 
 // Unit `u` of the board.
-fn look(p: &[u8], v: View, u: usize) -> Unit
+pub fn look(p: &[u8], v: View, u: usize) -> Unit
     requires { Laid p.now v }
     ensures { UnitOf (board p.now) u result }
 {

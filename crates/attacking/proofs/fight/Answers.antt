@@ -19,7 +19,6 @@ use Rattle.results.specs.Results.{battle_changes, need_of}
 use Rattle.results.specs.declared.Upshot.{Upshot}
 use Rattle.attacking.proofs.fight.Goals as goal
 
--- the map is small
 pub muster-n-requires : goal.muster-n-requires
 muster-n-requires c = (c.requires.0, c.requires.2.range.most, few_defend c.requires.1.lawful (hexes_most c.requires.0.shaped) c.args.target c.requires.2.range.aimed, refl)
 

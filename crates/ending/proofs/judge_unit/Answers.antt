@@ -10,7 +10,6 @@ use Rattle.walk.specs.Chain.{mark}
 use Rattle.march.proofs.Ends.{with_byte, without_byte, left_other, left_off, judged_in, judged_out}
 use Rattle.ending.proofs.judge_unit.Goals as goal
 
--- past the first test unit u is of nationality n, and past the second it is on the map
 pub returns-then-nationality-n : goal.returns-then-nationality-n
 returns-then-nationality-n c = (c.requires.0, left_other (λ e. c.if-nationality-n.true (c.nationality.ensures.is ∙ e)))
 

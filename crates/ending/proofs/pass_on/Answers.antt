@@ -9,7 +9,6 @@ use Rattle.clock.specs.Clock.{next_clock}
 use Rattle.march.proofs.Ends.{next_bytes, all_ended}
 use Rattle.ending.proofs.pass_on.Goals as goal
 
--- the clock that is set is the board's next
 pub moved_on-next-requires : goal.moved_on-next-requires
 moved_on-next-requires c = let k = c.clock_of-now.ensures in (k.turn, k.force, k.phase)
 

@@ -10,7 +10,6 @@ pub returns-in_default : goal.returns-in_default
 returns-in_default c =
     shut_off _ _ _ _ _ (near_none c.requires.laid.0.view c.args.s.hex c.args.dir c.requires.laid.2 c.in_default.is)
 
--- what is known of the hex there
 pub bounds-buf-n : goal.bounds-buf-n
 bounds-buf-n c =
     let n = near_inside c.requires.laid.0.view c.args.s.hex c.args.dir c.requires.laid.2 c.in-At.is in

@@ -4,7 +4,6 @@ use mathlib.Core.Path.{ap, ◌∙◌}
 use Rattle.plot.proofs.Plots.{shift_is}
 use Rattle.plot.proofs.shift.Goals as goal
 
--- src/lib.rt:73:1
 pub returns : goal.returns
 returns c =
     shift_is _ _ _ _ _

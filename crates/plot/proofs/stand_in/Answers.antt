@@ -4,17 +4,14 @@ use mathlib.Core.Path.{sym}
 use native.Mathlib.Omega.{arith}
 use Rattle.plot.proofs.stand_in.Goals as goal
 
--- src/lib.rt:30:9
 pub returns-then-m-eq1 : goal.returns-then-m-eq1
 unfolding stand_in
 returns-then-m-eq1 c = sym (stand_free _ (omega (arith, c.wide-m.ensures.is)))
 
--- src/lib.rt:33:9
 pub returns-then-m-eq2 : goal.returns-then-m-eq2
 unfolding stand_in
 returns-then-m-eq2 c = sym (stand_loose _ (omega (arith, c.wide-m.ensures.is)))
 
--- src/lib.rt:24:1
 pub returns : goal.returns
 unfolding stand_in
 returns c = sym (stand_shut _ (λ e. omega (arith, c.wide-m.ensures.is)) (λ e. omega (arith, c.wide-m.ensures.is)))

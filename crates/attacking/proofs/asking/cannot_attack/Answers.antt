@@ -7,7 +7,6 @@ use Rattle.battle.proofs.Asks.{cannot_mark, cannot_type}
 use Rattle.position.proofs.Answers.{holds}
 use Rattle.attacking.proofs.asking.cannot_attack.Goals as goal
 
--- the answer for the unit's type
 pub returns-then-not-may_attack : goal.returns-then-not-may_attack
 returns-then-not-may_attack c = sym (cannot_type _ _ (sym (c.may_attack.ensures ∙ ap may_attack c.kind.ensures.is) ∙ c.if-not-may_attack.true))
 

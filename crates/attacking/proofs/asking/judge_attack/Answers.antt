@@ -8,7 +8,6 @@ use Rattle.ruling.specs.Judged.{TestedOf}
 use Rattle.battle.specs.Attack.{attack_checks, in_range}
 use Rattle.attacking.proofs.asking.judge_attack.Goals as goal
 
--- the tests passed so far: refusal 3, and then the time
 pub in_range-requires : goal.in_range-requires
 in_range-requires c = c.requires
 

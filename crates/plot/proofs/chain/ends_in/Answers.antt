@@ -3,17 +3,14 @@ use mathlib.Core.Path.{sym}
 use native.Mathlib.Omega.{arith}
 use Rattle.plot.proofs.chain.ends_in.Goals as goal
 
--- src/chain.rt:144:9
 pub returns-then-y-x : goal.returns-then-y-x
 returns-then-y-x c = sym (end_before _ _ _ (omega arith))
 
--- src/chain.rt:147:9
 pub returns-then-x-y : goal.returns-then-x-y
 returns-then-x-y c = sym (end_after _ _ _ (omega arith))
 
 pub is_marked-requires : goal.is_marked-requires
 is_marked-requires c = omega arith
 
--- src/chain.rt:139:1
 pub returns : goal.returns
 returns c = end_read _ _ _ c.is_marked.result (omega arith) (omega arith) c.is_marked.ensures

@@ -6,19 +6,15 @@ use native.Mathlib.Omega.{arith}
 use Rattle.plot.proofs.chain.mark_rests.Goals as goal
 use Rattle.plot.proofs.chain.mark_rests.Goals.{then-rests, else-rests}
 
--- src/chain.rt:104:5
 pub loop-d-init : goal.loop-d-init
 loop-d-init c = (omega arith, upto_none _)
 
--- src/chain.rt:104:5
 pub loop-d-preserved-in_default : goal.loop-d-preserved-in_default
 loop-d-preserved-in_default c = (omega arith, upto_skip _ c.loop-d.invariant.1 (rest_off _ _ _ _ _ (sym c.next_in.ensures ∙ c.in_default.is)))
 
--- src/chain.rt:108:12
 pub rests-requires : goal.rests-requires
 rests-requires c = (c.requires.0, next_below _ _ _ _ (sym c.next_in.ensures ∙ c.in-At.is))
 
--- the place at hand is close
 pub overflow_add-z : goal.overflow_add-z
 overflow_add-z c = let k = (close_step _ _ _ _ (sym c.next_in.ensures ∙ c.in-At.is) c.requires.3) in omega arith
 
@@ -30,7 +26,6 @@ mark-requires c =
     let k = (close_step _ _ _ _ (sym c.next_in.ensures ∙ c.in-At.is) c.requires.3) in
     (c.loop-d.invariant.1.long ∙ c.requires.1, omega arith)
 
--- src/chain.rt:104:5
 pub loop-d-preserved : goal.loop-d-preserved
 loop-d-preserved c =
     let e = sym c.next_in.ensures ∙ c.in-At.is in
@@ -43,6 +38,5 @@ loop-d-preserved c =
       ],
     )
 
--- src/chain.rt:100:1
 pub returns : goal.returns
 returns c = upto_all _ (omega arith) (omega arith) (rest_all_lem _ _ _ _) c.loop-d.invariant.1

@@ -4,14 +4,11 @@ use mathlib.Core.Bool.{not}
 use mathlib.Core.Path.{sym, ap, ◌∙◌}
 use Rattle.plot.proofs.chain.yields.Goals as goal
 
--- src/chain.rt:75:9
 pub returns-in_default : goal.returns-in_default
 returns-in_default c = sym (yields_other _ _ _ _ (ap is_loose (sym c.stand_in.ensures) ∙ not_loose c.stand_in.result c.in_default.not-Loose))
 
--- src/chain.rt:78:9
 pub returns-then-h-z : goal.returns-then-h-z
 returns-then-h-z c = sym (yields_own _ _ _ _ c.if-h-z.true)
 
--- src/chain.rt:70:1
 pub returns : goal.returns
 returns c = ap not c.on_trail.ensures ∙ sym (yields_past _ _ _ _ (sym c.stand_in.ensures ∙ c.in-Loose.is) c.if-h-z.false)

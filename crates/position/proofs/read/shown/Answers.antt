@@ -7,7 +7,6 @@ use Rattle.position.specs.Layout.{marks}
 use Rattle.position.proofs.Effects.{shown_is, shown_not}
 use Rattle.position.proofs.read.shown.Goals as goal
 
--- whether it is tried was asked
 pub returns-then-has : goal.returns-then-has
 returns-then-has c =
     record {

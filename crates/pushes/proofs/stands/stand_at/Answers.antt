@@ -9,7 +9,6 @@ use Rattle.chains.specs.Stand.{stand}
 use Rattle.pushes.proofs.Standing.{stand_barred, stand_zone, borne, stand_vacant, other_firm, other_loose}
 use Rattle.pushes.proofs.stands.stand_at.Goals as goal
 
--- a unit may stand there, outside Enemy zones
 pub returns-then-not-standable : goal.returns-then-not-standable
 returns-then-not-standable c =
     let a = c.args in

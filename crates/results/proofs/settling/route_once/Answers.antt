@@ -12,7 +12,6 @@ use Rattle.position.specs.Layout.{hex}
 use Rattle.field.specs.Listed.{named}
 use Rattle.results.proofs.settling.route_once.Goals as goal
 
--- whether one before it stands there
 pub overflow_cast-units : goal.overflow_cast-units
 overflow_cast-units c = omega (arith, c.type_inv.units c.args.i)
 

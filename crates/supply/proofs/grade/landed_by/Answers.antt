@@ -10,7 +10,6 @@ use Rattle.supply.proofs.Grading.{depot_inland, depot_none, landed_depot, landed
 use Rattle.supply.proofs.grade.landed_by.Goals as goal
 use Rattle.supply.proofs.grade.landed_by.Goals.{then-coastal+else-has, else-coastal}
 
--- past the first two tests, no supply unit on a coast
 pub returns-then-has : goal.returns-then-has
 returns-then-has c =
     let a = c.args in
