@@ -1,152 +1,100 @@
 // Chart, results and map as they are told.
-ghost use Rattle.std.specs.Prelude.{◌<◌, ◌≤◌};
+ghost use Rattle.std.specs.Prelude.{◌<◌};
 
-use crate::places::{CHART, MAP, MOST_COLUMNS, MOST_HEXES, RESULTS, UNITS};
-use crate::{Draft, places};
-use grid::Beside;
+use crate::bytes::low;
+use crate::{Draft, MOST_COLUMNS, MOST_HEXES, Size};
 use position::layout;
-use reading::rooms::Room;
 
-// What came of a side: it is kept, no hex lies beyond it, or it was told otherwise before.
-#[derive(Clone, Copy)]
-pub enum Sided {
-    Kept,
-    Off,
+// A side that is not kept: no hex lies beyond it, or it was told otherwise before.
+#[derive(Clone, Copy, PartialEq, Eq)]
+pub enum SideError {
+    OffMap,
     Otherwise,
 }
 
-// Terrains cost 1 and rivers nothing, and none multiplies; there are no columns; every hex is plain land without sides.
-pub fn plain(room: &mut Room) {
-    places::fill(room, CHART, layout::CHART_LENGTH, 1);
-    places::fill(room, RESULTS, UNITS - RESULTS, 0);
-    set_chart(room, layout::RIVER, layout::COST, 0);
-    set_chart(room, layout::MAJOR_RIVER, layout::COST, 0);
-}
+impl Draft {
+    // Byte `f` of a terrain's or a river's row.
+    pub fn set_chart(&mut self, row: usize, f: usize, x: usize)
+        requires { f < 2 }
+    {
+        if row < layout::CHART_ROWS {
+            self.chart[layout::TERRAIN_SIZE * row + f] = low(x);
+        }
+    }
 
-// Byte `f` of a terrain's or a river's row.
-pub fn set_chart(room: &mut Room, row: usize, f: usize, x: usize)
-    requires { f < 2 }
-{
-    if layout::CHART_ROWS <= row {
-        return;
+    // One column more. There is room for twelve.
+    pub fn add_column(&mut self) {
+        if self.columns < MOST_COLUMNS {
+            self.columns += 1;
+            self.results[0] = low(self.columns);
+        }
     }
-    places::set(room, CHART + layout::TERRAIN_SIZE * row + f, x);
-}
 
-// Byte `f` of a column.
-pub fn set_column(room: &mut Room, column: usize, f: usize, x: usize)
-    requires { f < 8 }
-{
-    if MOST_COLUMNS <= column {
-        return;
+    // Byte `f` of the column that is being told, which is the last.
+    pub fn set_column(&mut self, f: usize, x: usize)
+        requires { f < 8 }
+    {
+        let column = self.columns.saturating_sub(1);
+        self.results[layout::RESULTS_HEAD + layout::COLUMN_SIZE * column + f] = low(x);
     }
-    let columns = RESULTS + layout::RESULTS_HEAD;
-    places::set(room, columns + layout::COLUMN_SIZE * column + f, x);
-}
 
-// One column more. There is room for twelve.
-pub fn add_column(d: Draft, room: &mut Room) -> Draft {
-    let count = d.columns;
-    if MOST_COLUMNS <= count {
-        return d;
+    pub fn set_size(&mut self, size: Size) {
+        self.map[layout::WIDTH] = low(size.width);
+        self.map[layout::HEIGHT] = low(size.height);
+        self.size = Some(size);
     }
-    places::set(room, RESULTS, count + 1);
-    let mut after = d;
-    after.columns = count + 1;
-    after
-}
 
-fn area(width: usize, height: usize) -> usize
-    requires { (width ≤ 64) × (height ≤ 64) }
-    ensures { result ≤ 4096 }
-{
-    width * height
-}
+    // Byte `f` of a hex.
+    pub fn set_hex(&mut self, hex: usize, f: usize, x: usize)
+        requires { f < 5 }
+    {
+        if hex < MOST_HEXES {
+            self.map[layout::MAP_HEAD + layout::HEX_SIZE * hex + f] = low(x);
+        }
+    }
 
-// The map's size, 1 to 64 each way.
-pub fn set_size(d: Draft, width: usize, height: usize, room: &mut Room) -> Draft {
-    if 64 < width {
-        return d;
+    // Byte `f` of a hex gets these bits too.
+    pub fn add_to_hex(&mut self, hex: usize, f: usize, bits: usize)
+        requires { f < 5 }
+    {
+        self.set_hex(hex, f, self.hex_byte(hex, f) | bits);
     }
-    if 64 < height {
-        return d;
-    }
-    places::set(room, MAP + layout::WIDTH, width);
-    places::set(room, MAP + layout::HEIGHT, height);
-    let mut after = d;
-    after.width = width;
-    after.height = height;
-    after.hexes = area(width, height);
-    after
-}
 
-// Byte `f` of a hex.
-pub fn set_hex(room: &mut Room, hex: usize, f: usize, x: usize)
-    requires { f < 5 }
-{
-    if MOST_HEXES <= hex {
-        return;
+    fn hex_byte(&self, hex: usize, f: usize) -> usize
+        requires { f < 5 }
+    {
+        if hex < MOST_HEXES {
+            return usize::from(self.map[layout::MAP_HEAD + layout::HEX_SIZE * hex + f]);
+        }
+        0
     }
-    let hexes = MAP + layout::MAP_HEAD;
-    places::set(room, hexes + layout::HEX_SIZE * hex + f, x);
-}
 
-pub fn hex_byte(room: &Room, hex: usize, f: usize) -> usize
-    requires { f < 5 }
-{
-    if MOST_HEXES <= hex {
-        return 0;
+    // The side of a hex in a direction: the hex keeps it, or the neighbour there does.
+    pub fn set_side(&mut self, hex: usize, dir: usize, side: usize) -> Result<(), SideError> {
+        let Some(size) = self.size else {
+            return Err(SideError::OffMap);
+        };
+        let Some(beyond) = grid::neighbour(size.width, size.height, hex, dir) else {
+            return Err(SideError::OffMap);
+        };
+        if dir < 3 {
+            self.keep(hex, dir, side)
+        } else {
+            self.keep(beyond, dir - 3, side)
+        }
     }
-    let at = MAP + layout::MAP_HEAD + layout::HEX_SIZE * hex + f;
-    places::wide(room[at])
-}
 
-// One of the three sides that a hex keeps, N, NE and SE, out of the byte that has them.
-fn kept(sides: usize, dir: usize) -> usize {
-    match dir {
-        0 => sides % 4,
-        1 => sides / 4 % 4,
-        _ => sides / 16 % 4,
+    // A hex keeps one of its three sides, N, NE and SE, two bits each. What was told before may be told again, and not otherwise.
+    fn keep(&mut self, hex: usize, dir: usize, side: usize) -> Result<(), SideError> {
+        let shift = 2 * dir.min(2);
+        let before = (self.hex_byte(hex, layout::SIDES) >> shift) & 3;
+        if before == side {
+            return Ok(());
+        }
+        if before != 0 {
+            return Err(SideError::Otherwise);
+        }
+        self.add_to_hex(hex, layout::SIDES, side << shift);
+        Ok(())
     }
-}
-
-// What a side adds to that byte.
-fn part(side: usize, dir: usize) -> usize
-    requires { side < 4 }
-{
-    match dir {
-        0 => side,
-        1 => 4 * side,
-        _ => 16 * side,
-    }
-}
-
-// A hex keeps one of its three sides. What was told before may be told again, and not otherwise.
-fn keep(room: &mut Room, hex: usize, dir: usize, side: usize) -> Sided
-    requires { side < 4 }
-{
-    let sides = hex_byte(room, hex, layout::SIDES);
-    let before = kept(sides, dir);
-    if before == side {
-        return Sided::Kept;
-    }
-    if before != 0 {
-        return Sided::Otherwise;
-    }
-    let all = std::num::wrapping_add_usize(sides, part(side, dir));
-    set_hex(room, hex, layout::SIDES, all);
-    Sided::Kept
-}
-
-// The side of a hex in a direction: the hex keeps it, or the neighbour there does.
-pub fn set_side(d: Draft, room: &mut Room, hex: usize, dir: usize, side: usize) -> Sided
-    requires { side < 4 }
-{
-    let Beside::At(n) = grid::neighbour(d.width, d.height, hex, dir) else {
-        return Sided::Off;
-    };
-    if dir < 3 {
-        return keep(room, hex, dir, side);
-    }
-    keep(room, n, dir - 3, side)
 }

@@ -1,74 +1,84 @@
 // A position as it is being told, line by line, and the bytes that it comes to.
-//
-// A room holds all of it: at its front the bytes of the position, once it is packed; behind them the five bodies as they are told, each with
-// room for the most that it can hold; then what was said before; then the line that is being read.
 #![tactic(auto)]
 
-mod bodies;
-pub mod land;
-mod places;
-pub mod said;
-pub mod table;
+mod bytes;
+mod desk;
+mod land;
+mod pack;
+mod said;
+mod size;
 pub mod text;
-pub mod units;
+mod units;
 
-pub use bodies::pack;
-use reading::rooms::Room;
+ghost use Rattle.std.specs.Prelude.{◌≤◌};
 
-// How many columns there may be.
-pub const MOST_COLUMNS: usize = places::MOST_COLUMNS;
+pub use land::SideError;
+pub use pack::{ROOM, Room};
+use position::layout;
+use said::THINGS;
+pub use said::Thing;
+pub use size::Size;
 
-// Whether a scenario is open, and of the line that is being read how many bytes there are and whether its comment has begun; the map's size,
-// 0 before it is told; how many columns, units and routes are told, and whether the players are; and the first line that could not be read, or 0.
-#[derive(Clone, Copy)]
+// How many columns, and how many hexes, there may be.
+pub const MOST_COLUMNS: usize = 12;
+
+pub const MOST_HEXES: usize = 4096;
+
+// How long the bodies are at most.
+const RESULTS_LENGTH: usize = layout::RESULTS_HEAD + layout::COLUMN_SIZE * MOST_COLUMNS;
+
+const MAP_LENGTH: usize = layout::MAP_HEAD + layout::HEX_SIZE * MOST_HEXES;
+
+const UNITS_LENGTH: usize = layout::UNITS_HEAD + layout::UNIT_SIZE * layout::MOST_UNITS;
+
+const DESK_LENGTH: usize = layout::PLAYERS + layout::FORCES;
+
+// Whether a scenario is open, and the first line that could not be read; the map's size, once it is told; how many columns, units and routes
+// are told, and whether the players are; the five bodies, each with room for the most that it can hold; and what was said before.
+#[derive(Drop)]
 pub struct Draft {
     pub open: bool,
-    pub length: usize,
-    pub comment: bool,
-    pub width: usize,
-    pub height: usize,
-    pub hexes: usize,
+    pub unread: Option<usize>,
+    pub size: Option<Size>,
     pub columns: usize,
     pub units: usize,
     pub routes: usize,
     pub players: bool,
-    pub unread: usize,
+    chart: [u8; layout::CHART_LENGTH],
+    results: [u8; RESULTS_LENGTH],
+    map: [u8; MAP_LENGTH],
+    roster: [u8; UNITS_LENGTH],
+    desk: [u8; DESK_LENGTH],
+    said: [bool; THINGS],
+    ghost columns_fit: { columns ≤ 12 },
+    ghost units_fit: { units ≤ 400 },
+    ghost routes_fit: { routes ≤ 6 },
 }
 
-// No scenario is open.
-pub fn closed() -> Draft {
-    Draft {
-        open: false,
-        length: 0,
-        comment: false,
-        width: 0,
-        height: 0,
-        hexes: 0,
-        columns: 0,
-        units: 0,
-        routes: 0,
-        players: false,
-        unread: 0,
+impl Draft {
+    // No scenario is open. Every number has its plain value: terrains cost 1 and rivers nothing, and none multiplies; there are no columns;
+    // every hex is plain land without sides; there are no units; it is turn 1 of 60, S.A.U., land movement, no battle and no routes.
+    pub fn new() -> Draft {
+        let mut draft = Draft {
+            open: false,
+            unread: None,
+            size: None,
+            columns: 0,
+            units: 0,
+            routes: 0,
+            players: false,
+            chart: [1; layout::CHART_LENGTH],
+            results: [0; RESULTS_LENGTH],
+            map: [0; MAP_LENGTH],
+            roster: [0; UNITS_LENGTH],
+            desk: [0; DESK_LENGTH],
+            said: [false; THINGS],
+        };
+        draft.set_chart(layout::RIVER, layout::COST, 0);
+        draft.set_chart(layout::MAJOR_RIVER, layout::COST, 0);
+        draft.set_desk(layout::TURN, 1);
+        draft.set_desk(layout::LAST_TURN, 60);
+        draft.desk[layout::ROUTES..layout::PLAYERS].fill(255);
+        draft
     }
-}
-
-// A scenario of which nothing is told yet: every number has its plain value.
-pub fn open(room: &mut Room) -> Draft {
-    land::plain(room);
-    table::plain(room);
-    said::nothing(room);
-    let mut d = closed();
-    d.open = true;
-    d
-}
-
-// A line could not be read. The first one is kept.
-pub fn unread(d: Draft, line: usize) -> Draft {
-    let before = d.unread;
-    if before != 0 {
-        return d;
-    }
-    let mut after = d;
-    after.unread = line;
-    after
 }

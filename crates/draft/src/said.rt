@@ -1,41 +1,46 @@
 // What was said before: each hex, each row of the chart and some lines may be said once, in a line that can be read.
-use crate::places;
-use crate::places::{MOST_HEXES, SAID, SAID_ROOM};
+use crate::{Draft, MOST_HEXES};
 use position::layout;
-use reading::rooms::Room;
 
-// The things: a hex by its number, a row of the chart behind the hexes, then the lines.
-pub const CHART: usize = MOST_HEXES;
-
-pub const TURN: usize = MOST_HEXES + layout::CHART_ROWS;
-
-pub const FORCE: usize = TURN + 1;
-
-pub const PHASE: usize = TURN + 2;
-
-pub const PLAYERS: usize = TURN + 3;
-
-pub const STAGE: usize = TURN + 4;
-
-// No thing.
-pub const NONE: usize = SAID_ROOM;
-
-pub fn nothing(room: &mut Room) {
-    places::fill(room, SAID, SAID_ROOM, 0);
+#[derive(Clone, Copy)]
+pub enum Thing {
+    Hex(usize),
+    Row(usize),
+    Turn,
+    Force,
+    Phase,
+    Players,
+    Stage,
 }
 
-// Whether a thing was said before.
-pub fn was(room: &Room, thing: usize) -> bool {
-    if SAID_ROOM <= thing {
-        return false;
+// Behind the hexes stand the rows of the chart, and then the lines.
+const LINES: usize = MOST_HEXES + layout::CHART_ROWS;
+
+pub const THINGS: usize = LINES + 5;
+
+impl Thing {
+    fn place(self) -> usize {
+        match self {
+            Thing::Hex(hex) => hex,
+            Thing::Row(row) => MOST_HEXES.saturating_add(row),
+            Thing::Turn => LINES,
+            Thing::Force => LINES + 1,
+            Thing::Phase => LINES + 2,
+            Thing::Players => LINES + 3,
+            Thing::Stage => LINES + 4,
+        }
     }
-    room[SAID + thing] != 0
 }
 
-// A thing is said from here on.
-pub fn mark(room: &mut Room, thing: usize) {
-    if SAID_ROOM <= thing {
-        return;
+impl Draft {
+    pub fn was_said(&self, thing: Thing) -> bool {
+        self.said.get(thing.place()).copied().unwrap_or(false)
     }
-    room[SAID + thing] = 1;
+
+    // A thing is said from here on.
+    pub fn say(&mut self, thing: Thing) {
+        if let Some(said) = self.said.get_mut(thing.place()) {
+            *said = true;
+        }
+    }
 }

@@ -1,36 +1,47 @@
-// The line that is being read, without its comment. One that has no room is kept as one byte longer than the room.
-use crate::{Draft, places};
-use reading::rooms::Room;
+// The line that is being read, without its comment.
 
-// Where the line begins.
-pub const START: usize = places::LINE;
+// How many bytes a line has at most.
+pub const ROOM: usize = 400;
 
-pub const ROOM: usize = places::LINE_ROOM;
-
-// The line with one byte more.
-pub fn add(d: Draft, b: u8, room: &mut Room) -> Draft {
-    if d.comment {
-        return d;
-    }
-    let mut after = d;
-    if b == b'#' {
-        after.comment = true;
-        return after;
-    }
-    let k = d.length;
-    if ROOM <= k {
-        after.length = ROOM + 1;
-        return after;
-    }
-    room[START + k] = b;
-    after.length = k + 1;
-    after
+// How many bytes there were, and those that have room; and whether the comment has begun.
+#[derive(Clone, Copy)]
+pub struct Text {
+    bytes: [u8; ROOM],
+    length: usize,
+    comment: bool,
 }
 
-// The next line begins.
-pub fn next(d: Draft) -> Draft {
-    let mut after = d;
-    after.length = 0;
-    after.comment = false;
-    after
+impl Text {
+    pub fn new() -> Text {
+        Text {
+            bytes: [0; ROOM],
+            length: 0,
+            comment: false,
+        }
+    }
+
+    // The next line begins.
+    pub fn clear(&mut self) {
+        self.length = 0;
+        self.comment = false;
+    }
+
+    // One byte more.
+    pub fn add(&mut self, b: u8) {
+        if b == b'#' {
+            self.comment = true;
+        }
+        if self.comment {
+            return;
+        }
+        if let Some(place) = self.bytes.get_mut(self.length) {
+            *place = b;
+        }
+        self.length = self.length.saturating_add(1);
+    }
+
+    // The line, if it had room.
+    pub fn line(&self) -> Option<&[u8]> {
+        self.bytes.get(..self.length)
+    }
 }

@@ -1,84 +1,63 @@
-// The units as they are told.
+// The units as they are told. The one that is being told is the last.
 ghost use Rattle.std.specs.Prelude.{◌<◌};
 
-use crate::places::UNITS;
-use crate::{Draft, places};
+use crate::Draft;
+use crate::bytes::{low, set_word};
 use position::kind::Kind;
 use position::{bits, layout};
-use reading::rooms::Room;
-
-// Byte `f` of a unit.
-pub fn set_unit(room: &mut Room, unit: usize, f: usize, x: usize)
-    requires { f < 8 }
-{
-    if layout::MOST_UNITS <= unit {
-        return;
-    }
-    let units = UNITS + layout::UNITS_HEAD;
-    places::set(room, units + layout::UNIT_SIZE * unit + f, x);
-}
-
-// Where a unit stands.
-pub fn place(room: &mut Room, unit: usize, hex: usize) {
-    set_unit(room, unit, layout::HEX, hex);
-    set_unit(room, unit, layout::HEX + 1, hex / 256);
-}
-
-fn marks(room: &Room, unit: usize) -> usize {
-    if layout::MOST_UNITS <= unit {
-        return 0;
-    }
-    let at = UNITS + layout::UNITS_HEAD + layout::UNIT_SIZE * unit + layout::MARKS;
-    places::wide(room[at])
-}
-
-// One mark more, if it is not there yet.
-pub fn mark(room: &mut Room, unit: usize, bit: usize)
-    requires { 0 < bit }
-{
-    let m = marks(room, unit);
-    if bits::has(bit, m) {
-        return;
-    }
-    let all = std::num::wrapping_add_usize(m, bit);
-    set_unit(room, unit, layout::MARKS, all);
-}
 
 // Supply units do not move. The plain allowance of all others is 6.
 fn plain_allowance(kind: usize) -> usize {
-    if kind == Kind::SUPPLY {
-        return 0;
-    }
-    6
+    if kind == Kind::SUPPLY { 0 } else { 6 }
 }
 
 // Only types that are always tried have a mark unless it is said.
 fn plain_marks(kind: usize) -> usize {
     if Kind(kind).always_tried() {
-        return bits::TRIED;
+        bits::TRIED
+    } else {
+        0
     }
-    0
 }
 
-// One unit more. There is room for 400.
-pub fn add(d: Draft, room: &mut Room) -> Draft {
-    let u = d.units;
-    if layout::MOST_UNITS <= u {
-        return d;
+impl Draft {
+    // One unit more. There is room for 400.
+    pub fn add_unit(&mut self) {
+        if self.units < layout::MOST_UNITS {
+            self.units += 1;
+            set_word(&mut self.roster, 0, self.units);
+        }
     }
-    places::set_word(room, UNITS, u + 1);
-    let mut after = d;
-    after.units = u + 1;
-    after
-}
 
-// A unit is plain: in the box, with strength 5 and the allowance and marks of its type.
-pub fn plain(room: &mut Room, unit: usize, nationality: usize, kind: usize) {
-    set_unit(room, unit, layout::NATIONALITY, nationality);
-    set_unit(room, unit, layout::KIND, kind);
-    place(room, unit, layout::NOWHERE);
-    set_unit(room, unit, layout::STRENGTH, 5);
-    set_unit(room, unit, layout::ALLOWANCE, plain_allowance(kind));
-    set_unit(room, unit, layout::MARKS, plain_marks(kind));
-    set_unit(room, unit, layout::ROLE, 0);
+    // A unit is plain: in the box, with strength 5 and the allowance and marks of its type.
+    pub fn plain_unit(&mut self, nationality: usize, kind: usize) {
+        self.set_unit(layout::NATIONALITY, nationality);
+        self.set_unit(layout::KIND, kind);
+        self.place(layout::NOWHERE);
+        self.set_unit(layout::STRENGTH, 5);
+        self.set_unit(layout::ALLOWANCE, plain_allowance(kind));
+        self.set_unit(layout::MARKS, plain_marks(kind));
+        self.set_unit(layout::ROLE, 0);
+    }
+
+    // Byte `f` of the unit.
+    pub fn set_unit(&mut self, f: usize, x: usize)
+        requires { f < 8 }
+    {
+        let unit = self.units.saturating_sub(1);
+        self.roster[layout::UNITS_HEAD + layout::UNIT_SIZE * unit + f] = low(x);
+    }
+
+    // Where the unit stands.
+    pub fn place(&mut self, hex: usize) {
+        self.set_unit(layout::HEX, hex);
+        self.set_unit(layout::HEX + 1, hex / 256);
+    }
+
+    // One mark more, if it is not there yet.
+    pub fn mark(&mut self, bit: usize) {
+        let unit = self.units.saturating_sub(1);
+        let at = layout::UNITS_HEAD + layout::UNIT_SIZE * unit + layout::MARKS;
+        self.roster[at] |= low(bit);
+    }
 }

@@ -3,79 +3,65 @@
 
 ghost use Rattle.grid.specs.Map.{On};
 
-use grid::Beside;
+use page::Page;
 
-// The descriptor of the standard output.
-const STDOUT: i32 = 1;
-
-fn text(bytes: &[u8]) {
-    io::write_all(STDOUT, bytes);
+// A map's width and height.
+#[derive(Clone, Copy)]
+struct Map {
+    w: usize,
+    h: usize,
 }
 
-fn number(n: usize) {
-    io::print_decimal(STDOUT, n as u64);
-}
-
-fn map(w: usize, h: usize) {
-    number(w);
-    text(b" x ");
-    number(h);
-}
-
-// A blank, and the neighbour in a direction.
-fn beside(w: usize, h: usize, hex: usize, dir: usize) {
-    text(b" ");
-    let b = grid::neighbour(w, h, hex, dir);
-    match b {
-        Beside::At(i) => number(i),
-        Beside::Off => text(b"-"),
+impl Map {
+    // As `5 x 5`.
+    fn size(self, page: &mut Page) {
+        page.number(self.w);
+        page.word(" x ", self.h);
     }
-}
 
-// The neighbours in all six directions.
-fn six(w: usize, h: usize, hex: usize) {
-    for dir in 0..6 {
-        beside(w, h, hex, dir);
+    // As `5 x 5: beside 12 lie 7 8 13 17 11 6`.
+    fn around(self, page: &mut Page, hex: usize) {
+        self.size(page);
+        page.word(": beside ", hex);
+        page.text(" lie");
+        for dir in 0..6 {
+            match grid::neighbour(self.w, self.h, hex, dir) {
+                Some(i) => page.word(" ", i),
+                None => page.text(" -"),
+            }
+        }
+        page.line();
     }
-}
 
-// As `5 x 5: beside 12 lie 7 8 13 17 11 6`.
-fn around(w: usize, h: usize, hex: usize) {
-    map(w, h);
-    text(b": beside ");
-    number(hex);
-    text(b" lie");
-    six(w, h, hex);
-    text(b"\n");
-}
-
-// As `5 x 5: from 0 to 24 it is 6`.
-fn between(w: usize, h: usize, a: usize, b: usize)
-    requires on { On w h a }
-    requires on_2 { On w h b }
-{
-    map(w, h);
-    text(b": from ");
-    number(a);
-    text(b" to ");
-    number(b);
-    text(b" it is ");
-    number(grid::distance(w, h, a, b));
-    text(b"\n");
+    // As `5 x 5: from 0 to 24 it is 6`.
+    fn between(self, page: &mut Page, a: usize, b: usize)
+        requires from { On self.w self.h a }
+        requires to { On self.w self.h b }
+    {
+        self.size(page);
+        page.word(": from ", a);
+        page.word(" to ", b);
+        page.word(" it is ", grid::distance(self.w, self.h, a, b));
+        page.line();
+    }
 }
 
 fn main() {
-    around(5, 5, 12);
-    around(5, 5, 6);
-    around(5, 5, 25);
-    around(1, 1, 0);
-    around(64, 64, 4095);
-    between(5, 5, 12, 12);
-    between(5, 5, 12, 7);
-    between(5, 5, 12, 2);
-    between(5, 5, 0, 24);
-    between(64, 64, 0, 63);
-    between(64, 64, 0, 4032);
-    between(64, 64, 0, 4095);
-    between(64, 64, 63, 4032);
+    let page = &mut Page::new();
+    let small = Map { w: 5, h: 5 };
+    small.around(page, 12);
+    small.around(page, 6);
+    small.around(page, 25);
+    Map { w: 1, h: 1 }.around(page, 0);
+    let large = Map { w: 64, h: 64 };
+    large.around(page, 4095);
+    small.between(page, 12, 12);
+    small.between(page, 12, 7);
+    small.between(page, 12, 2);
+    small.between(page, 0, 24);
+    large.between(page, 0, 63);
+    large.between(page, 0, 4032);
+    large.between(page, 0, 4095);
+    large.between(page, 63, 4032);
+    page.flush();
 }

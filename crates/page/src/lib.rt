@@ -1,173 +1,137 @@
-// Output by way of a buffer. Each function takes how full the buffer is, and answers how full it is then.
+// A page of output. What is put on it is written out when the page is full, and when it is flushed.
 #![tactic(auto)]
 
-ghost use Rattle.io.specs.Counts.{IsPrefixLen};
+ghost use Rattle.std.specs.Prelude.{◌≡◌, ◌≤◌};
 
-// The descriptor of the standard output.
+// The descriptors of the standard output and of the standard error.
 const STDOUT: i32 = 1;
 
-// For the output, until it is written.
-pub type Output = [u8; 65536];
+const STDERR: i32 = 2;
 
-// `n`, or the length of `s` where that is less.
-pub fn within(n: usize, s: &[u8]) -> usize
-    ensures { IsPrefixLen result s.now }
-{
-    if s.len() < n {
-        return s.len();
+// How many bytes a page holds.
+const SIZE: usize = 65536;
+
+// The digits of a hex number.
+const DIGITS: [u8; 16] = *b"0123456789abcdef";
+
+#[derive(Drop)]
+pub struct Page {
+    descriptor: i32,
+    bytes: [u8; SIZE],
+    full: usize,
+    ghost fits: { full ≤ 65536 },
+}
+
+impl Page {
+    // A page of the standard output.
+    pub fn new() -> Page {
+        Page::of(STDOUT)
     }
-    n
-}
 
-// Writes out what the buffer holds.
-pub fn flush(out: &[u8], full: usize) {
-    let n = within(full, out);
-    io::write_all(STDOUT, &out[..n]);
-}
-
-pub fn put(out: &mut Output, full: usize, b: u8) -> usize {
-    if full < 65536 {
-        out[full] = b;
-        return full + 1;
+    // A page of the standard error.
+    pub fn of_errors() -> Page {
+        Page::of(STDERR)
     }
-    flush(out, 65536);
-    out[0] = b;
-    1
-}
 
-pub fn text(out: &mut Output, full: usize, bytes: &[u8]) -> usize {
-    let mut f = full;
-    for i in 0..bytes.len() {
-        f = put(out, f, bytes[i]);
-    }
-    f
-}
-
-// Where word `n` begins, from 0 on, of words with a bar between them: the length where there are not so many.
-fn begins(words: &[u8], n: usize) -> usize {
-    let mut left = n;
-    for i in 0..words.len() {
-        if left == 0 {
-            return i;
-        }
-        if words[i] == b'|' {
-            left -= 1;
+    fn of(descriptor: i32) -> Page {
+        Page {
+            descriptor,
+            bytes: [0; SIZE],
+            full: 0,
         }
     }
-    words.len()
-}
 
-// Whether a word begins at `at`, and not the next bar.
-fn is_word(words: &[u8], at: usize) -> bool {
-    if words.len() <= at {
-        return false;
+    // Writes out what the page holds.
+    pub fn flush(&mut self)
+        ensures { self.new.full ≡ 0 }
+    {
+        io::write_all(self.descriptor, &self.bytes[..self.full]);
+        self.full = 0;
     }
-    words[at] != b'|'
-}
 
-// The bytes from `from` up to the next bar.
-fn up_to_bar(out: &mut Output, full: usize, words: &[u8], from: usize) -> usize {
-    let mut f = full;
-    for i in from..words.len() {
-        if words[i] == b'|' {
-            return f;
+    pub fn put(&mut self, b: u8) {
+        if SIZE <= self.full {
+            self.flush();
         }
-        f = put(out, f, words[i]);
+        self.bytes[self.full] = b;
+        self.full += 1;
     }
-    f
-}
 
-// Word `n`, from 0 on, of words with a bar between them. What has no word there is written as `?`.
-pub fn nth(out: &mut Output, full: usize, words: &[u8], n: usize) -> usize {
-    let at = begins(words, n);
-    if is_word(words, at) {
-        return up_to_bar(out, full, words, at);
-    }
-    put(out, full, b'?')
-}
-
-// Blanks, one for each number from `from` up to `to`.
-pub fn blanks(out: &mut Output, full: usize, from: usize, to: usize) -> usize {
-    let mut f = full;
-    for _ in from..to {
-        f = put(out, f, b' ');
-    }
-    f
-}
-
-pub fn number(out: &mut Output, full: usize, n: usize) -> usize {
-    let mut digits = [0u8; 20];
-    let k = io::decimal(n as u64, &mut digits);
-    text(out, full, &digits[..k])
-}
-
-// A number with blanks before it, up to `width`.
-pub fn column(out: &mut Output, full: usize, n: usize, width: usize) -> usize {
-    let mut digits = [0u8; 20];
-    let k = io::decimal(n as u64, &mut digits);
-    let f = blanks(out, full, k, width);
-    text(out, f, &digits[..k])
-}
-
-// A word with its blank, and a number.
-pub fn word(out: &mut Output, full: usize, word: &[u8], n: usize) -> usize {
-    let f = text(out, full, word);
-    number(out, f, n)
-}
-
-// A word with its blank, and two numbers.
-pub fn pair(out: &mut Output, full: usize, word: &[u8], a: usize, b: usize) -> usize {
-    let f = text(out, full, word);
-    let h = number(out, f, a);
-    let k = put(out, h, b' ');
-    number(out, k, b)
-}
-
-pub fn line(out: &mut Output, full: usize) -> usize {
-    put(out, full, b'\n')
-}
-
-// How full the buffer is without the blanks at its end.
-fn trimmed(out: &[u8], full: usize) -> usize {
-    let mut f = within(full, out);
-    while 0 < f {
-        if out[f - 1] != b' ' {
-            return f;
+    pub fn bytes(&mut self, bytes: &[u8]) {
+        for b in bytes {
+            self.put(*b);
         }
-        f -= 1;
     }
-    0
-}
 
-// The line ends, and the blanks before its end are taken back as far as they are not written yet.
-pub fn trimmed_line(out: &mut Output, full: usize) -> usize {
-    let f = trimmed(out, full);
-    line(out, f)
-}
-
-// The last hex digit of a number.
-fn digit(n: u8) -> u8 {
-    let d = n % 16;
-    if d < 10 {
-        return d + 48;
+    pub fn text(&mut self, text: &str) {
+        self.bytes(text.as_bytes());
     }
-    d + 87
-}
 
-fn pairs(out: &mut Output, full: usize, bytes: &[u8]) -> usize {
-    let mut f = full;
-    for i in 0..bytes.len() {
-        let b = bytes[i];
-        f = put(out, f, digit(b / 16));
-        f = put(out, f, digit(b));
+    // The text, if it holds.
+    pub fn text_if(&mut self, holds: bool, text: &str) {
+        if holds {
+            self.text(text);
+        }
     }
-    f
-}
 
-// Hex digits, or `-` for no bytes.
-pub fn hex(out: &mut Output, full: usize, bytes: &[u8]) -> usize {
-    if bytes.len() == 0 {
-        return text(out, full, b"-");
+    // Word `n` of the words, from 0 on. What has no word there is written as `?`.
+    pub fn nth(&mut self, words: &[&str], n: usize) {
+        match words.get(n) {
+            Some(word) => self.text(word),
+            None => self.put(b'?'),
+        }
     }
-    pairs(out, full, bytes)
+
+    // So many blanks.
+    pub fn blanks(&mut self, n: usize) {
+        for _ in 0..n {
+            self.put(b' ');
+        }
+    }
+
+    pub fn number(&mut self, n: usize) {
+        self.column(n, 0);
+    }
+
+    // A number with blanks before it, up to `width`.
+    pub fn column(&mut self, n: usize, width: usize) {
+        let mut digits = [0u8; 20];
+        let k = io::decimal(n as u64, &mut digits);
+        self.blanks(width.saturating_sub(k));
+        self.bytes(&digits[..k]);
+    }
+
+    // A text with its blank, and a number.
+    pub fn word(&mut self, text: &str, n: usize) {
+        self.text(text);
+        self.number(n);
+    }
+
+    // A text with its blank, and two numbers.
+    pub fn pair(&mut self, text: &str, a: usize, b: usize) {
+        self.word(text, a);
+        self.word(" ", b);
+    }
+
+    pub fn line(&mut self) {
+        self.put(b'\n');
+    }
+
+    // The line ends, and the blanks before its end are taken back as far as they are not written yet.
+    pub fn trimmed_line(&mut self) {
+        let kept = self.bytes[..self.full].iter().rposition(|b| *b != b' ');
+        self.full = kept.map_or(0, |last| last + 1);
+        self.line();
+    }
+
+    // Hex digits, or `-` for no bytes.
+    pub fn hex(&mut self, bytes: &[u8]) {
+        if bytes.is_empty() {
+            self.put(b'-');
+        }
+        for b in bytes {
+            self.put(DIGITS[(b / 16) as usize]);
+            self.put(DIGITS[(b % 16) as usize]);
+        }
+    }
 }

@@ -1,54 +1,30 @@
 // Decimal numbers.
-use crate::{Fault, Figure, LARGE, Word};
-use reading::rooms::Room;
+ghost use Rattle.std.specs.Prelude.{◌≤◌, IfOk};
 
-// What stands for a word that is no number.
-const NO_NUMBER: usize = 65537;
+use crate::Fault;
 
-// The number with one digit more.
-fn grow(n: usize, b: u8) -> usize {
-    if b < b'0' {
-        return NO_NUMBER;
+// What a word's digits come to. A number that is too large for a `usize` is read as the largest one.
+fn value(word: &[u8]) -> Option<usize> {
+    if word.is_empty() {
+        return None;
     }
-    if b'9' < b {
-        return NO_NUMBER;
-    }
-    if LARGE <= n {
-        return n;
-    }
-    let more = n * 10 + (b - b'0') as usize;
-    if LARGE < more {
-        return LARGE;
-    }
-    more
-}
-
-// The digits from one place to before another.
-fn digits(room: &Room, from: usize, to: usize) -> usize {
-    let mut n = 0;
-    for i in from..to {
-        n = grow(n, crate::byte(room, i));
-        if n == NO_NUMBER {
-            return n;
+    let mut n = 0usize;
+    for b in word {
+        if !b.is_ascii_digit() {
+            return None;
         }
+        n = n.saturating_mul(10).saturating_add(usize::from(b - b'0'));
     }
-    n
+    Some(n)
 }
 
 // The number that a word says, if it is one of `least` to `most`.
-pub fn number(room: &Room, w: Word, least: usize, most: usize) -> Figure {
-    if crate::none(w) {
-        return Figure::Not(Fault::Missing);
+pub fn number(word: &[u8], least: usize, most: usize) -> Result<usize, Fault<'_>>
+    ensures { IfOk result (λ n. (least ≤ n) × (n ≤ most)) }
+{
+    let n = value(word).ok_or(Fault::NoNumber(word))?;
+    if n < least || most < n {
+        return Err(Fault::Range { word, least, most });
     }
-    let n = digits(room, w.from, w.to);
-    if n == NO_NUMBER {
-        return Figure::Not(Fault::NoNumber(w));
-    }
-    if n < least {
-        return Figure::Not(Fault::Range(w, least, most));
-    }
-    if most < n {
-        return Figure::Not(Fault::Range(w, least, most));
-    }
-    Figure::Of(n)
+    Ok(n)
 }

@@ -3,7 +3,7 @@
 -- Assumes nothing.
 use Rattle.std.specs.Prelude.{ℕ, ◌≡◌}
 use Rattle.position.specs.Board.{Board}
-use Rattle.picture.specs.declared.Ground.{Ground}
+use Rattle.picture.specs.declared.hexes.Ground.{Ground}
 
 -- hex h, as the board shows it
 pub record GroundOf (b : Board) (h : ℕ) (r : Ground) : Type 0 where

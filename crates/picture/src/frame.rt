@@ -2,163 +2,130 @@
 ghost use Rattle.std.specs.Prelude.{◌≤◌};
 ghost use Rattle.position.specs.Laid.{Laid};
 
-use page::Output;
+use page::Page;
 use position::View;
+use story::table;
 use wording::names;
 
 // The key's least width. It is drawn in a room of 640 by 260, and scaled to its width.
 const LEAST: usize = 640;
 
-// How wide and how high the picture is; where the key begins; how wide and how high that is.
 #[derive(Clone, Copy)]
-struct Frame {
+struct Size {
     wide: usize,
     high: usize,
+}
+
+impl Size {
+    // Width and height as they stand in a sign.
+    fn extent(self, page: &mut Page) {
+        page.word(" width='", self.wide);
+        page.word("' height='", self.high);
+        page.put(b'\'');
+    }
+}
+
+// How large the picture is, where the key begins, and how large that is.
+#[derive(Clone, Copy)]
+struct Frame {
+    paper: Size,
     below: usize,
-    key_wide: usize,
-    key_high: usize,
+    key: Size,
 }
 
-// As wide as the map or as the least key.
-fn inner(map: usize) -> usize
-    requires { map ≤ 6000 }
-    ensures { result ≤ 6000 }
-{
-    if map < LEAST {
-        return LEAST;
+impl Frame {
+    // The frame of a map of so many columns and rows: as wide as the map or as the least key. The key grows with the picture, but less.
+    fn of(columns: usize, rows: usize) -> Frame
+        requires { (columns ≤ 64) × (rows ≤ 64) }
+    {
+        let inner = LEAST.max(90 * columns + 30);
+        let below = 104 * rows + 62;
+        let wide = inner.min(LEAST + inner / 4);
+        let key = Size {
+            wide,
+            high: wide * 260 / 640,
+        };
+        let paper = Size {
+            wide: inner + 40,
+            high: below + key.high + 40,
+        };
+        Frame { paper, below, key }
     }
-    map
-}
 
-// The key grows with the picture, but less.
-fn key(inner: usize) -> usize
-    requires { inner ≤ 6000 }
-    ensures { result ≤ 6000 }
-{
-    let most = LEAST + inner / 4;
-    if most < inner {
-        return most;
+    // The first line.
+    fn first(self, page: &mut Page) {
+        page.text("<svg xmlns='http://www.w3.org/2000/svg'");
+        self.paper.extent(page);
+        page.pair(" viewBox='-20 -20 ", self.paper.wide, self.paper.high);
+        page.text("' font-family='sans-serif' text-anchor='middle'>\n");
     }
-    inner
-}
 
-// The sizes for a map of so many columns and rows.
-fn sizes(columns: usize, rows: usize) -> Frame
-    requires { (columns ≤ 64) × (rows ≤ 64) }
-{
-    let wide = inner(90 * columns + 30);
-    let below = 104 * rows + 62;
-    let key_wide = key(wide);
-    let key_high = key_wide * 260 / 640;
-    Frame {
-        wide: wide + 40,
-        high: below + key_high + 40,
-        below: below,
-        key_wide: key_wide,
-        key_high: key_high,
+    fn paper(self, page: &mut Page) {
+        page.text("<rect x='-20' y='-20'");
+        self.paper.extent(page);
+        page.text(" fill='#fff'/>\n");
     }
-}
 
-// Width and height as they stand in a sign.
-fn extent(out: &mut Output, full: usize, wide: usize, high: usize) -> usize {
-    let f = page::word(out, full, b" width='", wide);
-    let h = page::word(out, f, b"' height='", high);
-    page::put(out, h, b'\'')
-}
-
-// The first line.
-fn first(out: &mut Output, full: usize, s: Frame) -> usize {
-    let f = page::text(out, full, b"<svg xmlns='http://www.w3.org/2000/svg'");
-    let h = extent(out, f, s.wide, s.high);
-    let k = page::pair(out, h, b" viewBox='-20 -20 ", s.wide, s.high);
-    page::text(
-        out,
-        k,
-        b"' font-family='sans-serif' text-anchor='middle'>\n",
-    )
-}
-
-fn paper(out: &mut Output, full: usize, s: Frame) -> usize {
-    let f = page::text(out, full, b"<rect x='-20' y='-20'");
-    let h = extent(out, f, s.wide, s.high);
-    page::text(out, h, b" fill='#fff'/>\n")
+    // The last lines: the key is put where it belongs.
+    fn end(self, page: &mut Page) {
+        page.word("</symbol>\n<use href='#key' y='", self.below);
+        page.put(b'\'');
+        self.key.extent(page);
+        page.text("/>\n</svg>\n");
+    }
 }
 
 // What stands before the map: a title for those who do not see it, the paper, and the signs.
-pub fn head(out: &mut Output, full: usize, p: &[u8], v: View) -> usize
+pub fn head(page: &mut Page, p: &[u8], v: View)
     requires { Laid p.now v }
 {
-    let s = sizes(v.width, v.height);
-    let f = first(out, full, s);
-    let h = page::text(out, f, b"<title>");
-    let k = story::table::state(out, h, p, v);
-    let m = page::text(out, k, b"</title>\n");
-    let n = paper(out, m, s);
-    signs::define(out, n)
-}
-
-// Whom the shades are for, if the picture has some.
-fn shaded(out: &mut Output, full: usize, nationality: usize) -> usize {
-    if story::NOBODY <= nationality {
-        return full;
-    }
-    let f = page::text(
-        out,
-        full,
-        b"<text x='6' y='42' font-size='12' text-anchor='start'>shaded for ",
-    );
-    let h = names::nationality(out, f, nationality);
-    page::text(
-        out,
-        h,
-        b": + where it is supplied, slanting lines in the zones of its Enemies</text>\n",
-    )
+    let frame = Frame::of(v.width, v.height);
+    frame.first(page);
+    page.text("<title>");
+    table::state(page, p, v);
+    page.text("</title>\n");
+    frame.paper(page);
+    signs::define(page);
 }
 
 // Turn, force, phase and stage.
-fn caption(out: &mut Output, full: usize, p: &[u8], v: View) -> usize
+fn caption(page: &mut Page, p: &[u8], v: View)
     requires { Laid p.now v }
 {
-    let f = page::text(
-        out,
-        full,
-        b"<symbol id='key' viewBox='0 0 640 260'>\n<text x='6' y='22' font-size='15' font-weight='bold' text-anchor='start'>",
-    );
-    let h = story::table::state(out, f, p, v);
-    page::text(out, h, b"</text>\n")
+    page.text("<symbol id='key' viewBox='0 0 640 260'>\n");
+    page.text("<text x='6' y='22' font-size='15' font-weight='bold' text-anchor='start'>");
+    table::state(page, p, v);
+    page.text("</text>\n");
+}
+
+// Whom the shades are for.
+fn shaded(page: &mut Page, nationality: usize) {
+    page.text("<text x='6' y='42' font-size='12' text-anchor='start'>shaded for ");
+    names::nationality(page, nationality);
+    page.text(": + where it is supplied, slanting lines in the zones of its Enemies</text>\n");
 }
 
 // Who plays whom, if the desk says so.
-fn players(out: &mut Output, full: usize, p: &[u8], v: View) -> usize
+fn players(page: &mut Page, p: &[u8], v: View)
     requires { Laid p.now v }
 {
     if v.players == 0 {
-        return full;
+        return;
     }
-    let f = page::text(
-        out,
-        full,
-        b"<text x='6' y='252' font-size='10' text-anchor='start'>",
-    );
-    let h = story::table::players(out, f, p, v);
-    page::text(out, h, b"</text>\n")
-}
-
-// The last lines: the key is put where it belongs.
-fn end(out: &mut Output, full: usize, s: Frame) -> usize {
-    let f = page::word(out, full, b"</symbol>\n<use href='#key' y='", s.below);
-    let h = page::put(out, f, b'\'');
-    let k = extent(out, h, s.key_wide, s.key_high);
-    page::text(out, k, b"/>\n</svg>\n")
+    page.text("<text x='6' y='252' font-size='10' text-anchor='start'>");
+    table::players(page, p, v);
+    page.text("</text>\n");
 }
 
 // What stands below the map: the clock and the stage in words, the key, and the players.
-pub fn foot(out: &mut Output, full: usize, p: &[u8], v: View, nationality: usize) -> usize
+pub fn foot(page: &mut Page, p: &[u8], v: View, nationality: Option<usize>)
     requires { Laid p.now v }
 {
-    let f = caption(out, full, p, v);
-    let h = shaded(out, f, nationality);
-    let k = signs::key(out, h, nationality < story::NOBODY);
-    let m = players(out, k, p, v);
-    end(out, m, sizes(v.width, v.height))
+    caption(page, p, v);
+    if let Some(n) = nationality {
+        shaded(page, n);
+    }
+    signs::key(page, nationality.is_some());
+    players(page, p, v);
+    Frame::of(v.width, v.height).end(page);
 }

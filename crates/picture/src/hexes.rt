@@ -1,8 +1,12 @@
-// A hex: its ground, its signs, its number, and what its terrain costs and multiplies.
+// A hex: its ground, its sides, its signs, its number, and what its terrain costs and multiplies.
+ghost use Rattle.position.specs.Board.{board};
+ghost use Rattle.position.specs.Laid.{Laid};
+ghost use Rattle.picture.specs.Look.{GroundOf};
+
+use crate::place;
 use crate::place::Place;
-use crate::{Ground, place};
-use page::Output;
-use position::bits;
+use page::Page;
+use position::{View, bits, read};
 
 const COASTAL: usize = 1;
 
@@ -10,78 +14,98 @@ const ALL_SEA: usize = 2;
 
 const LAKE: usize = 3;
 
-// A terrain's pattern, if it has one.
-fn pattern(out: &mut Output, full: usize, n: usize, at: Place) -> usize {
-    if n == 0 {
-        return full;
+// What is drawn of a hex: what map and chart say of it.
+#[derive(Clone, Copy)]
+pub struct Ground {
+    pub number: usize,
+    pub surface: usize,
+    pub terrain: usize,
+    pub cost: usize,
+    pub multiple: usize,
+    pub flags: usize,
+    pub country: usize,
+    pub sides: usize,
+}
+
+impl Ground {
+    // Hex `h` of the board.
+    pub fn of(p: &[u8], v: View, h: usize) -> Ground
+        requires { Laid p.now v }
+        ensures { GroundOf (board p.now) h result }
+    {
+        let terrain = read::terrain(p, v, h);
+        Ground {
+            number: h,
+            surface: read::surface(p, v, h),
+            terrain,
+            cost: read::cost(p, v, terrain),
+            multiple: read::multiple(p, v, terrain),
+            flags: read::flags(p, v, h),
+            country: read::country(p, v, h),
+            sides: read::sides(p, v, h),
+        }
     }
-    place::numbered(out, full, b"p", n, at)
-}
 
-// Land or coast: four patterns in four tints make 16 terrains.
-fn land(out: &mut Output, full: usize, g: Ground, at: Place) -> usize {
-    let f = place::numbered(out, full, b"l", g.terrain / 4, at);
-    let h = pattern(out, f, g.terrain % 4, at);
-    let k = place::sign_if(out, h, g.surface == COASTAL, b"c", at);
-    place::sign_if(out, k, g.cost == 0, b"x", at)
-}
-
-fn surface(out: &mut Output, full: usize, g: Ground, at: Place) -> usize {
-    let s = g.surface;
-    match s {
-        ALL_SEA => place::sign(out, full, b"s", at),
-        LAKE => place::sign(out, full, b"o", at),
-        _ => land(out, full, g, at),
+    // Land or coast: four patterns, of which 0 is none, in four tints make 16 terrains.
+    fn land(self, page: &mut Page, at: Place) {
+        at.numbered(page, "l", self.terrain / 4);
+        if self.terrain % 4 != 0 {
+            at.numbered(page, "p", self.terrain % 4);
+        }
+        at.sign_if(page, self.surface == COASTAL, "c");
+        at.sign_if(page, self.cost == 0, "x");
     }
-}
 
-pub fn ground(out: &mut Output, full: usize, g: Ground, at: Place) -> usize {
-    let f = surface(out, full, g, at);
-    let h = place::sign_if(out, f, bits::has(bits::URBAN, g.flags), b"u", at);
-    page::line(out, h)
-}
-
-// The star of supply, by the country.
-fn star(out: &mut Output, full: usize, g: Ground, at: Place) -> usize {
-    if bits::has(bits::SUPPLY, g.flags) {
-        return place::numbered(out, full, b"q", g.country, at);
+    pub fn ground(self, page: &mut Page, at: Place) {
+        match self.surface {
+            ALL_SEA => at.sign(page, "s"),
+            LAKE => at.sign(page, "o"),
+            _ => self.land(page, at),
+        }
+        at.sign_if(page, bits::has(bits::URBAN, self.flags), "u");
+        page.line();
     }
-    full
-}
 
-// Port and supply.
-pub fn signs(out: &mut Output, full: usize, g: Ground, at: Place) -> usize {
-    let f = place::sign_if(out, full, bits::has(bits::PORT, g.flags), b"t", at);
-    star(out, f, g, at)
-}
+    // The sides that it keeps: N, NE and SE.
+    pub fn sides(self, page: &mut Page, at: Place) {
+        let sides = [self.sides % 4, self.sides / 4 % 4, self.sides / 16 % 4];
+        for (d, side) in sides.iter().enumerate() {
+            match *side {
+                ground::RIVER => at.numbered(page, "r", d),
+                ground::MAJOR_RIVER => at.numbered(page, "m", d),
+                ground::BLOCKED => at.numbered(page, "b", d),
+                _ => {}
+            }
+        }
+    }
 
-pub fn number(out: &mut Output, full: usize, g: Ground, at: Place) -> usize {
-    let f = place::text(out, full, at);
-    let h = page::number(out, f, g.number);
-    place::end(out, h)
-}
+    // Port, and the star of supply by the country.
+    pub fn signs(self, page: &mut Page, at: Place) {
+        at.sign_if(page, bits::has(bits::PORT, self.flags), "t");
+        if bits::has(bits::SUPPLY, self.flags) {
+            at.numbered(page, "q", self.country);
+        }
+    }
 
-// Whether a terrain has nothing to be noted: it is prohibited and hatched, or costs 1 and multiplies by 1.
-fn plain(g: Ground) -> bool {
-    if g.cost == 0 {
-        return true;
+    pub fn number(self, page: &mut Page, at: Place) {
+        at.begin_text(page);
+        page.number(self.number);
+        place::end_text(page);
     }
-    if g.cost == 1 {
-        return g.multiple == 1;
-    }
-    false
-}
 
-// Cost and multiple of land or coast.
-pub fn effect(out: &mut Output, full: usize, g: Ground, at: Place) -> usize {
-    if COASTAL < g.surface {
-        return full;
+    // Whether there is nothing to be noted: water, what is prohibited and hatched, or what costs 1 and multiplies by 1.
+    fn is_plain(self) -> bool {
+        COASTAL < self.surface || self.cost == 0 || (self.cost == 1 && self.multiple == 1)
     }
-    if plain(g) {
-        return full;
+
+    // Cost and multiple of land or coast.
+    pub fn effect(self, page: &mut Page, at: Place) {
+        if self.is_plain() {
+            return;
+        }
+        at.begin_text(page);
+        page.number(self.cost);
+        page.word("x", self.multiple);
+        place::end_text(page);
     }
-    let f = place::text(out, full, at);
-    let h = page::number(out, f, g.cost);
-    let k = page::word(out, h, b"x", g.multiple);
-    place::end(out, k)
 }

@@ -1,63 +1,39 @@
 // The map, layer over layer.
 ghost use Rattle.position.specs.Laid.{Laid};
 
-use crate::{rows, shades};
-use page::Output;
+use crate::hexes::Ground;
+use crate::sheet::Sheet;
+use crate::{counter, route, shades};
+use page::Page;
 use position::View;
 
-// A layer with something in common, which `opening` says.
-fn group(out: &mut Output, full: usize, p: &[u8], v: View, opening: &[u8], layer: usize) -> usize
-    requires { Laid p.now v }
-{
-    let f = page::text(out, full, opening);
-    let h = rows::layer(out, f, p, v, b"", layer);
-    page::text(out, h, b"</g>\n")
-}
+// What is the same for all numbers and costs: they are texts at the upper edge of their hexes.
+const NUMBERS: &str = "<g transform='translate(56 14)' font-size='9' fill='#333'>\n";
 
-// Numbers and costs are texts at the upper edge of their hexes.
-fn texts(out: &mut Output, full: usize, p: &[u8], v: View) -> usize
-    requires { Laid p.now v }
-{
-    let f = group(
-        out,
-        full,
-        p,
-        v,
-        b"<g transform='translate(56 14)' font-size='9' fill='#333'>\n",
-        rows::NUMBERS,
-    );
-    group(
-        out,
-        f,
-        p,
-        v,
-        b"<g transform='translate(83 14)' font-size='9' fill='#333'>\n",
-        rows::EFFECTS,
-    )
-}
+const EFFECTS: &str = "<g transform='translate(83 14)' font-size='9' fill='#333'>\n";
 
-pub fn map(out: &mut Output, full: usize, p: &[u8], v: View, nationality: usize) -> usize
+pub fn map(page: &mut Page, p: &[u8], v: View, nationality: Option<usize>)
     requires { Laid p.now v }
 {
-    let f = group(out, full, p, v, b"<g>\n", rows::GROUND);
-    let h = shades::shades(out, f, p, v, nationality);
-    let k = group(
-        out,
-        h,
-        p,
-        v,
-        b"<g fill='none' stroke-linecap='round'>\n",
-        rows::SIDES,
+    let sheet = Sheet { p, v };
+    sheet.grounds(page, "<g>\n", Ground::ground);
+    if let Some(n) = nationality {
+        shades::shades(page, p, v, n);
+    }
+    sheet.grounds(
+        page,
+        "<g fill='none' stroke-linecap='round'>\n",
+        Ground::sides,
     );
-    let m = group(out, k, p, v, b"<g>\n", rows::SIGNS);
-    let n = group(out, m, p, v, b"<g>\n", rows::ROUTES);
-    let q = texts(out, n, p, v);
-    group(
-        out,
-        q,
-        p,
-        v,
-        b"<g font-size='11' font-weight='bold'>\n",
-        rows::COUNTERS,
-    )
+    sheet.grounds(page, "<g>\n", Ground::signs);
+    sheet.group(page, "<g>\n", |page, h, at| {
+        at.sign_if(page, route::any_over(p, v, h), "e")
+    });
+    sheet.grounds(page, NUMBERS, Ground::number);
+    sheet.grounds(page, EFFECTS, Ground::effect);
+    sheet.group(
+        page,
+        "<g font-size='11' font-weight='bold'>\n",
+        |page, h, at| { counter::stack(page, p, v, h, at) },
+    );
 }

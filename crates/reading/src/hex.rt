@@ -1,70 +1,52 @@
 // Hex digits, two to a byte.
-ghost use Rattle.std.specs.Prelude.{◌<◌};
-
-use crate::rooms::Room;
 use crate::{Line, Stage};
 
-// What a digit stands for, or 16.
-fn value(b: u8) -> u8 {
-    if b < b'0' {
-        return 16;
+// What a digit stands for.
+fn value(b: u8) -> Option<u8> {
+    match b {
+        b'0'..=b'9' => Some(b - b'0'),
+        b'A'..=b'F' => Some(b - b'A' + 10),
+        b'a'..=b'f' => Some(b - b'a' + 10),
+        _ => None,
     }
-    if b <= b'9' {
-        return b - b'0';
-    }
-    if b < b'A' {
-        return 16;
-    }
-    if b <= b'F' {
-        return b - 55;
-    }
-    if b < b'a' {
-        return 16;
-    }
-    if b <= b'f' {
-        return b - 87;
-    }
-    16
 }
 
-// The second digit of a pair makes a byte of the new position.
-fn pair(l: Line, half: u8, d: u8, next: &mut Room) -> Line
-    requires half_bound { half < 16 }
-    requires d_bound { d < 16 }
-{
-    let k = l.bytes;
-    if 65535 <= k {
-        return crate::bad(l);
+impl Line {
+    // The first digit, or the dash of the empty position.
+    pub(crate) fn first_digit(&mut self, b: u8) {
+        if b == b'-' {
+            self.made = Some(0);
+            self.stage = Stage::Tail;
+        } else {
+            self.in_digits(None, b);
+        }
     }
-    next[k] = half * 16 + d;
-    let mut after = l;
-    after.bytes = k + 1;
-    after.half = 16;
-    after
-}
 
-// A digit, or the end of the digits.
-pub fn more(l: Line, b: u8, next: &mut Room) -> Line {
-    let d = value(b);
-    if 15 < d {
-        return crate::tail(l, b);
+    // A digit, or the end of the digits, which is not within a pair.
+    pub(crate) fn in_digits(&mut self, half: Option<u8>, b: u8) {
+        match (half, value(b)) {
+            (Some(high), Some(low)) => self.pair((high << 4) | low),
+            (None, Some(high)) => self.open(high),
+            (None, None) => self.in_tail(b),
+            (Some(_), None) => self.stage = Stage::Bad,
+        }
     }
-    let half = l.half;
-    if half < 16 {
-        return pair(l, half, d, next);
-    }
-    let mut after = crate::enter(l, Stage::Digits);
-    after.count = 1;
-    after.half = d;
-    after
-}
 
-// The first digit, or the dash of the empty position.
-pub fn begin(l: Line, b: u8, next: &mut Room) -> Line {
-    if b == b'-' {
-        let mut after = crate::enter(l, Stage::Tail);
-        after.count = 1;
-        return after;
+    // The first digit of a pair.
+    fn open(&mut self, high: u8) {
+        self.made = self.made.or(Some(0));
+        self.stage = Stage::Digits(Some(high));
     }
-    more(l, b, next)
+
+    // The second digit of a pair makes a byte, if there is room.
+    fn pair(&mut self, b: u8) {
+        let at = self.made.unwrap_or(0);
+        if let Some(place) = self.room.get_mut(at) {
+            *place = b;
+            self.made = Some(at + 1);
+            self.stage = Stage::Digits(None);
+        } else {
+            self.stage = Stage::Bad;
+        }
+    }
 }

@@ -1,95 +1,93 @@
 // The answers to calls, a line each. Where lines are echoed, words follow.
-use crate::game;
-use crate::game::Game;
 use battle::Fought;
-use page::Output;
+use page::Page;
 use retreat::Retreated;
-use ruling::Answer;
+use ruling::Refusal;
 use wording::Call;
 
-// The line ends, and the game goes on.
-fn end(g: Game, full: usize, out: &mut Output) -> Game {
-    game::printed(g, page::line(out, full))
+// The page that they are written on, and whether lines are echoed.
+#[derive(Drop)]
+pub struct Answers {
+    pub page: Page,
+    pub echo: bool,
 }
 
-// Refused by a number and a place; the rule in words.
-pub fn refused(g: Game, call: Call, n: usize, place: usize, out: &mut Output) -> Game {
-    let f = page::pair(out, g.full, b"no ", n, place);
-    if g.echo {
-        let h = page::text(out, f, b"  ");
-        return end(g, wording::reason(out, h, call, n, place), out);
+impl Answers {
+    pub fn new() -> Answers {
+        Answers {
+            page: Page::new(),
+            echo: false,
+        }
     }
-    end(g, f, out)
-}
 
-// Accepted, or refused.
-pub fn plain(g: Game, call: Call, a: Answer, out: &mut Output) -> Game {
-    match a {
-        Answer::Accepted => game::printed(g, page::text(out, g.full, b"ok\n")),
-        Answer::Refused(n, place) => refused(g, call, n, place, out),
+    // The end of an answer, with its words where lines are echoed.
+    fn end<F: FnOnce(&mut Page) + Drop>(&mut self, words: F)
+        requires { F.IsAlwaysCallable words }
+    {
+        if self.echo {
+            self.page.text("  ");
+            words(&mut self.page);
+        }
+        self.page.line();
     }
-}
 
-// The next phase; the clock in words.
-fn next_phase(g: Game, p: &[u8], out: &mut Output) -> Game {
-    let f = page::text(out, g.full, b"ok");
-    if g.echo {
-        let h = page::text(out, f, b"  ");
-        return end(g, story::clock(out, h, p), out);
+    // The line of this number cannot be read.
+    pub fn what(&mut self, number: usize) {
+        self.page.word("what ", number);
+        self.end(|page| page.text("this line cannot be read"));
     }
-    end(g, f, out)
-}
 
-pub fn ended(g: Game, a: Answer, p: &[u8], out: &mut Output) -> Game {
-    match a {
-        Answer::Accepted => next_phase(g, p, out),
-        Answer::Refused(n, place) => refused(g, Call::End, n, place, out),
+    // Refused by a number and a place; the rule in words.
+    fn refused(&mut self, call: Call, refusal: Refusal) {
+        self.page.pair("no ", refusal.number(), refusal.place());
+        self.end(|page| wording::reason(page, call, refusal));
     }
-}
 
-// The column and the result code; the column's odds and the result's name.
-fn battle(g: Game, p: &[u8], column: usize, code: usize, out: &mut Output) -> Game {
-    let f = page::pair(out, g.full, b"fought ", column, code);
-    if g.echo {
-        let h = page::text(out, f, b"  ");
-        return end(g, story::battle(out, h, p, column, code), out);
+    // Accepted, or refused.
+    pub fn plain(&mut self, call: Call, answer: Result<(), Refusal>) {
+        match answer {
+            Ok(()) => self.page.text("ok\n"),
+            Err(refusal) => self.refused(call, refusal),
+        }
     }
-    end(g, f, out)
-}
 
-pub fn fought(g: Game, a: Fought, p: &[u8], out: &mut Output) -> Game {
-    match a {
-        Fought::Done(column, code) => battle(g, p, column, code, out),
-        Fought::Refused(n, place) => refused(g, Call::Attack, n, place, out),
+    // The next phase; the clock in words.
+    pub fn ended(&mut self, answer: Result<(), Refusal>, p: &[u8]) {
+        match answer {
+            Ok(()) => {
+                self.page.text("ok");
+                self.end(|page| story::clock(page, p));
+            }
+            Err(refusal) => self.refused(Call::End, refusal),
+        }
     }
-}
 
-// The end hex; the route that was written, and where friends were pushed to.
-fn off(g: Game, hex: usize, route: &[u16], pushes: &[u16], out: &mut Output) -> Game {
-    let f = page::word(out, g.full, b"retreated ", hex);
-    if g.echo {
-        let h = page::text(out, f, b"  ");
-        let k = story::route(out, h, route);
-        return end(g, story::pushes(out, k, pushes), out);
+    // The column and the result code; the column's odds and the result's name.
+    pub fn fought(&mut self, answer: Fought, p: &[u8]) {
+        match answer {
+            Fought::Done(column, code) => {
+                self.page.pair("fought ", column, code);
+                self.end(|page| story::battle(page, p, column, code));
+            }
+            Fought::Refused(refusal) => self.refused(Call::Attack, refusal),
+        }
     }
-    end(g, f, out)
-}
 
-// The group is destroyed; the route that was written.
-fn lost(g: Game, route: &[u16], out: &mut Output) -> Game {
-    let f = page::text(out, g.full, b"destroyed");
-    if g.echo {
-        let h = page::text(out, f, b"  ");
-        return end(g, story::route(out, h, route), out);
-    }
-    end(g, f, out)
-}
-
-// Hex and route of the order are written, whether the group gets to their end or is lost there.
-pub fn retreated(g: Game, a: Retreated, route: &[u16], pushes: &[u16], out: &mut Output) -> Game {
-    match a {
-        Retreated::To(hex) => off(g, hex, route, pushes, out),
-        Retreated::Destroyed => lost(g, route, out),
-        Retreated::Refused(n, place) => refused(g, Call::Retreat, n, place, out),
+    // The end hex, or that the group is destroyed; hex and route of the order, and where friends were pushed to.
+    pub fn retreated(&mut self, answer: Retreated, route: &[u16], pushes: &[u16]) {
+        match answer {
+            Retreated::To(hex) => {
+                self.page.word("retreated ", hex);
+                self.end(|page| {
+                    story::route(page, route);
+                    story::pushes(page, pushes);
+                });
+            }
+            Retreated::Destroyed => {
+                self.page.text("destroyed");
+                self.end(|page| story::route(page, route));
+            }
+            Retreated::Refused(refusal) => self.refused(Call::Retreat, refusal),
+        }
     }
 }

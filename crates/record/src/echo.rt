@@ -1,49 +1,31 @@
 // The lines as they are read, where they are echoed. They are written byte by byte, so that a line may have any length.
-use crate::game;
 use crate::game::Game;
-use page::Output;
-use reading::words::POSITION;
-use reading::{Line, Stage};
+use reading::Stage;
 
-// Whether the line's first word is `position`, and over.
-fn in_digits(l: Line) -> bool {
-    let key = l.key;
-    if key != POSITION {
-        return false;
+impl Game {
+    // Whether the line's first word is `position`.
+    fn is_position(&self) -> bool {
+        matches!(self.line.word(), b"position")
     }
-    let stage = l.stage;
-    match stage {
-        Stage::Key => false,
-        _ => true,
-    }
-}
 
-// The line's last byte. Of a position only the word is written.
-pub fn byte(g: Game, l: Line, b: u8, out: &mut Output) -> Game {
-    if !g.echo {
-        return g;
+    // The line's last byte. Of a position only the word is written.
+    pub fn echo_byte(&mut self, b: u8) {
+        let in_digits = self.is_position() && self.line.stage != Stage::Word;
+        if self.answers.echo && !in_digits {
+            self.answers.page.put(b);
+        }
     }
-    if in_digits(l) {
-        return g;
-    }
-    game::printed(g, page::put(out, g.full, b))
-}
 
-// How many bytes the digits of a position make.
-fn bytes(l: Line, full: usize, out: &mut Output) -> usize {
-    let key = l.key;
-    if key != POSITION {
-        return full;
+    // The line's end, and how many bytes the digits of a position make.
+    pub fn echo_end(&mut self) {
+        if !self.answers.echo {
+            return;
+        }
+        if self.is_position() {
+            let bytes = self.line.bytes().map_or(0, <[u8]>::len);
+            self.answers.page.word(" ", bytes);
+            self.answers.page.text(" bytes");
+        }
+        self.answers.page.line();
     }
-    let f = page::word(out, full, b" ", l.bytes);
-    page::text(out, f, b" bytes")
-}
-
-// The line's end.
-pub fn end(g: Game, l: Line, out: &mut Output) -> Game {
-    if !g.echo {
-        return g;
-    }
-    let f = bytes(l, g.full, out);
-    game::printed(g, page::line(out, f))
 }

@@ -2,6 +2,8 @@
 #![tactic(auto)]
 
 mod answers;
+mod buffer;
+mod bytes;
 mod calls;
 mod echo;
 mod feed;

@@ -1,127 +1,75 @@
-// A line of a scenario as far as it has been understood.
+// What the lines of a scenario have in common.
 #![tactic(auto)]
 
-ghost use Rattle.std.specs.Prelude.{◌<◌};
+use draft::{Draft, Thing};
+use phrase::{Fault, Words};
 
-use draft::{Draft, said};
-use phrase::{Fault, Figure, Word};
-use reading::rooms::Room;
+// How many kinds of words a line has at most.
+const MOST_KINDS: usize = 8;
 
-// What the next word of a line belongs to: the words of a row of the chart, of a hex or of a unit come in any order; the others are counted.
+// Which kinds of words were in a line, whose words come in any order. Each kind may be there once.
 #[derive(Clone, Copy)]
-pub enum About {
-    First,
-    Done,
-    Begin,
-    Chart(usize),
-    Odds(usize),
-    Hex(usize),
-    Unit(usize),
-    Players(usize),
-    Route(usize),
-}
+pub struct Seen([bool; MOST_KINDS]);
 
-// A line as far as it has been understood: the last word, the thing that it says and that may be said once, which kinds of words were there,
-// a bit each, and what is wrong.
-#[derive(Clone, Copy)]
-pub struct Saying {
-    pub draft: Draft,
-    pub about: About,
-    pub word: Word,
-    pub thing: usize,
-    pub seen: usize,
-    pub fault: Fault,
-}
-
-// Understood up to a word, what comes next being about something.
-pub fn on(s: Saying, about: About, w: Word) -> Saying {
-    let d = s.draft;
-    Saying {
-        draft: d,
-        about: about,
-        word: w,
-        thing: s.thing,
-        seen: s.seen,
-        fault: Fault::Nothing,
+impl Seen {
+    pub fn new() -> Seen {
+        Seen([false; MOST_KINDS])
     }
-}
 
-// Understood up to a word that changed the draft; no thing is said, and of the kinds of words none was there yet.
-pub fn told(d: Draft, about: About, w: Word) -> Saying {
-    Saying {
-        draft: d,
-        about: about,
-        word: w,
-        thing: said::NONE,
-        seen: 0,
-        fault: Fault::Nothing,
+    pub fn has(&self, kind: usize) -> bool {
+        self.0.get(kind).copied().unwrap_or(false)
     }
-}
 
-// The line is wrong.
-pub fn wrong(s: Saying, fault: Fault) -> Saying {
-    let d = s.draft;
-    let w = s.word;
-    Saying {
-        draft: d,
-        about: About::Done,
-        word: w,
-        thing: said::NONE,
-        seen: s.seen,
-        fault: fault,
-    }
-}
-
-// The line says this thing, which counts as said when the line has been understood.
-pub fn naming(s: Saying, thing: usize) -> Saying {
-    let mut after = s;
-    after.thing = thing;
-    after
-}
-
-// A number is wrong.
-pub fn misread(s: Saying, figure: Figure) -> Saying {
-    match figure {
-        Figure::Of(_) => s,
-        Figure::Not(fault) => wrong(s, fault),
-    }
-}
-
-// Whether a kind of word, by its bit, was in the line before.
-pub fn seen(s: Saying, bit: usize) -> bool
-    requires { 0 < bit }
-{
-    position::bits::has(bit, s.seen)
-}
-
-// Understood up to a word of this kind.
-pub fn see(s: Saying, w: Word, bit: usize) -> Saying {
-    let mut after = s;
-    after.word = w;
-    after.seen = std::num::wrapping_add_usize(s.seen, bit);
-    after
-}
-
-pub fn is_wrong(s: Saying) -> bool {
-    let fault = s.fault;
-    match fault {
-        Fault::Nothing => false,
-        _ => true,
+    // A word of this kind.
+    pub fn once<'a>(&mut self, kind: usize, word: &'a [u8]) -> Result<(), Fault<'a>> {
+        if self.has(kind) {
+            return Err(Fault::Again(word));
+        }
+        if let Some(seen) = self.0.get_mut(kind) {
+            *seen = true;
+        }
+        Ok(())
     }
 }
 
 // A hex of the map, whose size must be told before.
-pub fn hex(s: Saying, w: Word, room: &Room) -> Figure {
-    let d = s.draft;
-    if d.width == 0 {
-        return Figure::Not(Fault::NoSize);
+pub fn hex<'a>(draft: &Draft, word: &'a [u8]) -> Result<usize, Fault<'a>> {
+    let size = draft.size.ok_or(Fault::NoSize)?;
+    let hex = phrase::number(word, 0, usize::MAX)?;
+    if size.hexes() <= hex {
+        return Err(Fault::OffMap(word));
     }
-    let figure = phrase::number(room, w, 0, phrase::LARGE);
-    let Figure::Of(h) = figure else {
-        return figure;
-    };
-    if d.hexes <= h {
-        return Figure::Not(Fault::OffMap(w));
+    Ok(hex)
+}
+
+pub fn nationality(word: &[u8]) -> Option<usize> {
+    phrase::which(word, &["sau", "esc", "pal", "us", "canada"])
+}
+
+// A number of one byte.
+pub fn byte(word: &[u8]) -> Result<usize, Fault<'_>> {
+    phrase::number(word, 0, 255)
+}
+
+// A thing that may be said once, and that the line begins to say.
+pub fn unsaid<'a>(draft: &Draft, thing: Thing, words: &Words<'a>) -> Result<(), Fault<'a>> {
+    if draft.was_said(thing) {
+        return Err(Fault::Again(words.so_far()));
     }
-    figure
+    Ok(())
+}
+
+// The line ends here.
+pub fn done<'a>(words: &mut Words<'a>) -> Result<(), Fault<'a>> {
+    match words.next() {
+        Some(word) => Err(Fault::Behind(word)),
+        None => Ok(()),
+    }
+}
+
+// The line ends here, and what it says counts as said.
+pub fn told<'a>(draft: &mut Draft, thing: Thing, words: &mut Words<'a>) -> Result<(), Fault<'a>> {
+    done(words)?;
+    draft.say(thing);
+    Ok(())
 }

@@ -1,131 +1,102 @@
 // The chart and the columns of the results.
 ghost use Rattle.position.specs.Laid.{Laid};
 
-use page::Output;
+use page::Page;
 use position::{View, layout, read};
 use wording::names;
 
-fn cost(out: &mut Output, full: usize, cost: usize, plain: usize) -> usize {
-    if cost == plain {
-        return full;
-    }
-    page::word(out, full, b" cost ", cost)
+// What a terrain costs, or a river side besides, and what it multiplies the defence by.
+#[derive(Clone, Copy, PartialEq, Eq)]
+struct Effect {
+    cost: usize,
+    multiple: usize,
 }
 
-// A terrain that costs 0 is prohibited.
-fn terrain_cost(out: &mut Output, full: usize, c: usize) -> usize {
-    if c == 0 {
-        return page::text(out, full, b" prohibited");
-    }
-    cost(out, full, c, 1)
-}
+impl Effect {
+    // That of a terrain and of a river side of which nothing is said.
+    const PLAIN: Effect = Effect {
+        cost: 1,
+        multiple: 1,
+    };
 
-fn defence(out: &mut Output, full: usize, multiple: usize) -> usize {
-    if multiple == 1 {
-        return full;
-    }
-    page::word(out, full, b" defence ", multiple)
-}
+    const SHALLOW: Effect = Effect {
+        cost: 0,
+        multiple: 1,
+    };
 
-// Terrain `t`, unless it is plain.
-fn terrain(out: &mut Output, full: usize, t: usize, c: usize, multiple: usize) -> usize {
-    if c == 1 {
-        if multiple == 1 {
-            return full;
+    // That of a row of the chart.
+    fn of(p: &[u8], v: View, row: usize) -> Effect
+        requires { Laid p.now v }
+    {
+        Effect {
+            cost: read::cost(p, v, row),
+            multiple: read::multiple(p, v, row),
         }
     }
-    let a = page::word(out, full, b"terrain ", t);
-    let b = terrain_cost(out, a, c);
-    let e = defence(out, b, multiple);
-    page::line(out, e)
+
+    fn defence(self, page: &mut Page) {
+        if self.multiple != 1 {
+            page.word(" defence ", self.multiple);
+        }
+    }
+
+    // The line of terrain `t`, unless it is plain. A terrain that costs 0 is prohibited.
+    fn terrain(self, page: &mut Page, t: usize) {
+        if self == Effect::PLAIN {
+            return;
+        }
+        page.word("terrain ", t);
+        match self.cost {
+            0 => page.text(" prohibited"),
+            1 => {}
+            cost => page.word(" cost ", cost),
+        }
+        self.defence(page);
+        page.line();
+    }
+
+    // The line of the river or the major river, unless it is plain.
+    fn river(self, page: &mut Page, name: &str) {
+        if self == Effect::SHALLOW {
+            return;
+        }
+        page.text(name);
+        if self.cost != 0 {
+            page.word(" cost ", self.cost);
+        }
+        self.defence(page);
+        page.line();
+    }
 }
 
-fn terrains(out: &mut Output, full: usize, p: &[u8], v: View) -> usize
+// Column `c`, its odds and its results for the faces of the die.
+fn column(page: &mut Page, p: &[u8], v: View, c: usize)
     requires { Laid p.now v }
 {
-    let mut f = full;
+    page.word("odds ", read::attack_odds(p, v, c));
+    page.word(":", read::defence_odds(p, v, c));
+    for die in 1..=layout::DIE_FACES {
+        page.put(b' ');
+        names::result(page, read::code(p, v, c, die));
+    }
+    page.line();
+}
+
+fn columns(page: &mut Page, p: &[u8], v: View)
+    requires { Laid p.now v }
+{
+    for c in 0..v.columns {
+        column(page, p, v, c);
+    }
+}
+
+pub fn lines(page: &mut Page, p: &[u8], v: View)
+    requires { Laid p.now v }
+{
     for t in 0..layout::RIVER {
-        f = terrain(out, f, t, read::cost(p, v, t), read::multiple(p, v, t));
+        Effect::of(p, v, t).terrain(page, t);
     }
-    f
-}
-
-// The river or the major river, unless it is plain.
-fn river(out: &mut Output, full: usize, name: &[u8], c: usize, multiple: usize) -> usize {
-    if c == 0 {
-        if multiple == 1 {
-            return full;
-        }
-    }
-    let a = page::text(out, full, name);
-    let b = cost(out, a, c, 0);
-    let e = defence(out, b, multiple);
-    page::line(out, e)
-}
-
-fn rivers(out: &mut Output, full: usize, p: &[u8], v: View) -> usize
-    requires { Laid p.now v }
-{
-    let small = read::cost(p, v, layout::RIVER);
-    let f = river(
-        out,
-        full,
-        b"river",
-        small,
-        read::multiple(p, v, layout::RIVER),
-    );
-    let large = read::cost(p, v, layout::MAJOR_RIVER);
-    river(
-        out,
-        f,
-        b"major",
-        large,
-        read::multiple(p, v, layout::MAJOR_RIVER),
-    )
-}
-
-// The odds of a column, a to d.
-fn odds(out: &mut Output, full: usize, a: usize, d: usize) -> usize {
-    let f = page::word(out, full, b"odds ", a);
-    page::word(out, f, b":", d)
-}
-
-fn result(out: &mut Output, full: usize, code: usize) -> usize {
-    let f = page::put(out, full, b' ');
-    names::result(out, f, code)
-}
-
-// Column `c`, with its results for the six faces of the die.
-fn column(out: &mut Output, full: usize, p: &[u8], v: View, c: usize) -> usize
-    requires { Laid p.now v }
-{
-    let mut f = odds(
-        out,
-        full,
-        read::attack_odds(p, v, c),
-        read::defence_odds(p, v, c),
-    );
-    for die in 1..7 {
-        f = result(out, f, read::code(p, v, c, die));
-    }
-    page::line(out, f)
-}
-
-fn columns(out: &mut Output, full: usize, p: &[u8], v: View) -> usize
-    requires { Laid p.now v }
-{
-    let count = v.columns;
-    let mut f = full;
-    for c in 0..count {
-        f = column(out, f, p, v, c);
-    }
-    f
-}
-
-pub fn lines(out: &mut Output, full: usize, p: &[u8], v: View) -> usize
-    requires { Laid p.now v }
-{
-    let a = terrains(out, full, p, v);
-    let b = rivers(out, a, p, v);
-    columns(out, b, p, v)
+    Effect::of(p, v, layout::RIVER).river(page, "river");
+    Effect::of(p, v, layout::MAJOR_RIVER).river(page, "major");
+    columns(page, p, v);
 }

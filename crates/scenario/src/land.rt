@@ -1,121 +1,83 @@
 // The map's size, and each hex that is not plain land.
 ghost use Rattle.position.specs.Laid.{Laid};
 
-use page::Output;
+use page::Page;
 use position::{View, bits, read};
 
-// What is said of a hex: its sides are all together, and those that it keeps one by one.
-#[derive(Clone, Copy)]
-struct Hex {
-    number: usize,
+// The words for the sides of a hex that are not plain.
+const SIDES: [&str; 3] = ["river", "major", "blocked"];
+
+// What is said of a hex, all 0 for plain land: its sides are those that it keeps.
+#[derive(Clone, Copy, PartialEq, Eq, Default)]
+struct Land {
     terrain: usize,
     surface: usize,
     flags: usize,
     country: usize,
-    sides: usize,
     north: usize,
     north_east: usize,
     south_east: usize,
 }
 
-fn look(p: &[u8], v: View, h: usize) -> Hex
+impl Land {
+    fn of(p: &[u8], v: View, h: usize) -> Land
+        requires { Laid p.now v }
+    {
+        Land {
+            terrain: read::terrain(p, v, h),
+            surface: read::surface(p, v, h),
+            flags: read::flags(p, v, h),
+            country: read::country(p, v, h),
+            north: ground::stored(p, v, h, 0),
+            north_east: ground::stored(p, v, h, 1),
+            south_east: ground::stored(p, v, h, 2),
+        }
+    }
+
+    fn terrain(self, page: &mut Page) {
+        if self.terrain != 0 {
+            page.word(" terrain ", self.terrain);
+        }
+    }
+
+    fn flags(self, page: &mut Page) {
+        page.text_if(bits::has(bits::PORT, self.flags), " port");
+        page.text_if(bits::has(bits::URBAN, self.flags), " urban");
+        page.text_if(bits::has(bits::SUPPLY, self.flags), " supply");
+    }
+
+    // The line of hex `h`, unless it is plain land.
+    fn line(self, page: &mut Page, h: usize) {
+        if self == Land::default() {
+            return;
+        }
+        page.word("hex ", h);
+        named(page, " ", &["coast", "sea", "lake"], self.surface);
+        self.terrain(page);
+        self.flags(page);
+        named(page, " ", &["US", "Canada"], self.country);
+        named(page, " N ", &SIDES, self.north);
+        named(page, " NE ", &SIDES, self.north_east);
+        named(page, " SE ", &SIDES, self.south_east);
+        page.line();
+    }
+}
+
+// Word `n` of the words, from 1 on, behind a text; nothing is said of 0.
+fn named(page: &mut Page, before: &str, words: &[&str], n: usize) {
+    if let Some(k) = n.checked_sub(1) {
+        page.text(before);
+        page.nth(words, k);
+    }
+}
+
+pub fn lines(page: &mut Page, p: &[u8], v: View)
     requires { Laid p.now v }
 {
-    Hex {
-        number: h,
-        terrain: read::terrain(p, v, h),
-        surface: read::surface(p, v, h),
-        flags: read::flags(p, v, h),
-        country: read::country(p, v, h),
-        sides: read::sides(p, v, h),
-        north: ground::stored(p, v, h, 0),
-        north_east: ground::stored(p, v, h, 1),
-        south_east: ground::stored(p, v, h, 2),
+    page.word("size ", v.width);
+    page.word(" x ", v.height);
+    page.line();
+    for h in 0..v.hexes {
+        Land::of(p, v, h).line(page, h);
     }
-}
-
-fn is_plain(h: Hex) -> bool {
-    if h.terrain != 0 {
-        return false;
-    }
-    if h.surface != 0 {
-        return false;
-    }
-    if h.flags != 0 {
-        return false;
-    }
-    if h.country != 0 {
-        return false;
-    }
-    h.sides == 0
-}
-
-// The word of a table that a number has there; none for 0.
-fn named(out: &mut Output, full: usize, table: &[u8], n: usize) -> usize {
-    if n == 0 {
-        return full;
-    }
-    let f = page::put(out, full, b' ');
-    page::nth(out, f, table, n)
-}
-
-fn terrain(out: &mut Output, full: usize, t: usize) -> usize {
-    if t == 0 {
-        return full;
-    }
-    page::word(out, full, b" terrain ", t)
-}
-
-fn flags(out: &mut Output, full: usize, flags: usize) -> usize {
-    let a = crate::given(out, full, bits::has(bits::PORT, flags), b" port");
-    let b = crate::given(out, a, bits::has(bits::URBAN, flags), b" urban");
-    crate::given(out, b, bits::has(bits::SUPPLY, flags), b" supply")
-}
-
-// A side that the hex keeps, with its direction, unless it is plain.
-fn side(out: &mut Output, full: usize, direction: &[u8], side: usize) -> usize {
-    if side == 0 {
-        return full;
-    }
-    let f = page::text(out, full, direction);
-    page::nth(out, f, b"|river|major|blocked", side)
-}
-
-fn sides(out: &mut Output, full: usize, h: Hex) -> usize {
-    let a = side(out, full, b" N ", h.north);
-    let b = side(out, a, b" NE ", h.north_east);
-    side(out, b, b" SE ", h.south_east)
-}
-
-fn line(out: &mut Output, full: usize, h: Hex) -> usize {
-    if is_plain(h) {
-        return full;
-    }
-    let a = page::word(out, full, b"hex ", h.number);
-    let b = named(out, a, b"|coast|sea|lake", h.surface);
-    let c = terrain(out, b, h.terrain);
-    let d = flags(out, c, h.flags);
-    let e = named(out, d, b"|US|Canada", h.country);
-    let f = sides(out, e, h);
-    page::line(out, f)
-}
-
-fn hexes(out: &mut Output, full: usize, p: &[u8], v: View) -> usize
-    requires { Laid p.now v }
-{
-    let count = v.hexes;
-    let mut f = full;
-    for h in 0..count {
-        f = line(out, f, look(p, v, h));
-    }
-    f
-}
-
-pub fn lines(out: &mut Output, full: usize, p: &[u8], v: View) -> usize
-    requires { Laid p.now v }
-{
-    let a = page::word(out, full, b"size ", v.width);
-    let b = page::word(out, a, b" x ", v.height);
-    let c = page::line(out, b);
-    hexes(out, c, p, v)
 }

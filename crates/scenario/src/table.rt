@@ -1,62 +1,53 @@
 // The desk: the clock, the players if it names them, and an open battle.
 ghost use Rattle.position.specs.Laid.{Laid};
 
-use page::Output;
-use position::{View, read};
+use page::Page;
+use position::{View, layout, read, stage};
 
-fn clock(out: &mut Output, full: usize, p: &[u8], v: View) -> usize
+fn clock(page: &mut Page, p: &[u8], v: View)
     requires { Laid p.now v }
 {
-    let a = page::word(out, full, b"turn ", read::turn(p, v));
-    let b = page::word(out, a, b" of ", read::last_turn(p, v));
-    let c = page::text(out, b, b"\nforce ");
-    let d = page::nth(out, c, b"SAU|ESC|PAL|US", read::phasing(p, v));
-    let e = page::text(out, d, b"\nphase ");
-    let f = page::nth(out, e, b"movement|combat|mechanised", read::phase(p, v));
-    page::line(out, f)
+    page.word("turn ", read::turn(p, v));
+    page.word(" of ", read::last_turn(p, v));
+    page.text("\nforce ");
+    page.nth(&["SAU", "ESC", "PAL", "US"], read::phasing(p, v));
+    page.text("\nphase ");
+    page.nth(&["movement", "combat", "mechanised"], read::phase(p, v));
+    page.line();
 }
 
 // The player of each force, if the desk names them.
-fn players(out: &mut Output, full: usize, p: &[u8], v: View) -> usize
+fn players(page: &mut Page, p: &[u8], v: View)
     requires { Laid p.now v }
 {
     if v.players == 0 {
-        return full;
+        return;
     }
-    let a = page::word(out, full, b"players ", forces::player(p, v, 0));
-    let b = page::word(out, a, b" ", forces::player(p, v, 1));
-    let c = page::word(out, b, b" ", forces::player(p, v, 2));
-    let d = page::word(out, c, b" ", forces::player(p, v, 3));
-    page::line(out, d)
-}
-
-// A line that ends with a number.
-fn number(out: &mut Output, full: usize, words: &[u8], n: usize) -> usize {
-    let f = page::word(out, full, words, n);
-    page::line(out, f)
+    page.text("players");
+    for f in 0..layout::FORCES {
+        page.word(" ", forces::player(p, v, f));
+    }
+    page.line();
 }
 
 // The stage of an open battle, with the hexes or the strength that are owed.
-fn stage(out: &mut Output, full: usize, stage: usize, owed: usize, need: usize) -> usize {
-    match stage {
-        1 => number(out, full, b"stage retreats ", owed),
-        2 => number(out, full, b"stage losses ", need),
-        3 => page::text(out, full, b"stage advances\n"),
-        _ => full,
-    }
-}
-
-pub fn lines(out: &mut Output, full: usize, p: &[u8], v: View) -> usize
+fn battle(page: &mut Page, p: &[u8], v: View)
     requires { Laid p.now v }
 {
-    let a = clock(out, full, p, v);
-    let b = players(out, a, p, v);
-    let c = stage(
-        out,
-        b,
-        read::stage(p, v),
-        read::owed(p, v),
-        read::need(p, v),
-    );
-    story::table::routes(out, c, p, v)
+    match read::stage(p, v) {
+        stage::RETREATS => page.word("stage retreats ", read::owed(p, v)),
+        stage::LOSSES => page.word("stage losses ", read::need(p, v)),
+        stage::ADVANCES => page.text("stage advances"),
+        _ => return,
+    }
+    page.line();
+}
+
+pub fn lines(page: &mut Page, p: &[u8], v: View)
+    requires { Laid p.now v }
+{
+    clock(page, p, v);
+    players(page, p, v);
+    battle(page, p, v);
+    story::table::routes(page, p, v);
 }

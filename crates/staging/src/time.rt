@@ -1,72 +1,39 @@
 // Turn, force and phase.
-ghost use Rattle.std.specs.Prelude.{◌<◌};
-
-use draft::{said, table};
-use phrase::{Fault, Figure, Word};
+use draft::{Draft, Thing};
+use phrase::{Fault, Words};
+use position::kind::HOME;
 use position::layout;
-use reading::rooms::Room;
-use saying::{About, Saying, wrong};
 
-// The last turn, and the word before it.
-fn last_turn(s: Saying, w: Word, room: &mut Room) -> Saying {
-    let x = phrase::after(room, w);
-    if phrase::which(room, x, b"of") != 0 {
-        return wrong(s, phrase::unknown(x));
+// The turn, and the last one.
+pub fn turn<'a>(draft: &mut Draft, words: &mut Words<'a>) -> Result<(), Fault<'a>> {
+    saying::unsaid(draft, Thing::Turn, words)?;
+    draft.set_desk(layout::TURN, saying::byte(words.need()?)?);
+    let word = words.need()?;
+    if !word.eq_ignore_ascii_case(b"of") {
+        return Err(Fault::Unknown(word));
     }
-    let n = phrase::after(room, x);
-    let figure = phrase::number(room, n, 0, 255);
-    let Figure::Of(last) = figure else {
-        return saying::misread(s, figure);
-    };
-    table::set_desk(room, layout::LAST_TURN, last);
-    saying::on(s, About::Done, n)
-}
-
-pub fn turn(s: Saying, w: Word, room: &mut Room) -> Saying {
-    if said::was(room, said::TURN) {
-        return wrong(s, Fault::Again(w));
-    }
-    let n = phrase::after(room, w);
-    let figure = phrase::number(room, n, 0, 255);
-    let Figure::Of(turn) = figure else {
-        return saying::misread(s, figure);
-    };
-    table::set_desk(room, layout::TURN, turn);
-    last_turn(saying::naming(s, said::TURN), n, room)
-}
-
-// A byte of the desk is the place of the next word in a table.
-fn named(s: Saying, w: Word, f: usize, table: &[u8], room: &mut Room) -> Saying
-    requires { f < 60 }
-{
-    let n = phrase::after(room, w);
-    let k = phrase::which(room, n, table);
-    if k == phrase::NONE {
-        return wrong(s, phrase::unknown(n));
-    }
-    table::set_desk(room, f, k);
-    saying::on(s, About::Done, n)
+    draft.set_desk(layout::LAST_TURN, saying::byte(words.need()?)?);
+    saying::told(draft, Thing::Turn, words)
 }
 
 // US and Canada are one force.
-pub fn force(s: Saying, w: Word, room: &mut Room) -> Saying {
-    if said::was(room, said::FORCE) {
-        return wrong(s, Fault::Again(w));
-    }
-    let t = saying::naming(s, said::FORCE);
-    named(t, w, layout::FORCE, b"sau|esc|pal|us/canada", room)
+pub fn force<'a>(draft: &mut Draft, words: &mut Words<'a>) -> Result<(), Fault<'a>> {
+    saying::unsaid(draft, Thing::Force, words)?;
+    let word = words.need()?;
+    let nationality = saying::nationality(word).ok_or(Fault::Unknown(word))?;
+    draft.set_desk(layout::FORCE, nationality.min(HOME));
+    saying::told(draft, Thing::Force, words)
 }
 
-pub fn phase(s: Saying, w: Word, room: &mut Room) -> Saying {
-    if said::was(room, said::PHASE) {
-        return wrong(s, Fault::Again(w));
-    }
-    let t = saying::naming(s, said::PHASE);
-    named(
-        t,
-        w,
-        layout::PHASE,
-        b"movement/land|combat|mechanised/mechanized",
-        room,
-    )
+pub fn phase<'a>(draft: &mut Draft, words: &mut Words<'a>) -> Result<(), Fault<'a>> {
+    saying::unsaid(draft, Thing::Phase, words)?;
+    let word = words.need()?;
+    let phase = match phrase::lower(word).text() {
+        b"movement" | b"land" => 0,
+        b"combat" => 1,
+        b"mechanised" | b"mechanized" => 2,
+        _ => return Err(Fault::Unknown(word)),
+    };
+    draft.set_desk(layout::PHASE, phase);
+    saying::told(draft, Thing::Phase, words)
 }

@@ -1,13 +1,18 @@
 -- Beside what is certain: vocabulary of contracts and proofs.
 -- What the text of a map is written from: numbers of the board, which has no strength that is face down.
 -- Assumes nothing.
-use Rattle.std.specs.Prelude.{ℕ, ◌≡◌}
+use Rattle.std.specs.Prelude.{ℕ, ◌≡◌, ◌<◌, Option, Some, None}
 use Rattle.position.specs.Board.{Board}
 use Rattle.position.specs.Crowd.{crowd}
-use Rattle.story.specs.declared.Unit.{Unit}
-use Rattle.story.specs.declared.Tile.{Tile}
-use Rattle.story.specs.declared.Desk.{Desk}
-use Rattle.story.specs.declared.Odds.{Odds}
+use Rattle.story.specs.declared.units.Unit.{Unit}
+use Rattle.story.specs.declared.tiles.Tile.{Tile}
+use Rattle.story.specs.declared.table.Desk.{Desk}
+use Rattle.story.specs.declared.table.Odds.{Odds}
+
+-- a strength as it is said: none for one that is face down, which the board shows as 0
+abbrev pub ShownAs : ℕ → Option ℕ → Type 0
+ShownAs n None = n ≡ 0
+ShownAs n (Some s) = (s ≡ n) × (0 < s)
 
 -- unit u, as the board shows it
 pub record UnitOf (b : Board) (u : ℕ) (r : Unit) : Type 0 where
@@ -15,7 +20,7 @@ pub record UnitOf (b : Board) (u : ℕ) (r : Unit) : Type 0 where
   pub nationality : r.nationality ≡ b.units.counter.nationality u
   pub kind : r.kind ≡ b.units.counter.kind u
   pub hex : r.hex ≡ b.units.state.hex u
-  pub shown : r.shown ≡ b.units.state.shown u
+  pub shown : ShownAs (b.units.state.shown u) r.shown
   pub allowance : r.allowance ≡ b.units.counter.allowance u
   pub marks : r.marks ≡ b.units.state.marks u
   pub role : r.role ≡ b.units.state.role u

@@ -1,102 +1,68 @@
 // The map as text. Odd columns lie half a hex lower: each row of hexes takes two lines, its even columns and then its odd ones.
-ghost use Rattle.std.specs.Prelude.{◌≡◌, ◌<◌, length};
+ghost use Rattle.std.specs.Prelude.{◌<◌};
 ghost use Rattle.position.specs.Laid.{Laid};
 
 use crate::tiles;
-use page::Output;
+use page::Page;
 use position::View;
 
 // Half the room of a hex on its line.
 const HALF: usize = 7;
 
-// Room for the supply of a map's hexes.
+// The most hexes that a map has.
 const ROOM: usize = 4096;
 
-// Whether hex `h` is marked in the supply.
-fn marked(supplied: &[u8], h: usize) -> bool {
-    if h < supplied.len() {
-        return supplied[h] == 1;
-    }
-    false
-}
-
-// Hex `h` in column `c`, if the column is even (0) or odd (1) as asked.
-fn cell(
-    out: &mut Output,
-    full: usize,
-    p: &[u8],
+// A map that is drawn: its position, and a byte for each hex, 1 where it is supplied.
+#[derive(Clone, Copy)]
+struct Sheet<'a> {
+    p: &'a [u8],
     v: View,
-    supplied: &[u8],
-    h: usize,
-    c: usize,
-    odd: usize,
-) -> usize
+    supplied: &'a [u8],
+    ghost laid: { Laid p.now v },
+}
+
+impl Sheet<'_> {
+    // The columns of a row that are even (0) or odd (1).
+    fn line(&self, page: &mut Page, start: usize, odd: usize)
+        requires { start < 4096 }
+    {
+        for c in 0..self.v.width {
+            if c % 2 == odd {
+                let supplied = matches!(self.supplied.get(start + c), Some(1));
+                tiles::draw(page, self.p, self.v, start + c, supplied);
+            }
+        }
+        page.trimmed_line();
+    }
+
+    // A row of hexes.
+    fn row(&self, page: &mut Page, start: usize)
+        requires { start < 4096 }
+    {
+        self.line(page, start, 0);
+        page.blanks(HALF);
+        self.line(page, start, 1);
+    }
+
+    fn rows(&self, page: &mut Page) {
+        for r in 0..self.v.height {
+            self.row(page, r * self.v.width);
+        }
+    }
+}
+
+// The map, on which the hexes that are supplied for the nationality are marked.
+pub fn map(page: &mut Page, p: &[u8], v: View, nationality: Option<usize>)
     requires { Laid p.now v }
 {
-    if c % 2 == odd {
-        return tiles::tile(out, full, p, v, h, marked(supplied, h));
+    let mut supplied = [0; ROOM];
+    if let Some(n) = nationality {
+        supply::fill(p, v, n, &mut supplied[..v.hexes]);
     }
-    full
-}
-
-// The columns of a row that are even (0) or odd (1).
-fn line(
-    out: &mut Output,
-    full: usize,
-    p: &[u8],
-    v: View,
-    supplied: &[u8],
-    start: usize,
-    odd: usize,
-) -> usize
-    requires { Laid p.now v × (start < 4096) }
-{
-    let width = v.width;
-    let mut f = full;
-    for c in 0..width {
-        f = cell(out, f, p, v, supplied, start + c, c, odd);
-    }
-    page::trimmed_line(out, f)
-}
-
-// A row of hexes.
-fn row(out: &mut Output, full: usize, p: &[u8], v: View, supplied: &[u8], start: usize) -> usize
-    requires { Laid p.now v × (start < 4096) }
-{
-    let f = line(out, full, p, v, supplied, start, 0);
-    let h = page::blanks(out, f, 0, HALF);
-    line(out, h, p, v, supplied, start, 1)
-}
-
-fn rows(out: &mut Output, full: usize, p: &[u8], v: View, supplied: &[u8]) -> usize
-    requires { Laid p.now v }
-{
-    let hexes = v.hexes;
-    let width = v.width;
-    let mut f = full;
-    let mut start = 0;
-    while start < hexes {
-        f = row(out, f, p, v, supplied, start);
-        start += width;
-    }
-    f
-}
-
-// The supply of a nationality; none for a number above 4.
-pub fn judge(p: &[u8], v: View, nationality: usize, supplied: &mut [u8])
-    requires { Laid p.now v × (length supplied.old ≡ 4096) }
-{
-    if 4 < nationality {
-        return;
-    }
-    let hexes = v.hexes;
-    supply::fill(p, v, nationality, &mut supplied[..hexes]);
-}
-
-pub fn map(out: &mut Output, full: usize, p: &[u8], v: View, nationality: usize) -> usize
-    requires { Laid p.now v }
-{
-    let mut supplied = [0u8; ROOM];
-    judge(p, v, nationality, &mut supplied);
-    rows(out, full, p, v, &supplied)
+    let sheet = Sheet {
+        p,
+        v,
+        supplied: &supplied,
+    };
+    sheet.rows(page);
 }

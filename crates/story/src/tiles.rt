@@ -3,82 +3,78 @@ ghost use Rattle.position.specs.Board.{board};
 ghost use Rattle.position.specs.Laid.{Laid};
 ghost use Rattle.story.specs.Look.{TileOf};
 
-use crate::Tile;
-use page::Output;
+use page::Page;
 use position::{View, bits, read};
 use wording::names;
 
-// Hex `h` of the board.
-fn look(p: &[u8], v: View, h: usize) -> Tile
-    requires { Laid p.now v }
-    ensures { TileOf (board p.now) h result }
-{
-    let terrain = read::terrain(p, v, h);
-    Tile {
-        number: h,
-        surface: read::surface(p, v, h),
-        terrain: terrain,
-        cost: read::cost(p, v, terrain),
-        flags: read::flags(p, v, h),
-        crowd: crowd::crowd(p, v, h),
-    }
+// The signs of land, coast, sea and lake.
+const SURFACES: [u8; 4] = *b".:~o";
+
+// How many units a hex has room for.
+const UNITS: usize = 4;
+
+// What is said of a hex: how many units stand there, and the cost of its terrain, 0 if it is prohibited.
+#[derive(Clone, Copy)]
+pub struct Tile {
+    pub number: usize,
+    pub surface: usize,
+    pub terrain: usize,
+    pub cost: usize,
+    pub flags: usize,
+    pub crowd: usize,
 }
 
-fn surface(s: usize) -> u8 {
-    match s {
-        0 => b'.',
-        1 => b':',
-        2 => b'~',
-        3 => b'o',
-        _ => b'?',
+impl Tile {
+    // Hex `h` of the board.
+    fn of(p: &[u8], v: View, h: usize) -> Tile
+        requires { Laid p.now v }
+        ensures { TileOf (board p.now) h result }
+    {
+        let terrain = read::terrain(p, v, h);
+        Tile {
+            number: h,
+            surface: read::surface(p, v, h),
+            terrain,
+            cost: read::cost(p, v, terrain),
+            flags: read::flags(p, v, h),
+            crowd: crowd::crowd(p, v, h),
+        }
+    }
+
+    // Its number and its ground.
+    fn ground(self, page: &mut Page) {
+        page.column(self.number, 4);
+        page.put(SURFACES.get(self.surface).copied().unwrap_or(b'?'));
+        page.put(sign(self.cost == 0, b'#'));
+        page.put(sign(bits::has(bits::PORT, self.flags), b'p'));
+        page.put(sign(bits::has(bits::URBAN, self.flags), b'u'));
+        page.put(sign(bits::has(bits::SUPPLY, self.flags), b's'));
     }
 }
 
 // A sign, or a blank in its place.
 fn sign(there: bool, b: u8) -> u8 {
-    if there {
-        return b;
-    }
-    b' '
+    if there { b } else { b' ' }
 }
 
-fn ground(out: &mut Output, full: usize, t: Tile) -> usize {
-    let f = page::column(out, full, t.number, 4);
-    let h = page::put(out, f, surface(t.surface));
-    let k = page::put(out, h, sign(t.cost == 0, b'#'));
-    let m = page::put(out, k, sign(bits::has(bits::PORT, t.flags), b'p'));
-    let n = page::put(out, m, sign(bits::has(bits::URBAN, t.flags), b'u'));
-    page::put(out, n, sign(bits::has(bits::SUPPLY, t.flags), b's'))
-}
-
-// The letter of unit `u`, if it stands on hex `h`.
-fn letter(out: &mut Output, full: usize, p: &[u8], v: View, u: usize, h: usize) -> usize
+// The letter of each unit on hex `h`.
+fn letters(page: &mut Page, p: &[u8], v: View, h: usize)
     requires { Laid p.now v }
 {
-    if read::hex(p, v, u) != h {
-        return full;
+    for u in 0..v.count {
+        if read::hex(p, v, u) == h {
+            page.put(names::letter(read::nationality(p, v, u)));
+        }
     }
-    page::put(out, full, names::letter(read::nationality(p, v, u)))
-}
-
-fn letters(out: &mut Output, full: usize, p: &[u8], v: View, h: usize) -> usize
-    requires { Laid p.now v }
-{
-    let count = v.count;
-    let mut f = full;
-    for u in 0..count {
-        f = letter(out, f, p, v, u, h);
-    }
-    f
 }
 
 // Hex `h`, 14 signs wide.
-pub fn tile(out: &mut Output, full: usize, p: &[u8], v: View, h: usize, supplied: bool) -> usize
+pub fn draw(page: &mut Page, p: &[u8], v: View, h: usize, supplied: bool)
     requires { Laid p.now v }
 {
-    let t = look(p, v, h);
-    let f = ground(out, full, t);
-    let k = page::put(out, f, sign(supplied, b'+'));
-    let m = letters(out, k, p, v, h);
-    page::blanks(out, m, t.crowd, 4)
+    let tile = Tile::of(p, v, h);
+    tile.ground(page);
+    page.put(sign(supplied, b'+'));
+    letters(page, p, v, h);
+    page.blanks(UNITS.saturating_sub(tile.crowd));
 }

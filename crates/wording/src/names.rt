@@ -1,64 +1,64 @@
 // The names of nationalities, forces, unit types, phases, marks, roles and results. What has no name here is written as `?`.
-use page::Output;
+use page::Page;
 use position::{bits, role};
 
-pub fn nationality(out: &mut Output, full: usize, n: usize) -> usize {
-    page::nth(out, full, b"S.A.U.|E.S.C.|P.A.L.|US|Canada", n)
+// The letters of the nationalities.
+const LETTERS: [u8; 5] = *b"SEPUC";
+
+pub fn nationality(page: &mut Page, n: usize) {
+    page.nth(&["S.A.U.", "E.S.C.", "P.A.L.", "US", "Canada"], n);
 }
 
 // The letter of a nationality on the map.
 pub fn letter(n: usize) -> u8 {
-    match n {
-        0 => b'S',
-        1 => b'E',
-        2 => b'P',
-        3 => b'U',
-        4 => b'C',
-        _ => b'?',
-    }
+    LETTERS.get(n).copied().unwrap_or(b'?')
 }
 
 // Force 3 is US and Canada, every other force a nationality.
-pub fn force(out: &mut Output, full: usize, f: usize) -> usize {
-    page::nth(out, full, b"S.A.U.|E.S.C.|P.A.L.|US and Canada", f)
+pub fn force(page: &mut Page, f: usize) {
+    page.nth(&["S.A.U.", "E.S.C.", "P.A.L.", "US and Canada"], f);
 }
 
-pub fn kind(out: &mut Output, full: usize, k: usize) -> usize {
-    page::nth(
-        out,
-        full,
-        b"armour|mechanised|infantry|militia|special infantry|supply unit",
+pub fn kind(page: &mut Page, k: usize) {
+    page.nth(
+        &[
+            "armour",
+            "mechanised",
+            "infantry",
+            "militia",
+            "special infantry",
+            "supply unit",
+        ],
         k,
-    )
+    );
 }
 
-pub fn phase(out: &mut Output, full: usize, k: usize) -> usize {
-    page::nth(out, full, b"land movement|combat|mechanised movement", k)
+pub fn phase(page: &mut Page, k: usize) {
+    page.nth(&["land movement", "combat", "mechanised movement"], k);
 }
 
-pub fn role(out: &mut Output, full: usize, k: usize) -> usize {
-    if k == role::NONE {
-        return full;
+pub fn role(page: &mut Page, k: usize) {
+    match k {
+        role::NONE => {}
+        role::OWES => page.text(", owes"),
+        role::ADVANCES => page.text(", may advance"),
+        _ => page.text(", ?"),
     }
-    let f = page::text(out, full, b", ");
-    page::nth(out, f, b"|owes|may advance", k)
 }
 
-// A mark's name, if it is among the marks.
-fn mark(out: &mut Output, full: usize, there: bool, name: &[u8]) -> usize {
-    if there {
-        return page::text(out, full, name);
-    }
-    full
+pub fn marks(page: &mut Page, m: usize) {
+    page.text_if(bits::has(bits::TRIED, m), ", tried");
+    page.text_if(bits::has(bits::SUPPLIED, m), ", supplied");
+    page.text_if(bits::has(bits::MOVED, m), ", moved");
+    page.text_if(bits::has(bits::FOUGHT, m), ", fought");
 }
 
-pub fn marks(out: &mut Output, full: usize, m: usize) -> usize {
-    let a = mark(out, full, bits::has(bits::TRIED, m), b", tried");
-    let b = mark(out, a, bits::has(bits::SUPPLIED, m), b", supplied");
-    let c = mark(out, b, bits::has(bits::MOVED, m), b", moved");
-    mark(out, c, bits::has(bits::FOUGHT, m), b", fought")
-}
-
-pub fn result(out: &mut Output, full: usize, code: usize) -> usize {
-    page::nth(out, full, b"|D1|D2|D3|A1|A2|A3|Ae|De|Dx|Ax", code)
+// Result codes begin at 1.
+pub fn result(page: &mut Page, code: usize) {
+    page.nth(
+        &[
+            "?", "D1", "D2", "D3", "A1", "A2", "A3", "Ae", "De", "Dx", "Ax",
+        ],
+        code,
+    );
 }

@@ -1,191 +1,142 @@
-// The words of each refusal: the one place for them. They depend on the call and the number, and for 3 on whether a place is named.
+// The words of each refusal: the one place for them. They depend on the call and the rule, and for a number out of range on whether a
+// place is named.
 // A refusal that a call does not give is written as `?`.
 use crate::Call;
-use page::Output;
+use page::Page;
+use ruling::Refusal;
 
-// "step 2 ", "number 2 of the list ", "number 2 of route and pushes ", or nothing where no place is named.
-fn subject(out: &mut Output, full: usize, call: Call, place: usize) -> usize {
+// "step 2 ", "number 2 of the list ", "number 2 of route and pushes ", or nothing where no place is named. The places of a retreat count
+// on through both of its lists.
+fn subject(page: &mut Page, call: Call, place: usize) {
     if place == 0 {
-        return full;
+        return;
     }
     match call {
-        Call::Attack | Call::Losses => listed(out, full, place),
-        Call::Retreat => sent(out, full, place),
-        Call::Move => step(out, full, place),
-        _ => page::text(out, full, b"? "),
+        Call::Attack | Call::Losses => numbered(page, "number ", place, " of the list "),
+        Call::Retreat => numbered(page, "number ", place, " of route and pushes "),
+        Call::Move => numbered(page, "step ", place, " "),
+        _ => page.text("? "),
     }
 }
 
-fn step(out: &mut Output, full: usize, place: usize) -> usize {
-    let f = page::word(out, full, b"step ", place);
-    page::put(out, f, b' ')
-}
-
-fn listed(out: &mut Output, full: usize, place: usize) -> usize {
-    let f = page::word(out, full, b"number ", place);
-    page::text(out, f, b" of the list ")
-}
-
-// The places of a retreat count on through both of its lists.
-fn sent(out: &mut Output, full: usize, place: usize) -> usize {
-    let f = page::word(out, full, b"number ", place);
-    page::text(out, f, b" of route and pushes ")
+fn numbered(page: &mut Page, before: &str, place: usize, after: &str) {
+    page.word(before, place);
+    page.text(after);
 }
 
 // Wrong phase or stage.
-fn untimely(out: &mut Output, full: usize, call: Call) -> usize {
+fn untimely(call: Call) -> &'static str {
     match call {
-        Call::Move => page::text(
-            out,
-            full,
-            b"this is no movement phase, or a battle is still open",
-        ),
-        Call::Attack => page::text(
-            out,
-            full,
-            b"this is no combat phase, or a battle is still open",
-        ),
-        Call::Retreat => page::text(out, full, b"no retreats are owed now"),
-        Call::Losses => page::text(out, full, b"no losses are owed now"),
-        Call::Advance => page::text(out, full, b"nobody may advance now"),
-        Call::Close => page::text(out, full, b"no advances are open"),
-        Call::End => page::text(out, full, b"a battle is still open"),
-        _ => page::put(out, full, b'?'),
+        Call::Move => "this is no movement phase, or a battle is still open",
+        Call::Attack => "this is no combat phase, or a battle is still open",
+        Call::Retreat => "no retreats are owed now",
+        Call::Losses => "no losses are owed now",
+        Call::Advance => "nobody may advance now",
+        Call::Close => "no advances are open",
+        Call::End => "a battle is still open",
+        _ => "?",
     }
 }
 
 // A number or a length out of range.
-fn out_of_range(out: &mut Output, full: usize, call: Call) -> usize {
+fn out_of_range(call: Call) -> &'static str {
     match call {
-        Call::Supply => page::text(
-            out,
-            full,
-            b"no such nationality, or a buffer of another length than the map's",
-        ),
-        Call::Move => page::text(out, full, b"no such unit, or not 1 to 30 hexes"),
-        Call::Attack => page::text(
-            out,
-            full,
-            b"no such target or die, not 1 to 18 units, or a wrong scratch",
-        ),
-        Call::Retreat => page::text(out, full, b"no such hex, or more than 3 steps or 9 pushes"),
-        Call::Losses => page::text(out, full, b"not 1 to 18 units"),
-        Call::Advance => page::text(out, full, b"no such unit or hex"),
-        Call::End => page::text(out, full, b"a scratch of another length than the map's"),
-        _ => page::put(out, full, b'?'),
+        Call::Supply => "no such nationality, or a buffer of another length than the map's",
+        Call::Move => "no such unit, or not 1 to 30 hexes",
+        Call::Attack => "no such target or die, not 1 to 18 units, or a wrong scratch",
+        Call::Retreat => "no such hex, or more than 3 steps or 9 pushes",
+        Call::Losses => "not 1 to 18 units",
+        Call::Advance => "no such unit or hex",
+        Call::End => "a scratch of another length than the map's",
+        _ => "?",
     }
 }
 
 // A number of a list or path out of range.
-fn unknown(out: &mut Output, full: usize, call: Call) -> usize {
+fn unknown(call: Call) -> &'static str {
     match call {
-        Call::Attack | Call::Losses => page::text(out, full, b"is no unit"),
-        Call::Move | Call::Retreat => page::text(out, full, b"is no hex of the map"),
-        _ => page::put(out, full, b'?'),
+        Call::Attack | Call::Losses => "is no unit",
+        Call::Move | Call::Retreat => "is no hex of the map",
+        _ => "?",
     }
-}
-
-fn three(out: &mut Output, full: usize, call: Call, place: usize) -> usize {
-    if place == 0 {
-        return out_of_range(out, full, call);
-    }
-    unknown(out, full, call)
 }
 
 // The wrong unit, or a hex without the role asked.
-fn four(out: &mut Output, full: usize, call: Call) -> usize {
+fn wrong_unit(call: Call) -> &'static str {
     match call {
-        Call::Move => page::text(
-            out,
-            full,
-            b"the unit is destroyed, or not of the phasing force",
-        ),
-        Call::Attack => page::text(out, full, b"is destroyed, or not of the phasing force"),
-        Call::Retreat => page::text(out, full, b"nobody owes in that hex"),
-        Call::Losses => page::text(out, full, b"does not owe"),
-        Call::Advance => page::text(out, full, b"the unit may not advance"),
-        _ => page::put(out, full, b'?'),
+        Call::Move => "the unit is destroyed, or not of the phasing force",
+        Call::Attack => "is destroyed, or not of the phasing force",
+        Call::Retreat => "nobody owes in that hex",
+        Call::Losses => "does not owe",
+        Call::Advance => "the unit may not advance",
+        _ => "?",
     }
 }
 
 // Type or mark forbids it.
-fn five(out: &mut Output, full: usize, call: Call) -> usize {
+fn forbidden(call: Call) -> &'static str {
     match call {
-        Call::Move => page::text(
-            out,
-            full,
-            b"the unit has moved, or its type does not move in this phase",
-        ),
-        Call::Attack => page::text(out, full, b"has fought, or is a supply unit"),
-        Call::Advance => page::text(out, full, b"supply units do not advance"),
-        _ => page::put(out, full, b'?'),
+        Call::Move => "the unit has moved, or its type does not move in this phase",
+        Call::Attack => "has fought, or is a supply unit",
+        Call::Advance => "supply units do not advance",
+        _ => "?",
     }
 }
 
-fn seven(out: &mut Output, full: usize, call: Call) -> usize {
+// The hex cannot be reached.
+fn no_way(call: Call) -> &'static str {
     match call {
-        Call::Move => page::text(
-            out,
-            full,
-            b"is not adjacent, or blocked, prohibited, sea or lake",
-        ),
-        Call::Advance => page::text(out, full, b"no route leads the unit there"),
-        _ => page::put(out, full, b'?'),
+        Call::Move => "is not adjacent, or blocked, prohibited, sea or lake",
+        Call::Advance => "no route leads the unit there",
+        _ => "?",
     }
 }
 
-fn eleven(out: &mut Output, full: usize, call: Call) -> usize {
+// Three others stand there.
+fn full(call: Call) -> &'static str {
     match call {
-        Call::Move => page::text(out, full, b"ends where three others stand"),
-        Call::Advance => page::text(out, full, b"three others stand there"),
-        _ => page::put(out, full, b'?'),
+        Call::Move => "ends where three others stand",
+        Call::Advance => "three others stand there",
+        _ => "?",
     }
 }
 
-// The refusals that have the same words for every call.
-fn plain(out: &mut Output, full: usize, n: usize) -> usize {
-    match n {
-        1 => page::text(out, full, b"the position breaks a line of its rules"),
-        6 => page::text(out, full, b"is named before"),
-        8 => page::text(out, full, b"meets an Enemy"),
-        9 => page::text(out, full, b"leaves an Enemy zone"),
-        10 => page::text(out, full, b"passes the allowance"),
-        12 => page::text(out, full, b"no Enemy stands there, or one that has fought"),
-        13 => page::text(
-            out,
-            full,
-            b"is not beside the target over an unblocked side",
-        ),
-        14 => page::text(
-            out,
-            full,
-            b"a vacant route, or a longest part route, is due: this is none, or pushes were sent",
-        ),
-        15 => page::text(
-            out,
-            full,
-            b"the losses are short, or spare special infantry",
-        ),
-        16 => page::text(out, full, b"it is the last phase of the last turn"),
-        17 => page::text(
-            out,
-            full,
-            b"only pushes serve, and route or pushes are not legal",
-        ),
-        18 => page::text(out, full, b"meets a neutral force"),
-        _ => page::put(out, full, b'?'),
+// The rules whose words are the same for every call.
+fn for_all(refusal: Refusal) -> &'static str {
+    match refusal {
+        Refusal::Unaccepted => "the position breaks a line of its rules",
+        Refusal::NamedTwice(_) => "is named before",
+        Refusal::EnemyThere(_) => "meets an Enemy",
+        Refusal::AfterZone(_) => "leaves an Enemy zone",
+        Refusal::OverAllowance(_) => "passes the allowance",
+        Refusal::NoTarget => "no Enemy stands there, or one that has fought",
+        Refusal::NotBeside(_) => "is not beside the target over an unblocked side",
+        Refusal::WrongRoute => {
+            "a vacant route, or a longest part route, is due: this is none, or pushes were sent"
+        }
+        Refusal::LossesShort => "the losses are short, or spare special infantry",
+        Refusal::LastPhase => "it is the last phase of the last turn",
+        Refusal::WrongPushes => "only pushes serve, and route or pushes are not legal",
+        Refusal::NeutralThere(_) => "meets a neutral force",
+        _ => "?",
     }
 }
 
-pub fn reason(out: &mut Output, full: usize, call: Call, n: usize, place: usize) -> usize {
-    let f = subject(out, full, call, place);
-    match n {
-        2 => untimely(out, f, call),
-        3 => three(out, f, call, place),
-        4 => four(out, f, call),
-        5 => five(out, f, call),
-        7 => seven(out, f, call),
-        11 => eleven(out, f, call),
-        _ => plain(out, f, n),
+fn words(call: Call, refusal: Refusal) -> &'static str {
+    match refusal {
+        Refusal::Untimely => untimely(call),
+        Refusal::OutOfRange(0) => out_of_range(call),
+        Refusal::OutOfRange(_) => unknown(call),
+        Refusal::WrongUnit(_) => wrong_unit(call),
+        Refusal::Forbidden(_) => forbidden(call),
+        Refusal::NoWay(_) => no_way(call),
+        Refusal::Full(_) => full(call),
+        _ => for_all(refusal),
     }
+}
+
+// The rule that a call is refused by, in words.
+pub fn reason(page: &mut Page, call: Call, refusal: Refusal) {
+    subject(page, call, refusal.place());
+    page.text(words(call, refusal));
 }
