@@ -9,8 +9,8 @@ use native.Mathlib.Decide.{dec_lt, ℕ_discrete}
 use lib.ListN.{length, set, length-set, get_or-eq_default}
 use lib.Seq.{get_or-set_same, get_or-set_other}
 use Rattle.position.specs.Bits.{has, with, tried}
-use Rattle.position.specs.Layout.{byte, unit_size, nationality_field, kind_field, hex_field, allowance_field, marks_field, role_field, count, desk_at, unit_at, unit_byte, hex, strength_field, strength, marks, desk_byte, set_unit, set_desk, set_marks}
-use Rattle.position.specs.Board.{board, units, desk, shown}
+use Rattle.position.specs.Layout.{byte, unit_size, nationality_field, kind_field, hex_field, allowance_field, marks_field, role_field, count, desk_at, unit_at, unit_byte, strength_field, strength, marks, desk_byte, set_unit, set_desk, set_marks}
+use Rattle.position.specs.Board.{board, shown}
 use Rattle.position.specs.Shape.{Shaped}
 use Rattle.position.specs.Change.{Change, makes, turned}
 use Rattle.acceptance.specs.Alike.{Hidden, Same}

@@ -6,7 +6,6 @@ pub mod Carries
 pub mod Lawfuls
 pub mod Seating
 pub mod Asking
-pub mod Roles
 pub mod Notes
 pub mod Counts
 pub mod Owings

@@ -5,7 +5,9 @@ use mathlib.Core.Path.{◌≡◌, refl, sym, ap, ◌∙◌}
 use mathlib.Core.Bool.{Bool, true, false, ◌||◌, and-false}
 use mathlib.Core.List.{List}
 use native.Mathlib.Omega.{arith}
-use lib.ListN.{length, get_or, set, length-set}
+use lib.ListN.{length, get_or, set, take, length-set}
+use Rattle.std.specs.List.{IsAnyAnswer}
+use Rattle.position.proofs.Listed.{asked}
 use lib.Seq.{get_or-set_same, get_or-set_other}
 use lib.Dec.{eqb}
 use borrow.Author.Tests.{eq-eqb, ne_eqb, eqb-true}
@@ -14,40 +16,19 @@ use Rattle.position.specs.Layout.{route_count}
 use Rattle.position.specs.Board.{Board}
 use Rattle.position.specs.Crowd.{owes_at, owing_hexes}
 use Rattle.position.specs.Role as Role
-use Rattle.position.proofs.Tallies.{
-  not_both,
-  same_or,
-  either,
-  tally_zero,
-  tally_hit,
-  tally_miss,
-  tally_grows,
-  any_zero,
-  any_miss,
-  any_step,
-  any_true,
-  any_same,
-}
+use Rattle.position.proofs.Tallies.{not_both, either, tally_zero, tally_hit, tally_miss, tally_grows, any_zero, any_miss, any_step, any_same}
 use Rattle.acceptance.specs.Holder.{UpToSeven}
 use Rattle.acceptance.specs.Noted.{among, NoteOf, heads, Noted}
 
--- a count up to seven is never more than what it counts
-pub seven_most : {k r : ℕ} → UpToSeven k r → r ≤ k
-seven_most {r = r} s = same_or r 7 (λ e. omega (arith, s.over e)) (λ n. omega (arith, s.exact (omega arith)))
-
 module _ (s : List ℕ) (h : ℕ) where
-  pub among_none : among s 0 h ≡ false
+  among_none : among s 0 h ≡ false
   unfolding among
   among_none = any_zero _
 
-  module _ (j : ℕ) where
-    pub among_found : (k : ℕ) → j < k → get_or s j 0 ≡ h → among s k h ≡ true
-    unfolding among
-    among_found k l e = any_true _ k j l (eq-eqb (get_or s j 0) h e)
-
-    pub among_past : (get_or s j 0 ≡ h → ⊥) → among s j h ≡ false → among s (j + 1) h ≡ false
-    unfolding among
-    among_past n e = any_miss _ j (ne_eqb (get_or s j 0) h n) ∙ e
+  -- the library's answer for the first k
+  pub among_first : {k : ℕ} → k ≤ length s → (r : Bool) → IsAnyAnswer (λ y b. eqb y h ≡ b) (take k s) r → r ≡ among s k h
+  unfolding among
+  among_first l r a = asked (λ y. eqb y h) s 0 l r a
 
   -- one hex more at the end of those noted
   among_set : (k : ℕ) → k < length s → (x : ℕ) → among (set s k h) (k + 1) x ≡ (eqb h x || among s k x)

@@ -3,7 +3,7 @@
 use Prim.Native.Nat.{ℕ, ◌+◌, ◌-◌, ◌*◌, ◌/◌, ◌%◌, ◌≤◌, ◌<◌}
 use mathlib.Core.Path.{◌≡◌, refl, sym, ap, subst, ◌∙◌}
 use mathlib.Core.List.{List}
-use mathlib.Core.Bool.{Bool, true, false, not}
+use mathlib.Core.Bool.{Bool, true, false}
 use native.Mathlib.Omega.{arith}
 use lib.ListN.{length, get_or, set, replicate, length-set, length-replicate, get_or-replicate, get_or-eq_default}
 use lib.Seq.{get_or-set_same, get_or-set_other}
@@ -12,7 +12,7 @@ use borrow.Author.Tests.{ltb-true, ltb-false, lt-ltb, le-ltb}
 use Rattle.position.specs.Tally.{tally}
 use Rattle.position.specs.Board.{Board, force_of}
 use Rattle.position.specs.Crowd.{crowd}
-use Rattle.position.proofs.Tallies.{not_both, either, same_or, equals, equals_yes, equals_no, equals_is, tally_zero, tally_hit, tally_miss, tally_pos, tally_some, tally_grows}
+use Rattle.position.proofs.Tallies.{either, same_or, equals, equals_yes, equals_no, equals_is, tally_zero, tally_hit, tally_miss, tally_pos, tally_some, tally_grows}
 use Rattle.position.proofs.Crowds.{crowd_is}
 use Rattle.acceptance.specs.Asked.{StackOk, StacksIn, StacksOk}
 use Rattle.acceptance.specs.Seats.{block, table, seat_of, Empty, AddsTo, first, more, strange, full, Seat, Seated, Counts, Crowded, SeatedOf}
@@ -241,13 +241,6 @@ module _ {b : Board} {base u : ℕ} {s : List ℕ} (t : List ℕ) (r : Bool) whe
       at true e a = a.on g
       at false e a = cc
 
-  pub overfull : r ≡ false → SeatedOf b base u s t r → Seated b base u s → StacksIn b base (base + block) → ⊥
-  overfull e a g o = at r e a
-    where
-      at : (r : Bool) → r ≡ false → SeatedOf b base u s t r → ⊥
-      at true e a = cc
-      at false e a = a.under g o
-
 -- all units are counted
 pub all_seated : {b : Board} {base n : ℕ} {s : List ℕ} → Seated b base n s → n ≡ b.units.count → StacksIn b base (base + block)
 all_seated {b} {base} {n} {s} g c u l low high =
@@ -261,16 +254,6 @@ all_seated {b} {base} {n} {s} g c u l low high =
 
     seat : Seat b n h (seat_of s (h - base))
     seat = subst (λ (k : ℕ). Seat b n k (seat_of s (h - base))) (omega arith) (g.seat (h - base) (omega arith))
-
--- the stacks of one block after another
-pub no_stacks : {b : Board} → StacksIn b 0 0
-no_stacks u l low high = absurd (omega arith)
-
-pub more_stacks : {b : Board} {base next : ℕ} → StacksIn b 0 base → StacksIn b base next → StacksIn b 0 next
-more_stacks {b} {base} s t u l low high =
-    either (ltb (b.units.state.hex u) base)
-    (λ e. s u l low (ltb-true (b.units.state.hex u) base e))
-    (λ e. t u l (ltb-false (b.units.state.hex u) base e) high)
 
 -- where the stacks of the map are in order, those of a block are, unless a unit stands past the map
 pub block_of : {b : Board} (base next : ℕ) → ((u : ℕ) → u < b.units.count → b.units.state.hex u < next → b.units.state.hex u < b.map.hexes)

@@ -8,7 +8,7 @@ use native.Mathlib.Omega.{arith}
 use Rattle.position.specs.Bits.{marks_end, has, with, tried, faced}
 use Rattle.position.specs.Board.{Board}
 use Rattle.position.specs.Change.{Change}
-use Rattle.position.specs.Change.Change.{destroyed, marked}
+use Rattle.position.specs.Change.Change.{marked}
 use Rattle.position.specs.Effect.{with_shown, change, changes, turned_up}
 use Rattle.position.proofs.BitLaws.{with_within}
 use Rattle.position.proofs.BitLaws.UnitMark.{is-tried}

@@ -27,7 +27,7 @@ ghost use Rattle.aftermath.specs.Advance.{
 use field::zone;
 use position::kind::Kind;
 use position::{View, layout, read, role};
-use ruling::{Answer, Tested};
+use ruling::Refusal;
 
 // Whether an Enemy of unit `u`, or a force that is neutral to its own, stands on hex `h`.
 fn shut(p: &[u8], v: View, u: usize, h: usize) -> bool
@@ -54,14 +54,7 @@ fn held_along(p: &[u8], v: View, u: usize, r: usize, n: usize) -> bool
     requires { Laid p.now v × (n ≤ route_hexes) }
     ensures { result ≡ any (held_at (board p.now) u r) n }
 {
-    let mut i = 0;
-    while i < n {
-        if held_at(p, v, u, r, i) {
-            return true;
-        }
-        i += 1;
-    }
-    false
+    (0..n).any(|i| held_at(p, v, u, r, i))
 }
 
 // Whether number `j` of route `r` is the hex, with nothing shut from its start to there.
@@ -80,14 +73,7 @@ fn leads_to(p: &[u8], v: View, u: usize, hex: usize, r: usize) -> bool
     requires { Laid p.now v }
     ensures { result ≡ any (clear_to (board p.now) u hex r) route_hexes }
 {
-    let mut j = 0;
-    while j < layout::ROUTE_HEXES {
-        if clear_to(p, v, u, hex, r, j) {
-            return true;
-        }
-        j += 1;
-    }
-    false
+    (0..layout::ROUTE_HEXES).any(|j| clear_to(p, v, u, hex, r, j))
 }
 
 // Whether route `r` starts beside unit `u` and leads it to the hex.
@@ -106,51 +92,44 @@ fn no_route(p: &[u8], v: View, u: usize, hex: usize) -> bool
     requires { Laid p.now v }
     ensures { result ≡ no_route (board p.now) u hex }
 {
-    let mut r = 0;
-    while r < layout::ROUTE_COUNT {
-        if can_follow(p, v, u, hex, r) {
-            return false;
-        }
-        r += 1;
-    }
-    true
+    !(0..layout::ROUTE_COUNT).any(|r| can_follow(p, v, u, hex, r))
 }
 
 // The questions of an advance past its numbers and its stage: 4, 5, 7, 11.
-fn judge_unit(p: &[u8], v: View, u: usize, hex: usize) -> Tested
+fn judge_unit(p: &[u8], v: View, u: usize, hex: usize) -> Result<(), Refusal>
     requires { Laid p.now v }
     ensures { TestedOf p.now (unit_checks (board p.now) u hex) (Unit {0}) result }
 {
     if read::role(p, v, u) != role::ADVANCES {
-        return Tested::Stopped(4, 0);
+        return Err(Refusal::WrongUnit(0));
     }
     if !Kind(read::kind(p, v, u)).moves_by_land() {
-        return Tested::Stopped(5, 0);
+        return Err(Refusal::Forbidden(0));
     }
     if no_route(p, v, u, hex) {
-        return Tested::Stopped(7, 0);
+        return Err(Refusal::NoWay(0));
     }
     if 3 <= crowd::others(p, v, u, hex) {
-        return Tested::Stopped(11, 0);
+        return Err(Refusal::Full(0));
     }
-    Tested::Passed
+    Ok(())
 }
 
 // All the questions of an advance.
-fn judge_advance(p: &[u8], v: View, u: usize, hex: usize) -> Tested
+fn judge_advance(p: &[u8], v: View, u: usize, hex: usize) -> Result<(), Refusal>
     requires { Laid p.now v }
     ensures { TestedOf p.now (advance_checks (board p.now) u hex) (Unit {0}) result }
 {
     let count = v.count;
     if count <= u {
-        return Tested::Stopped(3, 0);
+        return Err(Refusal::OutOfRange(0));
     }
     let hexes = v.hexes;
     if hexes <= hex {
-        return Tested::Stopped(3, 0);
+        return Err(Refusal::OutOfRange(0));
     }
     if read::stage(p, v) != position::stage::ADVANCES {
-        return Tested::Stopped(2, 0);
+        return Err(Refusal::Untimely);
     }
     judge_unit(p, v, u, hex)
 }
@@ -166,26 +145,24 @@ fn step_up(p: &mut [u8], v: View, u: usize, hex: usize)
 }
 
 // The advance on a checked position: unit `unit` advances to `hex`.
-pub fn advance(p: &mut [u8], v: View, unit: usize, hex: usize) -> Answer
+pub fn advance(p: &mut [u8], v: View, unit: usize, hex: usize) -> Result<(), Refusal>
     requires { Laid p.old v }
     ensures { Met p.old [] (advance_rule (board p.old) unit hex) (answer_as result) p.new [] }
 {
-    if let Tested::Stopped(n, k) = judge_advance(p, v, unit, hex) {
-        return Answer::Refused(n, k);
-    }
+    judge_advance(p, v, unit, hex)?;
     step_up(p, v, unit, hex);
-    Answer::Accepted
+    Ok(())
 }
 
 // The close on a checked position: nobody has a role any more, and the stage passes on.
-pub fn close(p: &mut [u8], v: View) -> Answer
+pub fn close(p: &mut [u8], v: View) -> Result<(), Refusal>
     requires { Laid p.old v }
     ensures { Met p.old [] (close_rule (board p.old)) (answer_as result) p.new [] }
 {
     if read::stage(p, v) != position::stage::ADVANCES {
-        return Answer::Refused(2, 0);
+        return Err(Refusal::Untimely);
     }
     passing::reassign(p, v, role::ADVANCES, role::NONE);
     passing::pass_on(p, v);
-    Answer::Accepted
+    Ok(())
 }

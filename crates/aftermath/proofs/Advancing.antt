@@ -5,14 +5,14 @@ use mathlib.Core.Bool.{false, not, true}
 use mathlib.Core.List.{List}
 use mathlib.Core.Path.{◌∙◌, ◌≡◌, ap, refl}
 use borrow.Author.Tests.{eq-eqb, ne_eqb}
-use Rattle.position.specs.Layout.{route_count, route_hexes}
+use Rattle.position.specs.Layout.{route_hexes}
 use Rattle.position.specs.Board.{Board, board}
 use Rattle.position.specs.Change.{make, makes}
 use Rattle.position.specs.Change.Change.{assigned, placed}
 use Rattle.position.specs.Ground.{joined}
 use Rattle.position.specs.Tally.{any}
 use Rattle.position.specs.Role as Role
-use Rattle.aftermath.specs.Advance.{advance_changes, clear_to, close_changes, held_at, may_advance, no_route, can_follow}
+use Rattle.aftermath.specs.Advance.{advance_changes, clear_to, close_changes, held_at, may_advance, can_follow}
 use Rattle.aftermath.specs.Stage.{reassigned}
 
 module _ (b : Board) (u : ℕ) where
@@ -41,14 +41,6 @@ module _ (b : Board) (u : ℕ) where
         joined b.map (b.units.state.hex u) (b.desk.route r 0) ≡ true → can_follow b u hex r ≡ any (clear_to b u hex r) route_hexes
     unfolding can_follow
     follow_beside e = simp e
-
-  pub some_route : (hex : ℕ) → any (can_follow b u hex) route_count ≡ true → no_route b u hex ≡ false
-  unfolding no_route
-  some_route hex e = ap not e
-
-  pub route_none : (hex : ℕ) → any (can_follow b u hex) route_count ≡ false → no_route b u hex ≡ true
-  unfolding no_route
-  route_none hex e = ap not e
 
 -- both writes are the advance's two changes
 pub both_made :

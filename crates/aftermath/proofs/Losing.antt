@@ -1,13 +1,13 @@
 -- Laws of losses: each test by its cases, the tests of a unit in their order, the printed total, and who is left.
 -- Assumes nothing.
-use Prim.Native.Nat.{◌+◌, ◌-◌, ◌<◌, ◌≤◌, ℕ}
+use Prim.Native.Nat.{◌+◌, ◌<◌, ◌≤◌, ℕ}
 use mathlib.Core.Bool.{Bool, ◌&&◌, and-false, and-true, false, not, true}
 use mathlib.Core.List.{List, [], ◌∷◌, map}
 use mathlib.Core.Path.{◌∙◌, ◌≡◌, ap, refl, sym}
 use native.Mathlib.Omega.{arith}
 use borrow.Author.Tests.{eq-eqb, le-leb, lt-leb, ne_eqb}
 use lib.Dec.{eqb}
-use lib.ListN.{drop, get_or, length, take}
+use lib.ListN.{get_or, length, take}
 use lib.Seq.{take_all}
 use Rattle.position.proofs.Changes.{board_makes, makes_then}
 use Rattle.position.proofs.Tallies.{same_or}
@@ -148,12 +148,10 @@ loss_place b units i e = ap (λ (k : ℕ). fighter_of (get_or units i 0) k 0) e
 
 pub listed_total :
     (b : Board) (units : List ℕ) {l : List Fighter} {r : ℕ} → length units ≤ 18 → Filled (loss_at b units) (length units) l
-    → r ≡ printed_total (take (length units - 0) (drop 0 l)) → r ≡ shown_total b units
+    → r ≡ printed_total (take (length units) l) → r ≡ shown_total b units
 unfolding loss_at
 listed_total b units {l} k f e =
-    let z : length units - 0 ≡ length units = omega arith in
     e
-    ∙ ap (λ (n : ℕ). printed_total (take n l)) z
     ∙ ap printed_total (filled_list (loss_fighter b) units (omega arith) f refl (λ i j. refl))
     ∙ sym (line_total b units)
 

@@ -21,31 +21,38 @@ use clock::phase;
 use field::{listed, unit, zone};
 use position::kind::Kind;
 use position::{View, bits, layout, read, stage};
-use ruling::Tested;
+use ruling::Refusal;
 
 // Refusal 3: lengths, then single numbers, then along the list.
-fn in_range(p: &[u8], v: View, target: usize, units: &[u16], die: usize, long: usize) -> Tested
+fn in_range(
+    p: &[u8],
+    v: View,
+    target: usize,
+    units: &[u16],
+    die: usize,
+    long: usize,
+) -> Result<(), Refusal>
     requires { Laid p.now v }
     ensures { TestedOf p.now (in_range (board p.now) target units.now die long) (InRange (board p.now) target units.now long) result }
 {
     if units.len() < 1 {
-        return Tested::Stopped(3, 0);
+        return Err(Refusal::OutOfRange(0));
     }
     if 18 < units.len() {
-        return Tested::Stopped(3, 0);
+        return Err(Refusal::OutOfRange(0));
     }
     let hexes = v.hexes;
     if long != hexes {
-        return Tested::Stopped(3, 0);
+        return Err(Refusal::OutOfRange(0));
     }
     if hexes <= target {
-        return Tested::Stopped(3, 0);
+        return Err(Refusal::OutOfRange(0));
     }
     if die < 1 {
-        return Tested::Stopped(3, 0);
+        return Err(Refusal::OutOfRange(0));
     }
     if layout::DIE_FACES < die {
-        return Tested::Stopped(3, 0);
+        return Err(Refusal::OutOfRange(0));
     }
     listed::all_there(p, v, units)
 }
@@ -77,15 +84,7 @@ fn any_fought(p: &[u8], v: View, h: usize) -> bool
     requires { Laid p.now v }
     ensures { result ≡ any (fought_on (board p.now) h) (board p.now).units.count }
 {
-    let count = v.count;
-    let mut u = 0;
-    while u < count {
-        if fought_on(p, v, h, u) {
-            return true;
-        }
-        u += 1;
-    }
-    false
+    (0..v.count).any(|u| fought_on(p, v, h, u))
 }
 
 // Whether the target holds no Enemy of the phasing force, or a unit there has fought.
@@ -119,37 +118,42 @@ fn not_beside(p: &[u8], v: View, target: usize, u: usize) -> bool
 }
 
 // The questions of unit `u` behind the first `n` of the list: 4, 5, 6, 13.
-fn attacker(p: &[u8], v: View, target: usize, units: &[u16], n: usize, u: usize) -> Tested
+fn attacker(
+    p: &[u8],
+    v: View,
+    target: usize,
+    units: &[u16],
+    n: usize,
+    u: usize,
+) -> Result<(), Refusal>
     requires { Laid p.now v × (n ≤ length units.now) × (n < 18) }
     ensures { TestedOf p.now (attacker (board p.now) target (take n units.now) u (n + 1)) (Faces (board p.now) target u) result }
 {
     let k = n + 1;
     if unit::not_phasing(p, v, u) {
-        return Tested::Stopped(4, k);
+        return Err(Refusal::WrongUnit(k));
     }
     if cannot_attack(p, v, u) {
-        return Tested::Stopped(5, k);
+        return Err(Refusal::Forbidden(k));
     }
     if listed::named(units, n, u) {
-        return Tested::Stopped(6, k);
+        return Err(Refusal::NamedTwice(k));
     }
     if not_beside(p, v, target, u) {
-        return Tested::Stopped(13, k);
+        return Err(Refusal::NotBeside(k));
     }
-    Tested::Passed
+    Ok(())
 }
 
 // The questions of every unit, along the list.
-fn attackers(p: &[u8], v: View, target: usize, units: &[u16]) -> Tested
+fn attackers(p: &[u8], v: View, target: usize, units: &[u16]) -> Result<(), Refusal>
     requires { Laid p.now v × (length units.now ≤ 18) }
     ensures { TestedOf p.now (attackers (board p.now) target units.now) (AllFace (board p.now) target units.now) result }
 {
-    for i in 0..units.len() {
-        if let Tested::Stopped(n, k) = attacker(p, v, target, units, i, units[i] as usize) {
-            return Tested::Stopped(n, k);
-        }
+    for (i, &u) in units.iter().enumerate() {
+        attacker(p, v, target, units, i, u as usize)?;
     }
-    Tested::Passed
+    Ok(())
 }
 
 // All the questions of an attack.
@@ -160,18 +164,16 @@ pub fn judge_attack(
     units: &[u16],
     die: usize,
     long: usize,
-) -> Tested
+) -> Result<(), Refusal>
     requires { Laid p.now v }
     ensures { TestedOf p.now (attack_checks (board p.now) target units.now die long) (Engaged (board p.now) target units.now long) result }
 {
-    if let Tested::Stopped(n, k) = in_range(p, v, target, units, die, long) {
-        return Tested::Stopped(n, k);
-    }
+    in_range(p, v, target, units, die, long)?;
     if !may_attack_now(p, v) {
-        return Tested::Stopped(2, 0);
+        return Err(Refusal::Untimely);
     }
     if no_target(p, v, target) {
-        return Tested::Stopped(12, 0);
+        return Err(Refusal::NoTarget);
     }
     attackers(p, v, target, units)
 }

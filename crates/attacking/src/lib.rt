@@ -15,7 +15,7 @@ mod asking;
 use battle::Fought;
 use position::{View, read};
 use results::{codes, settling};
-use ruling::Tested;
+use ruling::Refusal;
 
 // The battle of an attack that is let through.
 fn fight(
@@ -30,22 +30,18 @@ fn fight(
     ensures { Met p.old scratch.old (battle (board p.old) target units.now die) (fought_as result) p.new scratch.new }
 {
     let k = units.len();
-    let mut who = [0; 21];
-    let n = ranks::muster(p, v, target, units, &mut who);
-    let mut printed = [0; 21];
-    ranks::strengths(p, v, &who, n, &mut printed);
-    let mut fighting = [0; 21];
-    ranks::arm_all(p, v, &who, n, &printed, &mut fighting, scratch);
-    let fighters = ranks::draw_up(&who, &printed, &fighting, n);
-    let attackers = line::sum_up(fighters, 0, k);
-    let defenders = line::sum_up(fighters, k, n);
+    let mut fighters = line::nobody();
+    let n = ranks::muster(p, v, target, units, &mut fighters);
+    ranks::arm_all(p, v, &mut fighters[..n], scratch);
+    let attackers = line::sum_up(&fighters[..k]);
+    let defenders = line::sum_up(&fighters[k..n]);
     let defence = defenders.fighting * odds::multiple_at(p, v, target, units);
     let column = odds::column(p, v, attackers.fighting, defence);
     let code = read::code(p, v, column, die);
     let o = codes::upshot(code);
     let need = codes::need_of(o, attackers.printed, defenders.printed);
-    ranks::units_of(fighters, n, &mut who);
-    settling::settle(p, v, target, units, &who[0..n], o, need);
+    let all = fighters.map(|f| f.unit);
+    settling::settle(p, v, target, units, &all[..n], o, need);
     paint::clear(scratch);
     Fought::Done(column + 1, code)
 }
@@ -63,8 +59,8 @@ pub fn attack(
     requires { Laid p.old v × Accepted p.old }
     ensures { Met p.old scratch.old (attack_rule (board p.old) target units.now die (length scratch.old)) (fought_as result) p.new scratch.new }
 {
-    if let Tested::Stopped(n, k) = asking::judge_attack(p, v, target, units, die, scratch.len()) {
-        return Fought::Refused(n, k);
+    if let Err(refusal) = asking::judge_attack(p, v, target, units, die, scratch.len()) {
+        return Fought::Refused(refusal);
     }
     fight(p, v, target, units, die, scratch)
 }

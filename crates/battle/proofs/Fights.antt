@@ -9,8 +9,8 @@ use native.Mathlib.Nat.{mul-le-mul}
 use native.Mathlib.Omega.{arith}
 use borrow.Author.Tests.{eqb-false, eqb-true, leb-true, ne_eqb}
 use lib.Dec.{eqb}
-use lib.ListN.{get_or-append, drop, get_or, length, length-drop, replicate, take, take-append-drop}
-use lib.Seq.{drop-append-le, drop_at, ext_get_or, get_or-append-add, get_or-take, length-take-le, take_at, take-take}
+use lib.ListN.{get_or-append, drop, get_or, length, length-append, length-drop, length-map, replicate, take, take-append-drop}
+use lib.Seq.{drop-append-le, drop_at, ext_get_or, get_or-append-add, length-take-le, take_at, take-take}
 use Rattle.position.proofs.Crowds.{crowd_is}
 use Rattle.acceptance.proofs.Lawfuls.{standable_on}
 use Rattle.position.proofs.Tallies.{equals, neither, not_both, same_or, tally_some}
@@ -28,10 +28,13 @@ use Rattle.ruling.specs.Values.{fought_with}
 use Rattle.ruling.specs.Verdict.{Met, Outcome, judged, outcome, turned_all}
 use Rattle.ruling.specs.Verdict.Ruling.{accepted}
 use Rattle.walk.proofs.Marks.{le_or}
-use Rattle.line.proofs.Filling.{filled_list}
-use Rattle.line.specs.Line.{Filled, fighter_of, fighting_total, most, places, printed_total}
+use denote.Param.Members.{Mut}
+use Rattle.std.specs.Array.{IsMapOf}
+use Rattle.std.specs.Fn.{Called}
+use Rattle.std.proofs.lemmas.List.{get_or-map, map-append, take-map}
+use Rattle.line.specs.Line.{fighter_of, fighting_total, most, places, printed_total}
 use Rattle.line.specs.declared.Fighter.{Fighter}
-use Rattle.field.proofs.Lists.{Passing, map_at_lem, map_long, sieve_at, sieve_long}
+use Rattle.field.proofs.Lists.{Passing, map_long, sieve_at, sieve_long}
 use Rattle.field.specs.Phasing.{not_phasing}
 use Rattle.field.specs.Scene.{scene}
 use Rattle.field.specs.Zone.{stands_on}
@@ -39,8 +42,8 @@ use Rattle.results.proofs.Upshots.{need_attackers, need_defenders, need_none}
 use Rattle.battle.specs.Asked.{Faces, Engaged}
 use Rattle.battle.specs.Battle.{battle, code_of, column_of, need_for, ruled}
 use Rattle.results.specs.Participants.{defenders, participants}
-use Rattle.battle.specs.Line.{attack_line, defence_line, fighter, line, strength_of}
-use Rattle.battle.specs.Mustered.{AllStanding, ArmsAll, Musters, Names, Prints, Standing, drawn}
+use Rattle.battle.specs.Line.{attack_line, defence_line, fighter, line}
+use Rattle.battle.specs.Mustered.{AllStanding, Musters, Standing, armed, recruit}
 use Rattle.odds.specs.Odds.{column, multiple_at}
 use Rattle.results.specs.Results.{battle_changes, lost, need_of, upshot}
 use Rattle.results.specs.declared.Upshot.{Upshot}
@@ -138,34 +141,35 @@ either_part P xs ys f g i l =
     (λ k. rw (get_or-append xs ys 0 i k) (f i k))
 
 pub all_standing :
-    {b : Board} {target : ℕ} {units who : List ℕ} {n long : ℕ} → Lawful b → b.map.hexes ≤ 4096 → Engaged b target units long
-    → Musters b target units who n → AllStanding b who n
-unfolding participants
-all_standing {b} {target} {units} {who} {n} l m e w i k =
-    let z : get_or who i 0 ≡ get_or (units ++ defenders b target) i 0 = sym (get_or-take n who i 0 k) ∙ ap (λ (x : List ℕ). get_or x i 0) w.held in
-    rw z
-    (either_part (Standing b) units (defenders b target)
-    (λ j h. attacker_stands l m target (get_or units j 0) (e.range.counted j h) (e.able j h))
-    (λ j h. defender_stands l m target (get_or (defenders b target) j 0) e.range.aimed (defender_at b target j h))
-    i
-    (omega (arith, w.long)))
-
-map_two : {A : Type 0} (g : ℕ → A) (xs ys : List ℕ) → map g (xs ++ ys) ≡ map g xs ++ map g ys
-map_two g [] ys = refl
-map_two g (x ∷ xs) ys = ap (λ (l : List _). g x ∷ l) (map_two g xs ys)
+    {p : List ℕ} {target : ℕ} {units : List ℕ} {fs : List Fighter} {n long : ℕ} → Lawful (board p) → (board p).map.hexes ≤ 4096 → Engaged (board p) target units long
+    → Musters p target units fs n → AllStanding (board p) (take n fs)
+unfolding participants recruit
+all_standing {p} {target} {units} {fs} {n} l m e w =
+    let b = board p in
+    let ds = defenders b target in
+    rw w.held
+    (record {
+      each =
+          λ i k.
+          let h : i < length (units ++ ds) = omega (arith, map_long (recruit p) (units ++ ds)) in
+          rw (get_or-map (recruit p) (units ++ ds) i 0 (fighter_of 0 0 0) h)
+          (either_part (Standing b) units ds
+          (λ j h. attacker_stands l m target (get_or units j 0) (e.range.counted j h) (e.able j h))
+          (λ j h. defender_stands l m target (get_or ds j 0) e.range.aimed (defender_at b target j h))
+          i
+          (omega (arith, length-append units ds)));
+    })
 
 -- the first n places of a line are what g makes of the participants: of the attackers, and then of the defenders
 module _ (g : ℕ → Fighter) (us ds : List ℕ) (xs : List Fighter) (n : ℕ) (z : length xs ≡ places) (m : n ≤ places) (c : n ≡ length us + length ds) (e : take n xs ≡ map g (us ++ ds)) where
   halves : take n xs ≡ map g us ++ map g ds
-  halves = e ∙ map_two g us ds
+  halves = e ∙ map-append g us ds
 
-  pub first_part : take (length us - 0) (drop 0 xs) ≡ map g us
+  pub first_part : take (length us) xs ≡ map g us
   first_part =
-      let k : length us - 0 ≡ length us = omega arith in
-      rw k
-      (sym (take-take (length us) n xs (omega arith))
+      sym (take-take (length us) n xs (omega arith))
       ∙ ap (take (length us)) halves
-      ∙ take_at (map g us) (map g ds) (length us) (map_long g us))
+      ∙ take_at (map g us) (map g ds) (length us) (map_long g us)
 
   pub second_part : take (n - length us) (drop (length us) xs) ≡ map g ds
   second_part =
@@ -182,33 +186,14 @@ module _ (g : ℕ → Fighter) (us ds : List ℕ) (xs : List Fighter) (n : ℕ) 
 unfoldable pub fighter_by : Board → (ℕ → ℕ) → ℕ → Fighter
 fighter_by b s u = fighter b u (s u)
 
--- a place of the arrays is the fighter of its unit
-drawn_place :
-    (b : Board) (s : ℕ → ℕ) (who printed fighting : List ℕ) (i : ℕ) → get_or printed i 0 ≡ s (get_or who i 0)
-    → get_or fighting i 0 ≡ strength_of b (get_or who i 0) (get_or printed i 0) → drawn who printed fighting i ≡ fighter_by b s (get_or who i 0)
-unfolding drawn fighter_by fighter
-drawn_place b s who printed fighting i e f =
-    ap₂ (fighter_of (get_or who i 0)) e (f ∙ ap (strength_of b (get_or who i 0)) e)
+-- who was recruited and is armed is the fighter of the unit
+recruit_armed : (p : List ℕ) (u : ℕ) → armed (board p) (recruit p u) ≡ fighter_by (board p) (strength p) u
+unfolding armed recruit fighter_by
+recruit_armed p u = refl
 
--- and so the line is that of the participants
-drawn_list :
-    {p : List ℕ} {target : ℕ} {units who printed fighting : List ℕ} {n : ℕ} {fs : List Fighter} → Musters (board p) target units who n
-    → Prints p who n printed → ArmsAll (board p) who n printed fighting → Filled (drawn who printed fighting) n fs
-    → take n fs ≡ map (fighter_by (board p) (strength p)) (participants (board p) target units)
-drawn_list {p} {target} {units} {who} {printed} {fighting} {n} {fs} w q a d =
-    let b = board p in
-    let g = fighter_by b (strength p) in
-    let h : length (take n who) ≡ n = length-take-le n who (omega (arith, w.size, w.most)) in
-    filled_list g (take n who) w.most d h
-    (λ i j.
-    let e : get_or printed i 0 ≡ strength p (get_or who i 0) =
-    sym (get_or-take n printed i 0 j)
-    ∙ ap (λ (x : List ℕ). get_or x i 0) q.held
-    ∙ map_at_lem (strength p) (take n who) i (omega arith)
-    ∙ ap (strength p) (get_or-take n who i 0 j)
-    in
-    drawn_place b (strength p) who printed fighting i e (a.each i j) ∙ sym (ap g (get_or-take n who i 0 j)))
-    ∙ ap (map g) w.held
+recruits_armed : (p us : List ℕ) → map (armed (board p)) (map (recruit p) us) ≡ map (fighter_by (board p) (strength p)) us
+recruits_armed p [] = refl
+recruits_armed p (u ∷ us) = ap₂ (λ (x : Fighter) (l : List Fighter). x ∷ l) (recruit_armed p u) (recruits_armed p us)
 
 -- the two sides of the line
 module _ (b : Board) (s : ℕ → ℕ) where
@@ -223,7 +208,7 @@ module _ (b : Board) (s : ℕ → ℕ) where
 
     two_sides : strengths ≡ map s units ++ map s (defenders b target)
     unfolding participants
-    two_sides = map_two s units (defenders b target)
+    two_sides = map-append s units (defenders b target)
 
     pub attack_line_lem : attack_line b units strengths ≡ map (fighter_by b s) units
     unfolding attack_line
@@ -301,38 +286,63 @@ need_fits o a d l k =
 
 -- both sides, as they are lent from the line that is drawn up
 pub record Sides (p : List ℕ) (target : ℕ) (units : List ℕ) (fs : List Fighter) (n : ℕ) : Type 0 where
-  pub attackers : take (length units - 0) (drop 0 fs) ≡ attack_line (board p) units (map (strength p) (participants (board p) target units))
+  pub attackers : take (length units) fs ≡ attack_line (board p) units (map (strength p) (participants (board p) target units))
   pub defenders :
       take (n - length units) (drop (length units) fs)
       ≡ defence_line (board p) target units (map (strength p) (participants (board p) target units))
 
-pub sides :
-    {p : List ℕ} {target : ℕ} {units who printed fighting : List ℕ} {n : ℕ} {fs : List Fighter} → Musters (board p) target units who n
-    → Prints p who n printed → ArmsAll (board p) who n printed fighting → Filled (drawn who printed fighting) n fs
-    → Sides p target units fs n
+-- the participants are mustered and armed
+pub record Ranked (p : List ℕ) (target : ℕ) (units : List ℕ) (n : ℕ) (fs : List Fighter) : Type 0 where
+  pub size : length fs ≡ places
+  pub most : n ≤ places
+  pub long : n ≡ length units + length (defenders (board p) target)
+  pub held : take n fs ≡ map (fighter_by (board p) (strength p)) (participants (board p) target units)
+
+-- the line is armed in place: what stands behind it is as it was
+pub ranked :
+    {p : List ℕ} {target : ℕ} {units : List ℕ} {n : ℕ} {fs gs : List Fighter} → Musters p target units fs n → length fs ≡ places
+    → gs ≡ map (armed (board p)) (take n fs) → Ranked p target units n (gs ++ drop n fs)
+ranked {p} {target} {units} {n} {fs} {gs} w k e =
+    let b = board p in
+    let z : length gs ≡ n = ap length e ∙ length-map (take n fs) (armed b) ∙ length-take-le n fs (omega (arith, w.most)) in
+    record {
+      size = omega (arith, length-append gs (drop n fs), length-drop n fs, z, w.most);
+      most = w.most;
+      long = w.long;
+      held = take_at gs (drop n fs) n z ∙ e ∙ ap (map (armed b)) w.held ∙ recruits_armed p (participants b target units);
+    }
+
+pub sides : {p : List ℕ} {target : ℕ} {units : List ℕ} {n : ℕ} {fs : List Fighter} → Ranked p target units n fs → Sides p target units fs n
 unfolding participants
-sides {p} {target} {units} {who} {printed} {fighting} {n} {fs} w q a d =
+sides {p} {target} {units} {n} {fs} w =
     let b = board p in
     let ds = defenders b target in
     let g = fighter_by b (strength p) in
-    let e = drawn_list w q a d in
     record {
-      attackers = first_part g units ds fs n d.size w.most w.long e ∙ sym (attack_line_lem b (strength p) target units);
-      defenders = second_part g units ds fs n d.size w.most w.long e ∙ sym (defence_line_lem b (strength p) target units);
+      attackers = first_part g units ds fs n w.size w.most w.long w.held ∙ sym (attack_line_lem b (strength p) target units);
+      defenders = second_part g units ds fs n w.size w.most w.long w.held ∙ sym (defence_line_lem b (strength p) target units);
     }
 
--- the participants, as they are lent from the array that the units of the line are read back into
-pub lent_all :
-    {b : Board} {target : ℕ} {units who all : List ℕ} {n : ℕ} {fs : List Fighter} (printed fighting : List ℕ) → Musters b target units who n
-    → Filled (drawn who printed fighting) n fs → Names fs n all → take (n - 0) (drop 0 all) ≡ participants b target units
-unfolding drawn
-lent_all {who = who} {all = all} {n = n} printed fighting w d a =
-    let e : n - 0 ≡ n = omega arith in
-    let h : length (take n who) ≡ n = length-take-le n who (omega (arith, w.size, w.most)) in
-    let k : length (take n all) ≡ n = length-take-le n all (omega (arith, a.size, w.most)) in
-    rw e
-    (ext_get_or 0 (take n all) (take n who) (k ∙ sym h)
-    (λ i l.
-    let j : i < n = omega arith in
-    get_or-take n all i 0 j ∙ a.each i j ∙ ap (λ (f : Fighter). f.unit) (d.each i j) ∙ sym (get_or-take n who i 0 j))
-    ∙ w.held)
+-- the units of the line
+units_back : (b : Board) (s : ℕ → ℕ) (us : List ℕ) → map (λ (x : Fighter). x.unit) (map (fighter_by b s) us) ≡ us
+unfolding fighter_by fighter
+units_back b s [] = refl
+units_back b s (u ∷ us) = ap (λ (l : List ℕ). u ∷ l) (units_back b s us)
+
+module _ {F : Type 0} {g : Mut F (Fighter × Unit {0}) ℕ} {f : F} {fs : List Fighter} {all : List ℕ} {m : ℕ} (h : IsMapOf g f fs all m) (z : length fs ≡ m) (reads : (p q : F) (x : Fighter) (r : ℕ) → Called g p (x, tt) r q → r ≡ x.unit) where
+  all_units : all ≡ map (λ (x : Fighter). x.unit) fs
+  all_units =
+      let d = fighter_of 0 0 0 in
+      ext_get_or 0 all (map (λ (x : Fighter). x.unit) fs) (h.long ∙ sym z ∙ sym (length-map fs (λ (x : Fighter). x.unit)))
+      (λ i l.
+      let k = h.at i d 0 (omega (arith, h.long)) in
+      reads k.0 k.1 (get_or fs i d) (get_or all i 0) k.2 ∙ sym (get_or-map (λ (x : Fighter). x.unit) fs i d 0 (omega (arith, h.long, z))))
+
+  -- the participants, as the line's units are read back
+  pub lent_all : {p : List ℕ} {target : ℕ} {units : List ℕ} {n : ℕ} → Ranked p target units n fs → take n all ≡ participants (board p) target units
+  lent_all {p} {target} {units} {n} w =
+      let b = board p in
+      ap (take n) all_units
+      ∙ take-map (λ (x : Fighter). x.unit) n fs
+      ∙ ap (map (λ (x : Fighter). x.unit)) w.held
+      ∙ units_back b (strength p) (participants b target units)

@@ -1,165 +1,109 @@
--- Laws of the battle line: the arrays that it is drawn up from, and that of its units, filled place by place.
+-- Laws of the battle line while it is filled: who joins it, and what each is armed with, place by place.
 -- Assumes nothing.
 use Prim.Native.Nat.{◌+◌, ◌<◌, ◌≤◌, ℕ}
 use mathlib.Core.Bool.{Bool, false, true}
-use mathlib.Core.List.{List, [], ◌++◌, ◌∷◌, append_assoc, append-nil, map}
-use mathlib.Core.Path.{◌∙◌, ◌≡◌, ap, ap₂, refl, subst, sym}
-use native.Mathlib.Numerals.{add-one}
+use mathlib.Core.List.{List, ◌++◌, ◌∷◌, [], append_assoc, append-nil, map, map-map}
+use mathlib.Core.Path.{◌∙◌, ◌≡◌, ap, ap₂, refl, sym}
 use native.Mathlib.Omega.{arith}
-use borrow.Author.Count.{below_more, below_none}
-use borrow.Author.Tests.{eq-eqb}
-use lib.Dec.{leb}
-use lib.ListN.{get_or, length, length-append, length-set, set, take}
-use lib.Seq.{get_or-set_other, get_or-set_same, take_all, take-suc-set}
-use Rattle.position.proofs.Tallies.{any_false, not_both, same_or}
-use Rattle.position.specs.Board.{Board}
-use Rattle.position.specs.Ground.{next}
-use Rattle.position.specs.Kind.{us}
-use Rattle.position.specs.Layout.{strength}
+use borrow.Author.Tests.{eq-eqb, eqb-false, le-ltb, lt-ltb, ne_eqb}
+use lib.Dec.{leb, ltb}
+use lib.ListN.{get_or, length, length-append, length-map, length-set, set, take}
+use lib.Seq.{ext_get_or, get_or-set_other, get_or-set_same}
+use Rattle.std.specs.Prelude.{cond}
+use Rattle.std.proofs.lemmas.List.{get_or-map, map-append, map-id, map_push, take_more_set}
+use Rattle.position.proofs.Tallies.{any_false, same_or}
+use Rattle.position.specs.Board.{Board, board}
+use Rattle.position.specs.Kind.{us, canada}
 use Rattle.position.specs.Tally.{any}
-use Rattle.walk.specs.Chain.{mark}
-use Rattle.field.proofs.Lists.{map_last, sieve_grows, sieve_hit, sieve_miss, take_more}
+use Rattle.field.proofs.Lists.{sieve_grows, sieve_hit, sieve_miss}
 use Rattle.field.specs.Listed.{sieve}
 use Rattle.field.specs.Scene.{Scene, scene}
 use Rattle.field.specs.Working.{working}
 use Rattle.field.specs.Zone.{stands_on}
+use Rattle.walk.proofs.Marks.{le_or}
+use Rattle.walk.specs.Chain.{mark}
 use Rattle.supply.specs.Supply.{supplied}
 use Rattle.supply.specs.Traced.{Traced}
 use Rattle.results.specs.Participants.{defenders, participants}
-use Rattle.battle.specs.Line.{strength_of}
-use Rattle.battle.specs.Mustered.{AllStanding, Armed, Arms, ArmsHome, ArmsAll, Enlists, Joins, Musters, Names, Prints, nation_at}
-use Rattle.line.specs.Line.{fighter_at, places}
+use Rattle.battle.specs.Line.{fighter, strength_of}
+use Rattle.battle.specs.Mustered.{AllStanding, Joins, Musters, arm_home, arm_own, armed, nation_at, nation_of, recruit}
+use Rattle.line.specs.Line.{fighter_at, fighter_of, places}
 use Rattle.line.specs.declared.Fighter.{Fighter}
 
--- one place more is written
-pub write_next : (us : List ℕ) (i x : ℕ) → i < length us → take (i + 1) (set us i x) ≡ take i us ++ (x ∷ [])
-write_next us i x l = rw (add-one i) (take-suc-set us i x l)
-
--- the first i of the array are those of the list
-pub record Enlisting (units who : List ℕ) (i : ℕ) : Type 0 where
-  pub most : i ≤ length units
-  pub size : length who ≡ places
-  pub held : take i who ≡ take i units
-
-pub enlist_more :
-    {units who : List ℕ} {i : ℕ} → length units ≤ 18 → Enlisting units who i → i < length units
-    → Enlisting units (set who i (get_or units i 0)) (i + 1)
-enlist_more {units} {who} {i} m o l =
-    record {
-      most = omega arith;
-      size = simp length-set o.size;
-      held =
-          write_next who i (get_or units i 0) (omega (arith, o.size))
-          ∙ ap (λ (x : List ℕ). x ++ (get_or units i 0 ∷ [])) o.held
-          ∙ sym (take_more units i l);
-    }
-
-pub enlist_all : {units who : List ℕ} {i : ℕ} → Enlisting units who i → length units ≤ i → Enlists units who
-enlist_all {units} {who} {i} o l =
-    let e : length units ≡ i = omega (arith, o.most) in
-    record { size = o.size; held = ap (λ (k : ℕ). take k who) e ∙ o.held ∙ take_all i units l }
-
 -- the units below u that pass have joined
-pub record Joining (t : ℕ → Bool) (before : List ℕ) (m count : ℕ) (after : List ℕ) (n u : ℕ) : Type 0 where
+pub record Joining (t : ℕ → Bool) (r : ℕ → Fighter) (before : List Fighter) (m count : ℕ) (after : List Fighter) (n u : ℕ) : Type 0 where
   pub most : u ≤ count
   pub size : length after ≡ places
   pub long : n ≡ m + length (sieve t u)
-  pub held : take n after ≡ take m before ++ sieve t u
+  pub held : take n after ≡ take m before ++ map r (sieve t u)
 
-module _ {t : ℕ → Bool} {before : List ℕ} {m count : ℕ} where
-  pub joining_none : length before ≡ places → Joining t before m count before m 0
+module _ {t : ℕ → Bool} {r : ℕ → Fighter} {before : List Fighter} {m count : ℕ} where
+  pub joining_none : length before ≡ places → Joining t r before m count before m 0
   unfolding sieve
   joining_none e = record { most = omega arith; size = e; long = omega arith; held = simp append-nil }
 
-  module _ {after : List ℕ} {n u : ℕ} (o : Joining t before m count after n u) (l : u < count) where
+  module _ {after : List Fighter} {n u : ℕ} (o : Joining t r before m count after n u) (l : u < count) where
     pub joining_room : m + length (sieve t count) ≤ places → t u ≡ true → n < places
-    joining_room r e =
+    joining_room w e =
         let k = ap length (sieve_hit t u e) ∙ length-append (sieve t u) (u ∷ []) in
         omega (arith, o.long, sieve_grows t (u + 1) count (omega arith))
 
     pub joining_hit :
-        {after' : List ℕ} {n' : ℕ} → m + length (sieve t count) ≤ places → t u ≡ true → after' ≡ set after n u → n' ≡ n + 1
-        → Joining t before m count after' n' (u + 1)
-    joining_hit r e f g =
+        {after' : List Fighter} {n' : ℕ} {x : Fighter} → m + length (sieve t count) ≤ places → t u ≡ true → x ≡ r u → after' ≡ set after n x → n' ≡ n + 1
+        → Joining t r before m count after' n' (u + 1)
+    joining_hit {x = x} w e d f g =
         let k = ap length (sieve_hit t u e) ∙ length-append (sieve t u) (u ∷ []) in
         rw (f, g)
         (record {
           most = omega arith;
-          size = simp length-set o.size;
+          size = length-set after n x ∙ o.size;
           long = omega (arith, o.long);
           held =
-              write_next after n u (omega (arith, o.size, joining_room r e))
-              ∙ ap (λ (x : List ℕ). x ++ (u ∷ [])) o.held
-              ∙ append_assoc (take m before) (sieve t u) (u ∷ [])
-              ∙ ap (λ (x : List ℕ). take m before ++ x) (sym (sieve_hit t u e));
+              take_more_set after n x (omega (arith, o.size, joining_room w e))
+              ∙ ap₂ (λ (a : List Fighter) (b : Fighter). a ++ (b ∷ [])) o.held d
+              ∙ append_assoc (take m before) (map r (sieve t u)) (r u ∷ [])
+              ∙ ap (λ (a : List Fighter). take m before ++ a) (sym (map_push r (sieve t u) u) ∙ ap (map r) (sym (sieve_hit t u e)));
         })
 
     pub joining_miss :
-        {after' : List ℕ} {n' : ℕ} → t u ≡ false → after' ≡ after → n' ≡ n → Joining t before m count after' n' (u + 1)
+        {after' : List Fighter} {n' : ℕ} → t u ≡ false → after' ≡ after → n' ≡ n → Joining t r before m count after' n' (u + 1)
     joining_miss e f g =
         rw (f, g)
         (record {
           most = omega arith;
           size = o.size;
           long = o.long ∙ ap (λ (x : List ℕ). m + length x) (sym (sieve_miss t u e));
-          held = o.held ∙ ap (λ (x : List ℕ). take m before ++ x) (sym (sieve_miss t u e));
+          held = o.held ∙ ap (λ (x : List ℕ). take m before ++ map r x) (sym (sieve_miss t u e));
         })
 
 pub joins_all :
-    {b : Board} {target : ℕ} {before : List ℕ} {m count : ℕ} {after : List ℕ} {n u : ℕ}
-    → Joining (stands_on (scene b) target) before m count after n u → count ≤ u → count ≡ b.units.count → Joins b target before m after n
+    {p : List ℕ} {target : ℕ} {before : List Fighter} {m count : ℕ} {after : List Fighter} {n u : ℕ}
+    → Joining (stands_on (scene (board p)) target) (recruit p) before m count after n u → count ≤ u → count ≡ (board p).units.count
+    → Joins p target before m after n
 unfolding defenders
-joins_all {b} {target} {before} {m} {count} {after} {n} {u} o l e =
-    let k : u ≡ b.units.count = omega (arith, o.most) in
+joins_all {p} {target} {before} {m} {count} {after} {n} {u} o l e =
+    let k : u ≡ (board p).units.count = omega (arith, o.most) in
     record {
-      size = o.size;
-      long = o.long ∙ ap (λ (x : ℕ). m + length (sieve (stands_on (scene b) target) x)) k;
-      held = o.held ∙ ap (λ (x : ℕ). take m before ++ sieve (stands_on (scene b) target) x) k;
+      long = o.long ∙ ap (λ (x : ℕ). m + length (sieve (stands_on (scene (board p)) target) x)) k;
+      held = o.held ∙ ap (λ (x : ℕ). take m before ++ map (recruit p) (sieve (stands_on (scene (board p)) target) x)) k;
     }
 
 pub musters :
-    {b : Board} {target : ℕ} {units who who' : List ℕ} {n : ℕ} → length units ≤ 18 → length (defenders b target) ≤ 3
-    → Enlists units who → Joins b target who (length units) who' n → Musters b target units who' n
+    {p : List ℕ} {target : ℕ} {units : List ℕ} {l l' : List Fighter} {n : ℕ} → length units ≤ 18 → length (defenders (board p) target) ≤ 3
+    → take (length units) l ≡ map (recruit p) units → Joins p target l (length units) l' n → Musters p target units l' n
 unfolding participants
-musters {b} {target} {units} {who} l m e j =
+musters {p} {target} {units} k m e j =
+    let ds = defenders (board p) target in
     record {
-      size = j.size;
       long = j.long;
-      held = j.held ∙ ap (λ (x : List ℕ). x ++ defenders b target) e.held;
+      held = j.held ∙ ap (λ (x : List Fighter). x ++ map (recruit p) ds) e ∙ sym (map-append (recruit p) units ds);
       most = omega (arith, j.long);
     }
-
--- the printed strengths of the first i
-pub record Printing (p who : List ℕ) (n : ℕ) (printed : List ℕ) (i : ℕ) : Type 0 where
-  pub most : i ≤ n
-  pub size : length printed ≡ places
-  pub held : take i printed ≡ map (strength p) (take i who)
-
-pub printing_more :
-    {p who printed : List ℕ} {n i x : ℕ} → length who ≡ places → n ≤ places → Printing p who n printed i → i < n
-    → x ≡ strength p (get_or who i 0) → Printing p who n (set printed i x) (i + 1)
-printing_more {p} {who} {printed} {n} {i} {x} w m o l e =
-    record {
-      most = omega arith;
-      size = simp length-set o.size;
-      held =
-          write_next printed i x (omega (arith, o.size))
-          ∙ ap₂ (λ (y : List ℕ) (z : ℕ). y ++ (z ∷ [])) o.held e
-          ∙ sym (ap (map (strength p)) (take_more who i (omega arith)) ∙ map_last (strength p) (take i who) (get_or who i 0));
-    }
-
-pub prints_all : {p who printed : List ℕ} {n i : ℕ} → Printing p who n printed i → n ≤ i → Prints p who n printed
-prints_all {p} {who} {printed} {n} {i} o l =
-    let e : n ≡ i = omega (arith, o.most) in
-    record { size = o.size; held = rw e o.held }
 
 -- what is traced of a hex
 pub traced_says : {s : Scene} {n : ℕ} {m : List ℕ} → Traced s n m → (h : ℕ) → h < s.map.hexes → leb 2 (get_or m h 0) ≡ supplied s n h
 unfolding mark
 traced_says t h l = sym (t.tells h l)
-
-pub traced_as : {s : Scene} {m n : ℕ} {l : List ℕ} → m ≡ n → Traced s m l → Traced s n l
-traced_as {s} {l = l} e = subst (λ (k : ℕ). Traced s k l) e
 
 pub armed_is :
     (b : Board) (u printed : ℕ) {t : Bool} {r : ℕ} → t ≡ supplied (scene b) (b.units.counter.nationality u) (b.units.state.hex u)
@@ -167,141 +111,146 @@ pub armed_is :
 unfolding strength_of
 armed_is b u printed e f = f ∙ ap (λ (x : Bool). working b u x printed) e
 
--- the places below i are armed where they are of the nationality; all others are as they were
-pub record Arming (b : Board) (nation : ℕ) (who : List ℕ) (n : ℕ) (printed before after : List ℕ) (i : ℕ) : Type 0 where
-  pub most : i ≤ n
-  pub arms : Arms b nation who i printed before after
-  pub rest : (j : ℕ) → i ≤ j → get_or after j 0 ≡ get_or before j 0
+-- the fighters below i are as g makes them; all others are as they were
+pub record Arming (g : Fighter → Fighter) (before : List Fighter) (i : ℕ) (after : List Fighter) : Type 0 where
+  pub long : length after ≡ length before
+  pub past : (j : ℕ) → j < i → fighter_at after j ≡ g (fighter_at before j)
+  pub ahead : (j : ℕ) → i ≤ j → fighter_at after j ≡ fighter_at before j
 
-module _ {b : Board} {nation : ℕ} {who : List ℕ} {n : ℕ} {printed before : List ℕ} where
-  pub arming_none : length before ≡ places → Arming b nation who n printed before before 0
-  arming_none e =
-      record {
-        most = omega arith;
-        arms = record { size = e; own = λ j l. absurd (omega arith); other = λ j l. absurd (omega arith) };
-        rest = λ j l. refl;
-      }
+module _ {g : Fighter → Fighter} {before : List Fighter} where
+  pub arming_none : Arming g before 0 before
+  arming_none = record { long = refl; past = λ j l. absurd (omega arith); ahead = λ j l. refl }
 
-  module _ {after : List ℕ} {i : ℕ} (m : n ≤ places) (o : Arming b nation who n printed before after i) (l : i < n) where
-    pub arming_hit :
-        {after' : List ℕ} {x : ℕ} → b.units.counter.nationality (get_or who i 0) ≡ nation → x ≡ strength_of b (get_or who i 0) (get_or printed i 0)
-        → after' ≡ set after i x → Arming b nation who n printed before after' (i + 1)
-    arming_hit {after'} {x} e f g =
-        let z : i < length after = omega (arith, o.arms.size) in
-        rw g
+  pub arming_all : {i : ℕ} {after : List Fighter} → length before ≤ i → Arming g before i after → after ≡ map g before
+  arming_all {i} {after} l o =
+      ext_get_or (fighter_of 0 0 0) after (map g before) (o.long ∙ sym (length-map before g))
+      (λ j k.
+      let h : j < length before = omega (arith, o.long) in
+      o.past j (omega (arith, o.long)) ∙ sym (get_or-map g before j (fighter_of 0 0 0) (fighter_of 0 0 0) h))
+
+  module _ {i : ℕ} {after : List Fighter} (o : Arming g before i after) (l : i < length before) where
+    pub arming_more : {after' : List Fighter} {x : Fighter} → x ≡ g (fighter_at after i) → after' ≡ set after i x → Arming g before (i + 1) after'
+    arming_more {after'} {x} e f =
+        let h : i < length after = omega (arith, o.long) in
+        rw f
         (record {
-          most = omega arith;
-          arms =
-              record {
-                size = simp length-set o.arms.size;
-                own =
-                    λ j k q.
-                    same_or j i
-                    (λ d. rw d (get_or-set_same after i x 0 z ∙ f))
-                    (λ d. get_or-set_other after i j x 0 d ∙ o.arms.own j (omega arith) q);
-                other =
-                    λ j k q.
-                    same_or j i
-                    (λ d. absurd (q (ap (λ (y : ℕ). b.units.counter.nationality (get_or who y 0)) d ∙ e)))
-                    (λ d. get_or-set_other after i j x 0 d ∙ o.arms.other j (omega arith) q);
-              };
-          rest = λ j k. get_or-set_other after i j x 0 (λ d. omega arith) ∙ o.rest j (omega arith);
+          long = length-set after i x ∙ o.long;
+          past =
+              λ j k.
+              same_or j i
+              (λ d. rw d (get_or-set_same after i x (fighter_of 0 0 0) h ∙ e ∙ ap g (o.ahead i (omega arith))))
+              (λ d. get_or-set_other after i j x (fighter_of 0 0 0) d ∙ o.past j (omega arith));
+          ahead = λ j k. get_or-set_other after i j x (fighter_of 0 0 0) (λ d. omega arith) ∙ o.ahead j (omega arith);
         })
 
-    pub arming_miss :
-        {after' : List ℕ} → (b.units.counter.nationality (get_or who i 0) ≡ nation → ⊥) → after' ≡ after
-        → Arming b nation who n printed before after' (i + 1)
-    arming_miss d g =
-        rw g
-        (record {
-          most = omega arith;
-          arms =
-              record {
-                size = o.arms.size;
-                own =
-                    λ j k q.
-                    same_or j i
-                    (λ z. absurd (d (ap (λ (y : ℕ). b.units.counter.nationality (get_or who y 0)) (sym z) ∙ q)))
-                    (λ z. o.arms.own j (omega arith) q);
-                other =
-                    λ j k q.
-                    same_or j i
-                    (λ z. o.rest j (omega arith))
-                    (λ z. o.arms.other j (omega arith) q);
-              };
-          rest = λ j k. o.rest j (omega arith);
-        })
+-- two ways to make a line of another that agree on each fighter in it
+pub made_alike :
+    (f g : Fighter → Fighter) (l : List Fighter) → ((i : ℕ) → i < length l → f (fighter_at l i) ≡ g (fighter_at l i)) → map f l ≡ map g l
+made_alike f g l e =
+    let d = fighter_of 0 0 0 in
+    ext_get_or d (map f l) (map g l) (length-map l f ∙ sym (length-map l g))
+    (λ i k.
+    let h : i < length l = omega (arith, length-map l f) in
+    get_or-map f l i d d h ∙ e i h ∙ sym (get_or-map g l i d d h))
 
-  pub arming_all : {after : List ℕ} {i : ℕ} → Arming b nation who n printed before after i → n ≤ i → Arms b nation who n printed before after
-  arming_all {after} {i} o l =
-      record {
-        size = o.arms.size;
-        own = λ j k. o.arms.own j (omega arith);
-        other = λ j k. o.arms.other j (omega arith);
-      }
+module _ (b : Board) where
+  -- a fighter is armed or not
+  module _ (n : ℕ) (x : Fighter) where
+    pub own_armed : nation_of b x ≡ n → arm_own b n x ≡ armed b x
+    unfolding arm_own
+    own_armed e = simp (eq-eqb (nation_of b x) n e)
 
-  -- a nationality that takes no part
-  pub arms_none : length before ≡ places → any (nation_at b nation who) n ≡ false → Arms b nation who n printed before before
-  unfolding nation_at
-  arms_none s e =
-      record {
-        size = s;
-        own =
-            λ j k q.
-            not_both (nation_at b nation who j) (eq-eqb (b.units.counter.nationality (get_or who j 0)) nation q) (any_false (nation_at b nation who) n j e k);
-        other = λ j k q. refl;
-      }
+    pub own_left : (nation_of b x ≡ n → ⊥) → arm_own b n x ≡ x
+    unfolding arm_own
+    own_left e = simp (ne_eqb (nation_of b x) n e)
 
--- the nationalities below m are armed
-pub record ArmedTo (b : Board) (who : List ℕ) (n : ℕ) (printed after : List ℕ) (m : ℕ) : Type 0 where
-  pub most : m ≤ 5
-  pub size : length after ≡ places
-  pub each : (i : ℕ) → i < n → b.units.counter.nationality (get_or who i 0) < m → Armed b who printed after i
+    pub arms_own : {r : ℕ} → nation_of b x ≡ n → r ≡ strength_of b x.unit x.printed → fighter_of x.unit x.printed r ≡ arm_own b n x
+    unfolding armed fighter
+    arms_own e f = ap (fighter_of x.unit x.printed) f ∙ sym (own_armed e)
 
-module _ {b : Board} {who : List ℕ} {n : ℕ} {printed after : List ℕ} where
-  pub armed_none : length after ≡ places → ArmedTo b who n printed after 0
-  armed_none e = record { most = omega arith; size = e; each = λ i l k. absurd (omega arith) }
+    own_unit : (arm_own b n x).unit ≡ x.unit
+    unfolding armed fighter
+    own_unit =
+        same_or (nation_of b x) n
+        (λ e. ap (λ (y : Fighter). y.unit) (own_armed e))
+        (λ e. ap (λ (y : Fighter). y.unit) (own_left e))
 
-  pub armed_more : {m : ℕ} {next : List ℕ} → ArmedTo b who n printed after m → m < 5 → Arms b m who n printed after next → ArmedTo b who n printed next (m + 1)
-  armed_more {m} o l a =
-      record {
-        most = omega arith;
-        size = a.size;
-        each =
-            λ i k h.
-            same_or (b.units.counter.nationality (get_or who i 0)) m
-            (λ e. a.own i k e)
-            (λ d. a.other i k d ∙ o.each i k (omega arith));
-      }
-
-  pub armed_all : {m : ℕ} → AllStanding b who n → ArmedTo b who n printed after m → 5 ≤ m → ArmsAll b who n printed after
-  armed_all s o l = record { size = o.size; each = λ i k. o.each i k (omega (arith, (s i k).nation)) }
-
-pub armed_home :
-    {b : Board} {who : List ℕ} {n : ℕ} {printed before after : List ℕ} {m : ℕ}
-    → m ≡ us
-    → ArmedTo b who n printed before m
-    → ArmsHome b who n printed before after
-    → ArmedTo b who n printed after 5
-armed_home {b} {who} {n} {printed} {before} e o h =
-    armed_more (armed_more (subst (ArmedTo b who n printed before) e o) (omega arith) h.first) (omega arith) h.second
-
--- the units of the fighters, place by place
-module _ {fs : List Fighter} where
-  pub names_none : {all : List ℕ} → length all ≡ places → Names fs 0 all
-  names_none {all} e = record { size = e; each = below_none (λ j. get_or all j 0 ≡ (fighter_at fs j).unit) }
-
-  pub names_more :
-      {i x : ℕ} {all all' : List ℕ} → i < places → Names fs i all → x ≡ (fighter_at fs i).unit → all' ≡ set all i x → Names fs (i + 1) all'
-  names_more {i} {x} {all} l o e f =
-      rw f
+  -- who is armed stands where it stood
+  pub standing_own : (n : ℕ) (l : List Fighter) {m : List Fighter} → m ≡ map (arm_own b n) l → AllStanding b l → AllStanding b m
+  standing_own n l e s =
+      rw e
       (record {
-        size = length-set all i x ∙ o.size;
         each =
-            below_more (λ j. get_or (set all i x) j 0 ≡ (fighter_at fs j).unit) i
-            (λ j k. get_or-set_other all i j x 0 (λ d. omega arith) ∙ o.each j k)
-            (get_or-set_same all i x 0 (omega (arith, o.size)) ∙ e);
+            λ i k.
+            let d = fighter_of 0 0 0 in
+            let h : i < length l = omega (arith, length-map l (arm_own b n)) in
+            rw (get_or-map (arm_own b n) l i d d h, own_unit n (fighter_at l i)) (s.each i h);
       })
 
-  pub names_all : {i n : ℕ} {all : List ℕ} → Names fs i all → n ≤ i → Names fs n all
-  names_all o l = record { size = o.size; each = λ j k. o.each j (omega arith) }
+  -- a nationality that takes no part
+  pub arms_none : (n : ℕ) (l : List Fighter) → any (nation_at b n l) (length l) ≡ false → l ≡ map (arm_own b n) l
+  unfolding nation_at
+  arms_none n l e =
+      sym (made_alike (arm_own b n) (λ x. x) l
+      (λ i k. own_left n (fighter_at l i) (eqb-false (nation_of b (fighter_at l i)) n (any_false (nation_at b n l) (length l) i e k)))
+      ∙ map-id l)
+
+  -- the fighter armed if its nationality is below m
+  unfoldable pub arm_below : ℕ → Fighter → Fighter
+  arm_below m x = cond (ltb (nation_of b x) m) (armed b x) x
+
+  below_armed : (m : ℕ) (x : Fighter) → nation_of b x < m → arm_below m x ≡ armed b x
+  unfolding arm_below
+  below_armed m x l = simp (lt-ltb (nation_of b x) m l)
+
+  below_left : (m : ℕ) (x : Fighter) → m ≤ nation_of b x → arm_below m x ≡ x
+  unfolding arm_below
+  below_left m x l = simp (le-ltb (nation_of b x) m l)
+
+  -- one nationality more
+  own_below : (m : ℕ) (x : Fighter) → arm_own b m (arm_below m x) ≡ arm_below (m + 1) x
+  unfolding armed fighter
+  own_below m x =
+      same_or (nation_of b x) m
+      (λ e. ap (arm_own b m) (below_left m x (omega arith)) ∙ own_armed m x e ∙ sym (below_armed (m + 1) x (omega arith)))
+      (λ d.
+      le_or m (nation_of b x)
+      (λ l. ap (arm_own b m) (below_left m x l) ∙ own_left m x d ∙ sym (below_left (m + 1) x (omega arith)))
+      (λ l. ap (arm_own b m) (below_armed m x l) ∙ own_left m (armed b x) d ∙ sym (below_armed (m + 1) x (omega arith))))
+
+  own_below_all : (m : ℕ) (l : List Fighter) → map (arm_own b m) (map (arm_below m) l) ≡ map (arm_below (m + 1)) l
+  own_below_all m l = map-map (arm_own b m) (arm_below m) l ∙ made_alike (λ x. arm_own b m (arm_below m x)) (arm_below (m + 1)) l (λ i k. own_below m (fighter_at l i))
+
+  -- those of the nationalities below m are armed
+  pub record ArmedTo (before : List Fighter) (m : ℕ) (after : List Fighter) : Type 0 where
+    pub most : m ≤ us
+    pub made : after ≡ map (arm_below m) before
+    pub standing : AllStanding b after
+
+  module _ {before : List Fighter} (s : AllStanding b before) where
+    pub armed_none : ArmedTo before 0 before
+    armed_none =
+        record {
+          most = omega arith;
+          made = sym (made_alike (arm_below 0) (λ x. x) before (λ i k. below_left 0 (fighter_at before i) (omega arith)) ∙ map-id before);
+          standing = s;
+        }
+
+    -- all are armed
+    pub armed_all : {m : ℕ} {after last : List Fighter} → us ≤ m → ArmedTo before m after → last ≡ arm_home b after → last ≡ map (armed b) before
+    unfolding arm_home
+    armed_all {m} {after} l o e =
+        let k : m ≡ us = omega (arith, o.most) in
+        e
+        ∙ ap (λ (x : List Fighter). map (arm_own b canada) (map (arm_own b us) x)) (o.made ∙ ap (λ (j : ℕ). map (arm_below j) before) k)
+        ∙ ap (map (arm_own b canada)) (own_below_all us before)
+        ∙ own_below_all canada before
+        ∙ made_alike (arm_below 5) (armed b) before (λ i h. below_armed 5 (fighter_at before i) (s.each i h).nation)
+
+  pub armed_more : {before : List Fighter} {m : ℕ} {after after' : List Fighter} → m < us → ArmedTo before m after → after' ≡ map (arm_own b m) after → ArmedTo before (m + 1) after'
+  armed_more {before} {m} {after} l o e =
+      record {
+        most = omega arith;
+        made = e ∙ ap (map (arm_own b m)) o.made ∙ own_below_all m before;
+        standing = standing_own m after e o.standing;
+      }

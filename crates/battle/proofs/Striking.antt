@@ -13,7 +13,7 @@ use Rattle.position.specs.Layout.{route_count}
 use Rattle.position.specs.Board.{Board, nowhere}
 use Rattle.position.specs.Ground.{standable}
 use Rattle.position.specs.Crowd.{filled}
-use Rattle.position.specs.Change.Change.{routed, destroyed}
+use Rattle.position.specs.Change.Change.{routed}
 use Rattle.position.specs.Effect.{change, changes}
 use Rattle.position.proofs.BitLaws.{with_within}
 use Rattle.position.proofs.BitLaws.UnitMark.{is_fought}

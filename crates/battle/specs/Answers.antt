@@ -2,10 +2,11 @@
 -- Assumes nothing.
 use Rattle.ruling.specs.Values.{fought_with}
 use Rattle.ruling.specs.Verdict.{Ruling}
-use Rattle.ruling.specs.Verdict.Ruling.{refused, accepted}
+use Rattle.ruling.specs.Verdict.Ruling.{accepted}
+use Rattle.ruling.specs.Refused.{refused_as}
 use Rattle.battle.specs.declared.Fought.{Fought}
 use Rattle.battle.specs.declared.Fought.TheVariants as F
 
 abbrev pub fought_as : Fought → Ruling
 fought_as (F.Done column code) = accepted (fought_with column code)
-fought_as (F.Refused n k) = refused n k
+fought_as (F.Refused r) = refused_as r

@@ -1,77 +1,54 @@
 -- Beside what is certain: vocabulary of contracts and proofs.
--- What the arrays that the battle line is drawn up from hold: units, printed strengths and fighting strengths; and the array that the
--- units of the line are read back into. Each has 21 places, of which the first n count.
+-- What the battle line holds while it is filled: it has 21 places, of which the first n count.
 -- Assumes nothing.
-use Rattle.std.specs.Prelude.{◌+◌, ◌<◌, ◌≤◌, ℕ, Bool, List, ◌++◌, map, ◌≡◌, eqb, get_or, length, take}
-use Rattle.position.specs.Board.{Board}
+use Rattle.std.specs.Prelude.{◌+◌, ◌<◌, ◌≤◌, ℕ, Bool, List, ◌++◌, map, ◌≡◌, cond, eqb, length, take}
+use Rattle.position.specs.Board.{Board, board}
 use Rattle.position.specs.Kind.{us, canada}
 use Rattle.position.specs.Layout.{strength}
 use Rattle.line.specs.Line.{fighter_at, fighter_of, places}
 use Rattle.line.specs.declared.Fighter.{Fighter}
 use Rattle.results.specs.Participants.{defenders, participants}
-use Rattle.battle.specs.Line.{strength_of}
+use Rattle.battle.specs.Line.{fighter}
 
--- the first of the array are these units
-pub record Enlists (units who : List ℕ) : Type 0 where
-  pub size : length who ≡ places
-  pub held : take (length units) who ≡ units
+-- unit u as it comes to the line: with its printed strength, and not armed yet
+unfoldable pub recruit : List ℕ → ℕ → Fighter
+recruit p u = fighter_of u (strength p u) 0
 
--- the first n of the array, behind those that stood there, are the units in the target hex
-pub record Joins (b : Board) (target : ℕ) (before : List ℕ) (m : ℕ) (after : List ℕ) (n : ℕ) : Type 0 where
-  pub size : length after ≡ places
-  pub long : n ≡ m + length (defenders b target)
-  pub held : take n after ≡ take m before ++ defenders b target
+-- the first n in the line, behind those that stood there, are the units in the target hex
+pub record Joins (p : List ℕ) (target : ℕ) (before : List Fighter) (m : ℕ) (after : List Fighter) (n : ℕ) : Type 0 where
+  pub long : n ≡ m + length (defenders (board p) target)
+  pub held : take n after ≡ take m before ++ map (recruit p) (defenders (board p) target)
 
--- the first n of the array are the participants
-pub record Musters (b : Board) (target : ℕ) (units who : List ℕ) (n : ℕ) : Type 0 where
-  pub size : length who ≡ places
-  pub long : n ≡ length units + length (defenders b target)
-  pub held : take n who ≡ participants b target units
+-- the first n in the line are the participants
+pub record Musters (p : List ℕ) (target : ℕ) (units : List ℕ) (line : List Fighter) (n : ℕ) : Type 0 where
+  pub long : n ≡ length units + length (defenders (board p) target)
+  pub held : take n line ≡ map (recruit p) (participants (board p) target units)
   pub most : n ≤ places
-
--- the first n places hold the printed strengths of the units
-pub record Prints (p who : List ℕ) (n : ℕ) (printed : List ℕ) : Type 0 where
-  pub size : length printed ≡ places
-  pub held : take n printed ≡ map (strength p) (take n who)
 
 -- a participant whose supply can be looked up: of one of the five nationalities, and on the map
 pub record Standing (b : Board) (u : ℕ) : Type 0 where
   pub nation : b.units.counter.nationality u < 5
   pub mapped : b.units.state.hex u < b.map.hexes
 
-abbrev pub AllStanding : Board → List ℕ → ℕ → Type 0
-AllStanding b who n = (i : ℕ) → i < n → Standing b (get_or who i 0)
+pub record AllStanding (b : Board) (line : List Fighter) : Type 0 where
+  pub each : (i : ℕ) → i < length line → Standing b (fighter_at line i).unit
 
--- the unit at place i is of the nationality
-unfoldable pub nation_at : Board → ℕ → List ℕ → ℕ → Bool
-nation_at b nation who i = eqb (b.units.counter.nationality (get_or who i 0)) nation
+-- the nationality of a fighter's unit
+abbrev pub nation_of : Board → Fighter → ℕ
+nation_of b x = b.units.counter.nationality x.unit
 
--- place i of the array `fighting` holds its unit's fighting strength
-abbrev pub Armed : Board → List ℕ → List ℕ → List ℕ → ℕ → Type 0
-Armed b who printed fighting i = get_or fighting i 0 ≡ strength_of b (get_or who i 0) (get_or printed i 0)
+-- the fighter at place i is of the nationality
+unfoldable pub nation_at : Board → ℕ → List Fighter → ℕ → Bool
+nation_at b nation line i = eqb (nation_of b (fighter_at line i)) nation
 
--- the places below n whose units are of the nationality are armed, the others are as they were
-pub record Arms (b : Board) (nation : ℕ) (who : List ℕ) (n : ℕ) (printed before after : List ℕ) : Type 0 where
-  pub size : length after ≡ places
-  pub own : (i : ℕ) → i < n → b.units.counter.nationality (get_or who i 0) ≡ nation → Armed b who printed after i
-  pub other : (i : ℕ) → i < n → (b.units.counter.nationality (get_or who i 0) ≡ nation → ⊥) → get_or after i 0 ≡ get_or before i 0
+-- the fighter with what its unit fights with
+unfoldable pub armed : Board → Fighter → Fighter
+armed b x = fighter b x.unit x.printed
 
--- those of the US, and then those of Canada
-pub record ArmsHome (b : Board) (who : List ℕ) (n : ℕ) (printed before after : List ℕ) : Type 0 where
-  pub between : List ℕ
-  pub first : Arms b us who n printed before between
-  pub second : Arms b canada who n printed between after
+-- the same if it is of the nationality; any other is as it was
+unfoldable pub arm_own : Board → ℕ → Fighter → Fighter
+arm_own b nation x = cond (eqb (nation_of b x) nation) (armed b x) x
 
--- all places below n are armed
-pub record ArmsAll (b : Board) (who : List ℕ) (n : ℕ) (printed after : List ℕ) : Type 0 where
-  pub size : length after ≡ places
-  pub each : (i : ℕ) → i < n → Armed b who printed after i
-
--- the fighter at place i of the line: unit, printed strength and fighting strength, as the arrays have them
-unfoldable pub drawn : List ℕ → List ℕ → List ℕ → ℕ → Fighter
-drawn who printed fighting i = fighter_of (get_or who i 0) (get_or printed i 0) (get_or fighting i 0)
-
--- "carries unit .. to the odds and the losses": the first n places hold the units of the first n fighters
-pub record Names (fs : List Fighter) (n : ℕ) (all : List ℕ) : Type 0 where
-  pub size : length all ≡ places
-  pub each : (i : ℕ) → i < n → get_or all i 0 ≡ (fighter_at fs i).unit
+-- those of the US are armed, and then those of Canada
+unfoldable pub arm_home : Board → List Fighter → List Fighter
+arm_home b line = map (arm_own b canada) (map (arm_own b us) line)

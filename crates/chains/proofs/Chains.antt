@@ -1,12 +1,11 @@
 -- Laws of steps and of chains: a chain by the test of its pushes.
 -- Assumes nothing.
+use Rattle.std.specs.Prelude.{Option, Some, None}
 use Prim.Native.Nat.{ℕ, zero, suc, ◌<◌}
 use mathlib.Core.Path.{◌≡◌, refl, ap}
 use mathlib.Core.Bool.{Bool, true, false, cond}
 use mathlib.Core.List.{List, [], ◌∷◌, ◌++◌}
 use native.Mathlib.Omega.{arith}
-use Rattle.grid.specs.declared.Beside.{Beside}
-use Rattle.grid.specs.declared.Beside.TheVariants.{At, Off}
 use Rattle.position.specs.Tally.{any}
 use Rattle.position.specs.Ground.{is_at}
 use Rattle.position.proofs.Tallies.{not_both, either, any_some, any_true}
@@ -18,7 +17,7 @@ use Rattle.chains.specs.Follows.{Taken, up_to, wrong, takes}
 pub record Steps (next : Ways) (h z : ℕ) : Type 0 where
   pub dir : ℕ
   pub low : dir < 6
-  pub way : next h dir ≡ At z
+  pub way : next h dir ≡ Some z
 
 -- hexes are next to one another exactly if some step leads from one to the other
 module _ (next : Ways) (h z : ℕ) where
@@ -28,7 +27,7 @@ module _ (next : Ways) (h z : ℕ) where
       let s = any_some (λ d. is_at (next h d) z) 6 e in
       record { dir = s.at; low = s.below; way = is-at (next h s.at) z s.passes }
 
-  pub steps_leads : (d : ℕ) → d < 6 → next h d ≡ At z → leads next h z ≡ true
+  pub steps_leads : (d : ℕ) → d < 6 → next h d ≡ Some z → leads next h z ≡ true
   unfolding leads
   steps_leads d l e = any_true (λ k. is_at (next h k) z) 6 d l (at_is e)
 
@@ -39,12 +38,12 @@ pub record Reaches (next : Ways) (t : ℕ → Bool) (h : ℕ) : Type 0 where
   pub passes : t hex ≡ true
 
 module _ (t : ℕ → Bool) where
-  leads_to_lem : (r : Beside) → leads_to t r ≡ true → (z : ℕ) × (r ≡ At z) × (t z ≡ true)
+  leads_to_lem : (r : Option ℕ) → leads_to t r ≡ true → (z : ℕ) × (r ≡ Some z) × (t z ≡ true)
   unfolding leads_to
-  leads_to_lem (At z) e = (z, refl, e)
-  leads_to_lem Off e = not_both false e refl
+  leads_to_lem (Some z) e = (z, refl, e)
+  leads_to_lem None e = not_both false e refl
 
-  to_leads : {r : Beside} {z : ℕ} → r ≡ At z → t z ≡ true → leads_to t r ≡ true
+  to_leads : {r : Option ℕ} {z : ℕ} → r ≡ Some z → t z ≡ true → leads_to t r ≡ true
   unfolding leads_to
   to_leads e p = rw e p
 
@@ -55,7 +54,7 @@ module _ (t : ℕ → Bool) where
         let r = leads_to_lem (next h s.at) s.passes in
         record { hex = r.0; step = record { dir = s.at; low = s.below; way = r.1 }; passes = r.2 }
 
-    pub reaches_some : {z : ℕ} (d : ℕ) → d < 6 → next h d ≡ At z → t z ≡ true → any (λ k. leads_to t (next h k)) 6 ≡ true
+    pub reaches_some : {z : ℕ} (d : ℕ) → d < 6 → next h d ≡ Some z → t z ≡ true → any (λ k. leads_to t (next h k)) 6 ≡ true
     reaches_some d l e p = any_true (λ k. leads_to t (next h k)) 6 d l (to_leads e p)
 
 -- the pushes that a chain takes, and the rest of them
@@ -69,7 +68,7 @@ no_taken p q = let z : ◌≡◌ {A = ℕ} 0 1 = cc in absurd (omega arith)
 
 module _ (next : Ways) (s : Stands) where
   -- a stack that has a vacant hex beside it has one, and one that has none finds none
-  module _ (used : List ℕ) (h z d : ℕ) (l : d < 6) (e : next h d ≡ At z) where
+  module _ (used : List ℕ) (h z d : ℕ) (l : d < 6) (e : next h d ≡ Some z) where
     pub has_rest_lem : rests s used z ≡ true → has_rest next s used h ≡ true
     unfolding has_rest
     has_rest_lem r = reaches_some (rests s used) next h d l e r

@@ -1,5 +1,6 @@
 -- Where the search says that a series exists, the one found is a series; and a series has few pushes, all of them to hexes of the map.
 -- Assumes nothing.
+use Rattle.std.specs.Prelude.{Option, Some, None}
 use Prim.Native.Nat.{ℕ, zero, suc, ◌*◌, ◌≤◌, ◌<◌}
 use mathlib.Core.Path.{◌≡◌, refl, sym, ap, subst, ◌∙◌}
 use mathlib.Core.Bool.{Bool, true, false, not, cond, ◌&&◌}
@@ -9,8 +10,6 @@ use native.Mathlib.Decide.{dec_lt}
 use lib.Dec.{eqb}
 use lib.ListN.{length, length-append, get_or}
 use borrow.Author.Tests.{eqb-true, ne_eqb}
-use Rattle.grid.specs.declared.Beside.{Beside}
-use Rattle.grid.specs.declared.Beside.TheVariants.{At, Off}
 use Rattle.position.specs.Tally.{any}
 use Rattle.position.specs.Board.{Board}
 use Rattle.position.specs.Ground.{standable}
@@ -77,11 +76,11 @@ module _ (next : Ways) (s : Stands) where
 
     module _ (more : (z : ℕ) → ends_in next s (h ∷ used) left z y ≡ true → Chain next s (h ∷ used) left z (thence z) y) where
       -- the stack in hex h pushes in its turn, to where the step leads
-      pushed : has_rest next s (h ∷ used) h ≡ false → (d : ℕ) → d < 6 → (r : Beside) → next h d ≡ r → leads_to yielding r ≡ true
+      pushed : has_rest next s (h ∷ used) h ≡ false → (d : ℕ) → d < 6 → (r : Option ℕ) → next h d ≡ r → leads_to yielding r ≡ true
           → Chain next s used (suc left) h (push_on thence r) y
       unfolding leads_to push_on
-      pushed n d l Off w e = not_both false e refl
-      pushed n d l (At z) w e =
+      pushed n d l None w e = not_both false e refl
+      pushed n d l (Some z) w e =
           let b = both_yes (yields s (h ∷ used) z) (ends_in next s (h ∷ used) left z y) e in
           push d l w n b.0 (more z b.1)
 
@@ -134,11 +133,11 @@ module _ (g : Land) where
         }
 
     -- and by where it leads
-    stepped : (d : ℕ) → d < 6 → (r : Beside) → g.next a d ≡ r → leads_to (on_over g can s i a) r ≡ true
+    stepped : (d : ℕ) → d < 6 → (r : Option ℕ) → g.next a d ≡ r → leads_to (on_over g can s i a) r ≡ true
         → Finds g s (suc k) i a (seek_at g can then s a r)
     unfolding leads_to on_over seek_at
-    stepped d l Off w e = not_both false e refl
-    stepped d l (At x) w e =
+    stepped d l None w e = not_both false e refl
+    stepped d l (Some x) w e =
         let b = both_yes (eqb (g.far x) (suc i)) _ e in
         entered d x (record { dir = l; leads = w; away = eqb-true (g.far x) (suc i) b.0 }) (s x) refl b.1
 

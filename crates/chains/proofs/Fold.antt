@@ -1,5 +1,6 @@
 -- A series and its copy on a smaller land.
 -- Assumes nothing.
+use Rattle.std.specs.Prelude.{Option, Some, None}
 use Prim.Native.Nat.{ℕ, zero, suc, ◌+◌, ◌≤◌, ◌<◌}
 use mathlib.Core.Path.{◌≡◌, refl, sym, ap, ap₂, ◌∙◌}
 use mathlib.Core.Bool.{Bool, true, false, not, cond, ◌&&◌, ◌||◌}
@@ -8,8 +9,6 @@ use native.Mathlib.Omega.{arith}
 use lib.Dec.{eqb}
 use lib.ListN.{length, length-map}
 use borrow.Author.Tests.{eq-eqb, ne_eqb}
-use Rattle.grid.specs.declared.Beside.{Beside}
-use Rattle.grid.specs.declared.Beside.TheVariants.{At, Off}
 use Rattle.position.specs.Tally.{any}
 use Rattle.position.specs.Ground.{is_at}
 use Rattle.position.proofs.Tallies.{either, same_or, any_same}
@@ -42,20 +41,20 @@ push_moved at false false false z zs t = refl
 
 -- a way and its copy: to a hex, to a hex that passes a test, and the hex that the copy leads to
 module _ (at : ℕ → ℕ) where
-  is_moved : (z : ℕ) (r : Beside) → ((y : ℕ) → r ≡ At y → eqb (at y) (at z) ≡ eqb y z) → is_at (moved at r) (at z) ≡ is_at r z
+  is_moved : (z : ℕ) (r : Option ℕ) → ((y : ℕ) → r ≡ Some y → eqb (at y) (at z) ≡ eqb y z) → is_at (moved at r) (at z) ≡ is_at r z
   unfolding is_at moved
-  is_moved z (At y) h = h y refl
-  is_moved z Off h = refl
+  is_moved z (Some y) h = h y refl
+  is_moved z None h = refl
 
-  to_moved : (t t' : ℕ → Bool) (r : Beside) → ((y : ℕ) → r ≡ At y → t' (at y) ≡ t y) → leads_to t' (moved at r) ≡ leads_to t r
+  to_moved : (t t' : ℕ → Bool) (r : Option ℕ) → ((y : ℕ) → r ≡ Some y → t' (at y) ≡ t y) → leads_to t' (moved at r) ≡ leads_to t r
   unfolding leads_to moved
-  to_moved t t' (At y) h = h y refl
-  to_moved t t' Off h = refl
+  to_moved t t' (Some y) h = h y refl
+  to_moved t t' None h = refl
 
-  from_moved : (r : Beside) {z' : ℕ} → moved at r ≡ At z' → (z : ℕ) × (r ≡ At z) × (at z ≡ z')
+  from_moved : (r : Option ℕ) {z' : ℕ} → moved at r ≡ Some z' → (z : ℕ) × (r ≡ Some z) × (at z ≡ z')
   unfolding moved
-  from_moved (At z) e = (z, refl, cc)
-  from_moved Off e = off_at refl e
+  from_moved (Some z) e = (z, refl, cc)
+  from_moved None e = off_at refl e
 
 module _ {g g' : Land} {at : ℕ → ℕ} {Near : ℕ → ℕ → Type 0} (f : Folds g g' at Near) where
   -- two hexes are one exactly if their copies are
@@ -80,7 +79,7 @@ module _ {g g' : Land} {at : ℕ → ℕ} {Near : ℕ → ℕ → Type 0} (f : F
 
   -- steps lead alike from a hex within five steps and from its copy
   module _ (k h : ℕ) (l : k ≤ 5) (n : Near k h) where
-    onto_near : {d z : ℕ} → g.next h d ≡ At z → Near 6 z
+    onto_near : {d z : ℕ} → g.next h d ≡ Some z → Near 6 z
     onto_near {d} {z} e = f.more (suc k) 6 z (f.further k h d z n e) (omega arith)
 
     way_at : (d : ℕ) → d < 6 → g'.next (at h) d ≡ moved at (g.next h d)
@@ -99,7 +98,7 @@ module _ {g g' : Land} {at : ℕ → ℕ} {Near : ℕ → ℕ → Type 0} (f : F
         (λ d m. rw (way_at d m) (to_moved at t t' (g.next h d) (λ y e. q y (onto_near e))))
 
     -- the hex that a step of the copy is the copy of
-    step_back : {h' d z' : ℕ} → at h ≡ h' → d < 6 → g'.next h' d ≡ At z' → (z : ℕ) × (at z ≡ z') × Near (suc k) z
+    step_back : {h' d z' : ℕ} → at h ≡ h' → d < 6 → g'.next h' d ≡ Some z' → (z : ℕ) × (at z ≡ z') × Near (suc k) z
     step_back {d = d} q m e =
         let r = from_moved at (g.next h d) (sym (way_at d m) ∙ ap (λ (v : ℕ). g'.next v d) q ∙ e) in
         (r.0, r.2, f.further k h d r.0 n r.1)

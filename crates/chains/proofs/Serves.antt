@@ -1,5 +1,6 @@
 -- The search finds a series of pushes exactly if there is one, and the series found is at hand.
 -- Assumes nothing.
+use Rattle.std.specs.Prelude.{Some}
 use Prim.Native.Nat.{ℕ, zero, suc, ◌<◌}
 use mathlib.Core.Path.{◌≡◌, refl, ap, subst}
 use mathlib.Core.Bool.{Bool, true, false, cond, ◌&&◌}
@@ -7,7 +8,6 @@ use mathlib.Core.List.{List, [], ◌∷◌, ◌++◌}
 use lib.Dec.{eqb}
 use lib.ListN.{length}
 use borrow.Author.Tests.{eqb-true, eq-eqb}
-use Rattle.grid.specs.declared.Beside.TheVariants.{At}
 use Rattle.position.specs.Tally.{any}
 use Rattle.position.specs.Board.{Board}
 use Rattle.position.proofs.Tallies.{not_both, both_yes, any_some, any_true}
@@ -60,7 +60,7 @@ module _ (next : Ways) (s : Stands) where
       (reaches_some (λ x. yields s (h ∷ used) x && ends_in next s (h ∷ used) left x last) next h d l e (simp i (chain_ends c)))
 
   -- the last hex of a chain is one that a step leads to
-  pub chain_last : (P : ℕ → Type 0) → ((h d z : ℕ) → next h d ≡ At z → P z) → {used zs : List ℕ} {left h y : ℕ}
+  pub chain_last : (P : ℕ → Type 0) → ((h d z : ℕ) → next h d ≡ Some z → P z) → {used zs : List ℕ} {left h y : ℕ}
       → Chain next s used left h zs y → P y
   chain_last P f (rest {h = h} {z} d l e r) = f h d z e
   chain_last P f (push d l e n i c) = chain_last P f c

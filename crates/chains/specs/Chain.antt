@@ -1,8 +1,6 @@
 -- A chain of pushes: the group enters a hex, the stack there goes on to another, and so on to a vacant one.
 -- Assumes nothing.
-use Rattle.std.specs.Prelude.{ℕ, suc, ◌<◌, ◌≡◌, Bool, true, false, not, cond, ◌&&◌, List, [], ◌∷◌, eqb}
-use Rattle.grid.specs.declared.Beside.{Beside}
-use Rattle.grid.specs.declared.Beside.TheVariants.{At, Off}
+use Rattle.std.specs.Prelude.{ℕ, suc, ◌<◌, ◌≡◌, Bool, true, false, not, cond, ◌&&◌, List, [], ◌∷◌, eqb, Option, Some, None}
 use Rattle.position.specs.Tally.{any}
 use Rattle.position.specs.Ground.{is_at}
 use Rattle.field.specs.Listed.{named}
@@ -12,7 +10,7 @@ use Rattle.chains.specs.Stand.{is_free, is_loose}
 
 -- where a step over an unblocked side leads, from a hex in a direction
 abbrev pub Ways : Type 0
-Ways = ℕ → ℕ → Beside
+Ways = ℕ → ℕ → Option ℕ
 
 -- what each hex is to those who move
 abbrev pub Stands : Type 0
@@ -27,9 +25,9 @@ unfoldable pub yields : Stands → List ℕ → ℕ → Bool
 yields s used z = is_loose (s z) && not (named used z)
 
 -- the test t holds of a hex that a step leads to
-unfoldable pub leads_to : (ℕ → Bool) → Beside → Bool
-leads_to t (At z) = t z
-leads_to t Off = false
+unfoldable pub leads_to : (ℕ → Bool) → Option ℕ → Bool
+leads_to t (Some z) = t z
+leads_to t None = false
 
 -- hex z is next to hex h over an unblocked side
 unfoldable pub leads : Ways → ℕ → ℕ → Bool
@@ -44,11 +42,11 @@ has_rest next s used h = any (λ d. leads_to (rests s used) (next h d)) 6
 pub data Chain (next : Ways) (s : Stands) : List ℕ → ℕ → ℕ → List ℕ → ℕ → Type 0 where
   -- "uses a vacant hex if it has one"
   rest :
-      {used : List ℕ} {left h z : ℕ} (d : ℕ) → d < 6 → next h d ≡ At z → rests s (h ∷ used) z ≡ true
+      {used : List ℕ} {left h z : ℕ} (d : ℕ) → d < 6 → next h d ≡ Some z → rests s (h ∷ used) z ≡ true
       → Chain next s used (suc left) h (z ∷ []) z
   -- "else pushes in its turn"
   push :
-      {used : List ℕ} {left h z last : ℕ} {zs : List ℕ} (d : ℕ) → d < 6 → next h d ≡ At z → has_rest next s (h ∷ used) h ≡ false
+      {used : List ℕ} {left h z last : ℕ} {zs : List ℕ} (d : ℕ) → d < 6 → next h d ≡ Some z → has_rest next s (h ∷ used) h ≡ false
       → yields s (h ∷ used) z ≡ true → Chain next s (h ∷ used) left z zs last → Chain next s used (suc left) h (z ∷ zs) last
 
 -- "A chain .. pushes at most three stacks"

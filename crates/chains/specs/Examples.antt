@@ -1,9 +1,7 @@
 -- Beside what is certain: examples.
 -- Chains, series and the search, computed along a road of hexes and on a small board.
 -- Assumes nothing.
-use Rattle.std.specs.Prelude.{ℕ, zero, suc, ◌≡◌, refl, true, false, cond, List, [], ◌∷◌, map, eqb, leb}
-use Rattle.grid.specs.declared.Beside.{Beside}
-use Rattle.grid.specs.declared.Beside.TheVariants.{At, Off}
+use Rattle.std.specs.Prelude.{ℕ, zero, suc, ◌≡◌, refl, true, false, cond, List, [], ◌∷◌, map, eqb, leb, Option, Some, None}
 use Rattle.position.specs.Tally.{any}
 use Rattle.position.specs.Board.{Board, force_of}
 use Rattle.position.specs.Ground.{is_at}
@@ -25,22 +23,22 @@ unfolding searching any is_at named owes_at force_of apart firm bars stand rests
 pushing = 0
 
 -- a road of hexes 0 to 5, and hex 6 beside hex 1
-abbrev pub road_on : ℕ → Beside
-road_on h = cond (leb 5 h) Off (At (suc h))
+abbrev pub road_on : ℕ → Option ℕ
+road_on h = cond (leb 5 h) None (Some (suc h))
 
-abbrev pub road_back : ℕ → Beside
-road_back zero = Off
-road_back (suc h) = cond (leb 5 h) Off (At h)
+abbrev pub road_back : ℕ → Option ℕ
+road_back zero = None
+road_back (suc h) = cond (leb 5 h) None (Some h)
 
-abbrev pub road_side : ℕ → Beside
-road_side h = cond (eqb h 1) (At 6) Off
+abbrev pub road_side : ℕ → Option ℕ
+road_side h = cond (eqb h 1) (Some 6) None
 
-abbrev pub road_ways : ℕ → ℕ → Beside
+abbrev pub road_ways : ℕ → ℕ → Option ℕ
 road_ways h zero = road_side h
-road_ways h (suc zero) = Off
+road_ways h (suc zero) = None
 road_ways h (suc (suc zero)) = road_on h
-road_ways h (suc (suc (suc zero))) = Off
-road_ways h (suc (suc (suc (suc zero)))) = Off
+road_ways h (suc (suc (suc zero))) = None
+road_ways h (suc (suc (suc (suc zero)))) = None
 road_ways h (suc (suc (suc (suc (suc d))))) = road_back h
 
 -- it starts in hex 0

@@ -1,8 +1,6 @@
 -- A series of pushes, where the search says that one exists.
 -- Assumes nothing.
-use Rattle.std.specs.Prelude.{ℕ, zero, suc, ◌≡◌, Bool, true, cond, ◌&&◌, List, [], ◌∷◌, ◌++◌, length}
-use Rattle.grid.specs.declared.Beside.{Beside}
-use Rattle.grid.specs.declared.Beside.TheVariants.{At, Off}
+use Rattle.std.specs.Prelude.{ℕ, zero, suc, ◌≡◌, Bool, true, cond, ◌&&◌, List, [], ◌∷◌, ◌++◌, length, Option, Some, None}
 use Rattle.position.specs.Board.{Board}
 use Rattle.chains.specs.declared.Stand.{Stand}
 use Rattle.chains.specs.declared.Stand.TheVariants.{Shut, Free, Loose}
@@ -17,13 +15,13 @@ pick t zero = 0
 pick t (suc n) = cond (t n) n (pick t n)
 
 -- where a step from hex h leads to a hex that passes the test, if one does
-unfoldable pub step_for : (ℕ → Bool) → Ways → ℕ → Beside
+unfoldable pub step_for : (ℕ → Bool) → Ways → ℕ → Option ℕ
 step_for t next h = next h (pick (λ d. leads_to t (next h d)) 6)
 
 -- a stack is pushed to where a step leads, and `on` says what is pushed from there
-unfoldable pub push_on : (ℕ → List ℕ) → Beside → List ℕ
-push_on on (At z) = z ∷ on z
-push_on on Off = []
+unfoldable pub push_on : (ℕ → List ℕ) → Option ℕ → List ℕ
+push_on on (Some z) = z ∷ on z
+push_on on None = []
 
 -- the pushes of a chain from the stack in hex h to hex y, if it may end there
 unfoldable pub chain_to : Ways → Stands → List ℕ → ℕ → ℕ → ℕ → List ℕ
@@ -59,9 +57,9 @@ seek_over g on then s a x Free = entering x [] (then s x)
 seek_over g on then s a x Loose = seek_with g then s a x (pick (on_with g on s a x) g.hexes)
 
 -- the same from where a step leads
-unfoldable pub seek_at : Land → (Stands → ℕ → Bool) → (Stands → ℕ → Sought) → Stands → ℕ → Beside → Sought
-seek_at g on then s a (At x) = seek_over g on then s a x (s x)
-seek_at g on then s a Off = still
+unfoldable pub seek_at : Land → (Stands → ℕ → Bool) → (Stands → ℕ → Sought) → Stands → ℕ → Option ℕ → Sought
+seek_at g on then s a (Some x) = seek_over g on then s a x (s x)
+seek_at g on then s a None = still
 
 -- a series of k more steps from hex a after i steps, if one goes on from there
 unfoldable pub series_of : Land → Stands → ℕ → ℕ → ℕ → Sought

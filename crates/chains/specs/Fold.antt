@@ -2,23 +2,21 @@
 -- The same series on a smaller copy of the land around a start. At most three steps are taken, and a chain pushes at most three stacks,
 -- so nothing beyond six steps is looked at.
 -- Assumes nothing.
-use Rattle.std.specs.Prelude.{ℕ, suc, ◌+◌, ◌≤◌, ◌<◌, ◌≡◌, List, map, ◌↔◌, length}
-use Rattle.grid.specs.declared.Beside.{Beside}
-use Rattle.grid.specs.declared.Beside.TheVariants.{At, Off}
+use Rattle.std.specs.Prelude.{ℕ, suc, ◌+◌, ◌≤◌, ◌<◌, ◌≡◌, List, map, ◌↔◌, length, Option, Some, None}
 use Rattle.chains.specs.Chain.{Stands}
 use Rattle.chains.specs.Series.{Land, Series, SeriesFrom, Bounded}
 use Rattle.chains.specs.Follows.{follows}
 use Rattle.chains.specs.Serves.{serves}
 
 -- where a step leads, on the copy
-unfoldable pub moved : (ℕ → ℕ) → Beside → Beside
-moved at (At z) = At (at z)
-moved at Off = Off
+unfoldable pub moved : (ℕ → ℕ) → Option ℕ → Option ℕ
+moved at (Some z) = Some (at z)
+moved at None = None
 
 -- land g' is a copy of land g: hex x of g is `at x` on g', and `Near k x` says that hex x lies within k steps of the start
 pub record Folds (g g' : Land) (at : ℕ → ℕ) (Near : ℕ → ℕ → Type 0) : Type 0 where
   pub more : (k m x : ℕ) → Near k x → k ≤ m → Near m x
-  pub further : (k x d z : ℕ) → Near k x → g.next x d ≡ At z → Near (suc k) z
+  pub further : (k x d z : ℕ) → Near k x → g.next x d ≡ Some z → Near (suc k) z
   -- steps lead from a hex of the copy as they do from the hex,
   pub ways : (x d : ℕ) → Near 5 x → d < 6 → g'.next (at x) d ≡ moved at (g.next x d)
   pub far : (x : ℕ) → Near 6 x → g'.far (at x) ≡ g.far x

@@ -1,7 +1,6 @@
 -- A series of pushes: the steps of a retreat, each with its chain.
 -- Assumes nothing.
-use Rattle.std.specs.Prelude.{ℕ, suc, ◌*◌, ◌<◌, ◌≡◌, List, [], ◌∷◌, ◌++◌, length}
-use Rattle.grid.specs.declared.Beside.TheVariants.{At}
+use Rattle.std.specs.Prelude.{ℕ, suc, ◌*◌, ◌<◌, ◌≡◌, List, [], ◌∷◌, ◌++◌, length, Some}
 use Rattle.grid.specs.Walk.{distance_of}
 use Rattle.position.specs.Board.{Board}
 use Rattle.position.specs.Ground.{next}
@@ -22,7 +21,7 @@ land_of b start =
 -- after i steps the group stands in hex x, having gone in direction d from hex a over an unblocked side, at distance i
 pub record Onto (g : Land) (i a d x : ℕ) : Type 0 where
   pub dir : d < 6
-  pub leads : g.next a d ≡ At x
+  pub leads : g.next a d ≡ Some x
   pub away : g.far x ≡ i
 
 -- the hexes that the group enters from hex a on, after i steps, and the hexes that pushed stacks go to
@@ -47,7 +46,7 @@ pub record SeriesFrom (g : Land) (s : Stands) (k i a : ℕ) : Type 0 where
 
 -- every step leads to a hex of the land
 pub record Bounded (g : Land) : Type 0 where
-  pub below : (h d z : ℕ) → g.next h d ≡ At z → z < g.hexes
+  pub below : (h d z : ℕ) → g.next h d ≡ Some z → z < g.hexes
 
 -- route and pushes are legal for a group of force f in hex `start` that owes n hexes
 pub record LegalSeries (b : Board) (f start n : ℕ) (route pushes : List ℕ) : Type 0 where

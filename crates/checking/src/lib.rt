@@ -8,7 +8,7 @@ ghost use Rattle.acceptance.specs.Checked.{CheckedOf};
 
 mod routes_ok;
 
-use position::{Checked, View};
+use position::View;
 use setting::{chart_ok, map_ok};
 
 // All that the board shows. The units come last: the compiled check then keeps their table in a frame of its own, which is gone while the
@@ -45,17 +45,15 @@ fn lawful(p: &[u8], v: View) -> bool
 }
 
 // The whole position, or nothing of it.
-pub fn check(p: &[u8]) -> Checked
+pub fn check(p: &[u8]) -> Option<View>
     ensures { CheckedOf p.now result }
 {
-    let Checked::Whole(v) = shape::shape(p) else {
-        return Checked::Broken;
-    };
+    let v = shape::shape(p)?;
     if !lawful(p, v) {
-        return Checked::Broken;
+        return None;
     }
     if !counters::strengths_ok(p, v) {
-        return Checked::Broken;
+        return None;
     }
-    Checked::Whole(v)
+    Some(v)
 }

@@ -47,12 +47,7 @@ fn places_ok(p: &[u8], v: View, r: usize) -> bool
     requires { Laid p.now v }
     ensures { Says result ((j : ℕ) → j < route_hexes → PlaceOk (board p.now) r j) }
 {
-    for j in 0..4 {
-        if !place_ok(p, v, r, j) {
-            return false;
-        }
-    }
-    true
+    (0..layout::ROUTE_HEXES).all(|j| place_ok(p, v, r, j))
 }
 
 fn route_ok(p: &[u8], v: View, r: usize) -> bool
@@ -75,10 +70,5 @@ pub fn routes_ok(p: &[u8], v: View) -> bool
     requires { Laid p.now v }
     ensures { Says result (RoutesOk (board p.now)) }
 {
-    for r in 0..6 {
-        if !route_ok(p, v, r) {
-            return false;
-        }
-    }
-    true
+    (0..layout::ROUTE_COUNT).all(|r| route_ok(p, v, r))
 }

@@ -1,4 +1,5 @@
-// The phases of a force.
+// The phases of a force. Numbers and no enum: what is read may be any byte, as long as no check has seen the desk, and its reader
+// promises that number (`Read` in `position/specs/Laid.antt`).
 pub const LAND: usize = 0;
 
 pub const COMBAT: usize = 1;

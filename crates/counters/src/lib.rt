@@ -15,26 +15,14 @@ pub fn strengths_ok(p: &[u8], v: View) -> bool
     requires { Laid p.now v }
     ensures { Says result (StrengthsOk p.now) }
 {
-    let count = v.count;
-    for u in 0..count {
-        if !shape::within(1, read::strength(p, v, u), 60) {
-            return false;
-        }
-    }
-    true
+    (0..v.count).all(|u| shape::within(1, read::strength(p, v, u), 60))
 }
 
 fn destroyed_ok(p: &[u8], v: View, u: usize) -> bool
     requires { Laid p.now v }
     ensures { Says result (DestroyedOk (board p.now) u) }
 {
-    if read::role(p, v, u) != role::NONE {
-        return false;
-    }
-    if bits::TRIED < read::marks(p, v, u) {
-        return false;
-    }
-    true
+    read::role(p, v, u) == role::NONE && read::marks(p, v, u) <= bits::TRIED
 }
 
 // On the map or in the box, whichever the unit's hex says.
@@ -46,10 +34,7 @@ fn ground_ok(p: &[u8], v: View, u: usize) -> bool
     if h == layout::NOWHERE {
         return destroyed_ok(p, v, u);
     }
-    if !ground::standable(p, v, h) {
-        return false;
-    }
-    true
+    ground::standable(p, v, h)
 }
 
 fn counter_ok(p: &[u8], v: View, u: usize) -> bool
@@ -58,22 +43,10 @@ fn counter_ok(p: &[u8], v: View, u: usize) -> bool
 {
     let kind = Kind(read::kind(p, v, u));
     let marks = read::marks(p, v, u);
-    if !kind.may_belong(read::nationality(p, v, u)) {
-        return false;
-    }
-    if !kind.may_allow(read::allowance(p, v, u)) {
-        return false;
-    }
-    if bits::MARKS_END <= marks {
-        return false;
-    }
-    if bits::has(bits::TRIED, marks) {
-        return true;
-    }
-    if kind.always_tried() {
-        return false;
-    }
-    true
+    kind.may_belong(read::nationality(p, v, u))
+        && kind.may_allow(read::allowance(p, v, u))
+        && marks < bits::MARKS_END
+        && (bits::has(bits::TRIED, marks) || !kind.always_tried())
 }
 
 // A unit with a role is tried and on the map.
@@ -82,19 +55,10 @@ fn duty_ok(p: &[u8], v: View, u: usize) -> bool
     ensures { Says result (DutyOk (board p.now) u) }
 {
     let role = read::role(p, v, u);
-    if role == role::NONE {
-        return true;
-    }
-    if role::ADVANCES < role {
-        return false;
-    }
-    if read::hex(p, v, u) == layout::NOWHERE {
-        return false;
-    }
-    if !bits::has(bits::TRIED, read::marks(p, v, u)) {
-        return false;
-    }
-    true
+    role == role::NONE
+        || role <= role::ADVANCES
+            && read::hex(p, v, u) != layout::NOWHERE
+            && bits::has(bits::TRIED, read::marks(p, v, u))
 }
 
 // Unit `u`, whoever stands with it.
@@ -102,29 +66,14 @@ fn alone_ok(p: &[u8], v: View, u: usize) -> bool
     requires { Laid p.now v }
     ensures { Says result (AloneOk (board p.now) u) }
 {
-    if !counter_ok(p, v, u) {
-        return false;
-    }
-    if !duty_ok(p, v, u) {
-        return false;
-    }
-    if !ground_ok(p, v, u) {
-        return false;
-    }
-    true
+    counter_ok(p, v, u) && duty_ok(p, v, u) && ground_ok(p, v, u)
 }
 
 fn each_ok(p: &[u8], v: View) -> bool
     requires { Laid p.now v }
     ensures { Says result ((u : ℕ) → u < count p.now → AloneOk (board p.now) u) }
 {
-    let count = v.count;
-    for u in 0..count {
-        if !alone_ok(p, v, u) {
-            return false;
-        }
-    }
-    true
+    (0..v.count).all(|u| alone_ok(p, v, u))
 }
 
 // The stacks and the roles come last: they ask of units that stand on the map, and of forces 0 to 3.
@@ -132,14 +81,5 @@ pub fn units_ok(p: &[u8], v: View) -> bool
     requires { Laid p.now v }
     ensures { Says result (UnitsOk (board p.now)) }
 {
-    if !each_ok(p, v) {
-        return false;
-    }
-    if !stacks::stacks_ok(p, v) {
-        return false;
-    }
-    if !roles::roles_ok(p, v) {
-        return false;
-    }
-    true
+    each_ok(p, v) && stacks::stacks_ok(p, v) && roles::roles_ok(p, v)
 }

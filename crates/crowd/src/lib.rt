@@ -13,14 +13,7 @@ pub fn crowd(p: &[u8], v: View, h: usize) -> usize
     requires { Laid p.now v }
     ensures { Read (crowd (board p.now) h) 401 result }
 {
-    let count = v.count;
-    let mut n = 0;
-    for u in 0..count {
-        if read::hex(p, v, u) == h {
-            n += 1;
-        }
-    }
-    n
+    (0..v.count).filter(|u| read::hex(p, v, *u) == h).count()
 }
 
 // How many units other than `w` stand in hex `h`.
@@ -28,16 +21,9 @@ pub fn others(p: &[u8], v: View, w: usize, h: usize) -> usize
     requires { Laid p.now v }
     ensures { Read (others (board p.now) w h) 401 result }
 {
-    let count = v.count;
-    let mut n = 0;
-    for u in 0..count {
-        if read::hex(p, v, u) == h {
-            if u != w {
-                n += 1;
-            }
-        }
-    }
-    n
+    (0..v.count)
+        .filter(|u| read::hex(p, v, *u) == h && *u != w)
+        .count()
 }
 
 // How many units have the role `r`.
@@ -45,17 +31,11 @@ pub fn holders(p: &[u8], v: View, r: usize) -> usize
     requires { Laid p.now v }
     ensures { Read (holders (board p.now) r) 401 result }
 {
-    let count = v.count;
-    let mut n = 0;
-    for u in 0..count {
-        if read::role(p, v, u) == r {
-            n += 1;
-        }
-    }
-    n
+    (0..v.count).filter(|u| read::role(p, v, *u) == r).count()
 }
 
 // Whether route `r` is filled.
+#[tactic(auto, unfolding(position::specs::Crowd::filled))]
 pub fn filled(p: &[u8], v: View, r: usize) -> bool
     requires { Laid p.now v }
     ensures { result ≡ filled (board p.now) r }
@@ -68,11 +48,7 @@ pub fn routes(p: &[u8], v: View) -> usize
     requires { Laid p.now v }
     ensures { Read (routes (board p.now)) 7 result }
 {
-    let mut n = 0;
-    for r in 0..layout::ROUTE_COUNT {
-        if filled(p, v, r) {
-            n += 1;
-        }
-    }
-    n
+    (0..layout::ROUTE_COUNT)
+        .filter(|r| filled(p, v, *r))
+        .count()
 }

@@ -17,7 +17,7 @@ ghost use Rattle.march.specs.Ending.{ClockOf, JudgesUnit, JudgesAll, JudgesForce
 
 use clock::{Clock, timing};
 use position::{View, bits, kind, read, stage};
-use ruling::Answer;
+use ruling::Refusal;
 
 // The clock on the desk.
 fn clock_of(p: &[u8], v: View) -> Clock
@@ -54,8 +54,7 @@ fn rest_all(p: &mut [u8], v: View)
     requires { Laid p.old v }
     ensures { p.new ≡ makes p.old (rest_all (board p.old) v.count) }
 {
-    let count = v.count;
-    for u in 0..count {
+    for u in 0..v.count {
         let m = read::marks(p, v, u);
         write::mark(p, v, u, rested(m));
     }
@@ -87,8 +86,7 @@ fn judge_all(p: &mut [u8], v: View, n: usize, map: &[u8])
     requires { Laid p.old v × Traced (scene (board p.old)) n map.now }
     ensures { Laid p.new v × JudgesAll p.old n v.count p.new }
 {
-    let count = v.count;
-    for u in 0..count {
+    for u in 0..v.count {
         judge_unit(p, v, n, map, u);
     }
 }
@@ -142,20 +140,20 @@ fn pass_on(p: &mut [u8], v: View, scratch: &mut [u8])
 }
 
 // The end of a phase on a checked position. The scratch has exactly width x height bytes, and is handed back all 0.
-pub fn end_phase(p: &mut [u8], v: View, scratch: &mut [u8]) -> Answer
+pub fn end_phase(p: &mut [u8], v: View, scratch: &mut [u8]) -> Result<(), Refusal>
     requires { Laid p.old v × Accepted p.old }
     ensures { Met p.old scratch.old (end_rule (board p.old) (length scratch.old)) (answer_as result) p.new scratch.new }
 {
     let hexes = v.hexes;
     if scratch.len() != hexes {
-        return Answer::Refused(3, 0);
+        return Err(Refusal::OutOfRange(0));
     }
     if read::stage(p, v) != stage::QUIET {
-        return Answer::Refused(2, 0);
+        return Err(Refusal::Untimely);
     }
     if clock_of(p, v).is_last(read::last_turn(p, v)) {
-        return Answer::Refused(16, 0);
+        return Err(Refusal::LastPhase);
     }
     pass_on(p, v, scratch);
-    Answer::Accepted
+    Ok(())
 }

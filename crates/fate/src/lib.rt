@@ -23,6 +23,7 @@ use routes::Outlook;
 use shoves::group;
 
 // Whether unit `u` owes in hex `h` and is no supply unit.
+#[tactic(auto, unfolding(retreat::specs::Retreat::walks_from))]
 fn walks_from(p: &[u8], v: View, h: usize, u: usize) -> bool
     requires { Laid p.now v }
     ensures { result ≡ walks_from (board p.now) h u }
@@ -38,15 +39,7 @@ fn any_walks(p: &[u8], v: View, h: usize) -> bool
     requires { Laid p.now v }
     ensures { result ≡ any (walks_from (board p.now) h) (board p.now).units.count }
 {
-    let count = v.count;
-    let mut u = 0;
-    while u < count {
-        if walks_from(p, v, h, u) {
-            return true;
-        }
-        u += 1;
-    }
-    false
+    (0..v.count).any(|u| walks_from(p, v, h, u))
 }
 
 // The first unit that owes in hex `h`, 0 if none does.
@@ -54,18 +47,13 @@ fn leader(p: &[u8], v: View, h: usize) -> usize
     requires { Laid p.now v }
     ensures { result ≡ get_or (group (board p.now) h) 0 0 }
 {
-    let count = v.count;
-    let mut u = 0;
-    while u < count {
-        if group::owes_at(p, v, h, u) {
-            return u;
-        }
-        u += 1;
-    }
-    0
+    (0..v.count)
+        .find(|u| group::owes_at(p, v, h, *u))
+        .unwrap_or(0)
 }
 
 // The force that owes in hex `h`.
+#[tactic(auto, unfolding(shoves::specs::Group::group_force))]
 fn group_force(p: &[u8], v: View, h: usize) -> usize
     requires { Laid p.now v }
     ensures { result ≡ group_force (board p.now) h }
@@ -86,12 +74,10 @@ fn no_run(p: &[u8], v: View, h: usize, n: usize, route: &[u16]) -> bool
     requires { Laid p.now v × (h < v.hexes) × (1 ≤ n) × (n ≤ 3) }
     ensures { result ≡ not (found (first_route (board p.now) (group_force (board p.now) h) h n)) }
 {
-    match judge(p, v, h, n, route) {
-        Outlook::Legal => false,
-        Outlook::Illegal => false,
-        Outlook::Friends(_) => true,
-        Outlook::Alone(_) => true,
-    }
+    matches!(
+        judge(p, v, h, n, route),
+        Outlook::Friends(_) | Outlook::Alone(_)
+    )
 }
 
 // Whether the route is a part route, where no vacant route exists; `run` tells whether it is a run. A longer run is looked for only if it
@@ -114,26 +100,28 @@ fn is_part(p: &[u8], v: View, h: usize, run: bool, route: &[u16]) -> bool
 fn by_route(pushes: &[u16]) -> Fate
     ensures { result ≡ cond (none pushes.now) Walking WrongRoute }
 {
-    if 0 < pushes.len() {
+    if !pushes.is_empty() {
         return Fate::WrongRoute;
     }
     Fate::Walking
 }
 
 // What comes of it where it is destroyed: its part route must have been sent, and no pushes with it.
+#[tactic(auto, unfolding(retreat::specs::Fate::lost_fate))]
 fn by_part(part: bool, pushes: &[u16]) -> Fate
     ensures { result ≡ lost_fate part pushes.now }
 {
     if !part {
         return Fate::WrongRoute;
     }
-    if 0 < pushes.len() {
+    if !pushes.is_empty() {
         return Fate::WrongRoute;
     }
     Fate::Lost
 }
 
 // What comes of it where no vacant route exists; `run` tells whether the route is a run.
+#[tactic(auto, using(retreat::proofs::Groups::served_as))]
 fn by_pushes(p: &[u8], v: View, h: usize, run: bool, route: &[u16], pushes: &[u16]) -> Fate
     requires { Laid p.now v × (h < v.hexes) × ((board p.now).desk.battle.owed ≤ 3) × (has_route (board p.now) h ≡ false) × (run ≡ is_run (board p.now) (group_force (board p.now) h) h route.now) }
     ensures { result ≡ served_fate (lost_fate (part_route (board p.now) (group_force (board p.now) h) h route.now) pushes.now) (served (board p.now) (group_force (board p.now) h) h (board p.now).desk.battle.owed route.now pushes.now) }
@@ -160,7 +148,7 @@ pub fn decide(p: &[u8], v: View, h: usize, route: &[u16], pushes: &[u16]) -> Fat
     ensures { result ≡ fate_of (board p.now) h route.now pushes.now }
 {
     if !any_walks(p, v, h) {
-        return by_part(route.len() == 0, pushes);
+        return by_part(route.is_empty(), pushes);
     }
     match judge(p, v, h, read::owed(p, v), route) {
         Outlook::Legal => by_route(pushes),

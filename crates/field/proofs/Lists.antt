@@ -3,14 +3,23 @@
 use Prim.Native.Nat.{◌+◌, ◌<◌, ◌≤◌, suc, zero, ℕ}
 use mathlib.Core.Bool.{Bool, ◌&&◌, and-false, cond, false, not, or-false, or-true, true}
 use mathlib.Core.List.{List, [], ◌++◌, ◌∷◌, append-nil, map}
-use mathlib.Core.Path.{◌∙◌, ◌≡◌, ap, ap₂, refl, subst}
+use mathlib.Core.Path.{◌∙◌, ◌≡◌, ap, ap₂, refl, subst, sym}
 use native.Mathlib.Numerals.{add-one}
 use native.Mathlib.Omega.{arith}
 use borrow.Author.Count.{below_more}
-use borrow.Author.Tests.{eq-eqb, le-leb, leb-true, lt-leb, ne_eqb, not-false}
+use borrow.Author.Tests.{eq-eqb, eqb-true, le-leb, leb-true, lt-leb, not-false}
+use denote.Bor.{Bor}
+use denote.Param.Members.{Mut}
 use lib.Dec.{eqb, leb}
 use lib.ListN.{get_or-append, get_or, length, length-append, take}
-use lib.Seq.{get_or-append_seam, get_or-take, length-take-le, take-suc}
+use lib.Seq.{get_or-append_seam, take-suc}
+use Rattle.std.specs.Fn.{Called}
+use Rattle.std.specs.Iterator.{ChecksAny}
+use Rattle.std.specs.List.{IsAnyAnswer}
+use Rattle.std.specs.Slice.Iter.{iter_rest}
+use Rattle.std.specs.declared.slice.Iter.{Iter}
+use Rattle.std.proofs.iter.Yields.{fronts}
+use Rattle.std.proofs.lemmas.Iterator.{YieldsList-from_slice, cases_from_any}
 use Rattle.position.proofs.Tallies.{both_yes, either, neither, same_or}
 use Rattle.position.specs.Board.{Board, board}
 use Rattle.position.specs.Shape.{In}
@@ -75,35 +84,26 @@ pub map_long : {A : Type 0} (f : ℕ → A) (xs : List ℕ) → length (map f xs
 map_long f [] = refl
 map_long f (x ∷ xs) = ap suc (map_long f xs)
 
--- none of the first j, as f takes them, is x
-pub record Unnamed (f : ℕ → ℕ) (us : List ℕ) (j n x : ℕ) : Type 0 where
-  pub most : j ≤ n
-  pub none : named (map f (take j us)) x ≡ false
+-- x is none of the list, as f takes it
+module _ (f : ℕ → ℕ) (x : ℕ) where
+  named_never : (xs : List ℕ) → ((j : ℕ) → j < length xs → eqb (f (get_or xs j 0)) x ≡ false) → named (map f xs) x ≡ false
+  unfolding named
+  named_never [] h = refl
+  named_never (y ∷ ys) h = simp (h 0 (omega arith)) (named_never ys (λ j l. h (suc j) (omega arith)))
 
-module _ {f : ℕ → ℕ} {us : List ℕ} {n x : ℕ} where
-  pub unnamed_none : Unnamed f us 0 n x
-  unnamed_none = record { most = omega arith; none = named_nil x }
+  answered : (xs : List ℕ) (r : Bool) → IsAnyAnswer (λ y b. eqb (f y) x ≡ b) xs r → r ≡ named (map f xs) x
+  answered xs true h =
+      sym (named_at (map f xs) h.0 x (omega (arith, h.1, map_long f xs)) (map_at_lem f xs h.0 h.1 ∙ eqb-true (f (get_or xs h.0 0)) x (h.2 0)))
+  answered xs false h = sym (named_never xs (λ j l. h j 0 (omega arith) l))
 
-  pub unnamed_more : {j : ℕ} → n ≤ length us → Unnamed f us j n x → j < n → (f (get_or us j 0) ≡ x → ⊥) → Unnamed f us (j + 1) n x
-  unnamed_more {j} m o l d =
-      record {
-        most = omega arith;
-        none =
-            ap (λ (l : List ℕ). named (map f l) x) (take_more us j (omega arith))
-            ∙ ap (λ (l : List ℕ). named l x) (map_last f (take j us) (get_or us j 0))
-            ∙ named_last (map f (take j us)) (f (get_or us j 0)) x o.none
-            ∙ ne_eqb (f (get_or us j 0)) x d;
-      }
-
-  pub unnamed_all : {j : ℕ} → Unnamed f us j n x → n ≤ j → named (map f (take n us)) x ≡ false
-  unnamed_all {j} o l = let e : n ≡ j = omega (arith, o.most) in ap (λ (k : ℕ). named (map f (take k us)) x) e ∙ o.none
-
-pub unnamed_hit :
-    (f : ℕ → ℕ) (us : List ℕ) (n j x : ℕ) → n ≤ length us → j < n → f (get_or us j 0) ≡ x → named (map f (take n us)) x ≡ true
-unnamed_hit f us n j x m l e =
-    let k = length-take-le n us m in
-    named_at (map f (take n us)) j x (omega (arith, map_long f (take n us)))
-    (map_at_lem f (take n us) j (omega arith) ∙ ap f (get_or-take n us j 0 l) ∙ e)
+  -- `any` over the list, where each call of the closure answers whether f takes the item to x
+  pub named_any :
+      {F : Type 0} {g : Mut F (Bor ℕ × Unit {0}) Bool} {s u : Iter ℕ} {q : F} (xs : List ℕ) {r : Bool} → iter_rest s ≡ xs → ChecksAny fronts g s q r u
+      → ((y : Bor ℕ) (b : Bool) (o : F) → Called g q (y, tt) b o → (o ≡ q) × (b ≡ eqb (f y.now) x)) → r ≡ named (map f xs) x
+  named_any {q = q} xs {r} e ran c =
+      answered xs r
+      (cases_from_any _ q r (λ y. eqb (f y) x ≡ true) (λ y. eqb (f y) x ≡ false) ran (YieldsList-from_slice xs e)
+      (λ y o h. sym (c y true o h).1) (λ y o h. ((c y false o h).0, sym (c y false o h).1)))
 
 pub map_self : (xs : List ℕ) → map (λ x. x) xs ≡ xs
 map_self [] = refl

@@ -1,13 +1,13 @@
 -- Who stands where and zones of control: the loops that ask every number below n, each test by its cases, and what a zone comes from.
 -- Assumes nothing.
+use Rattle.std.specs.Prelude.{Option}
+use Rattle.std.specs.declared.option.Option.TheVariants as O
 use Prim.Native.Nat.{ℕ, ◌+◌, ◌≤◌, ◌<◌}
 use mathlib.Core.Path.{◌≡◌, refl, sym, ap, ◌∙◌}
 use mathlib.Core.Bool.{Bool, true, false, not, ◌&&◌, and-false}
 use native.Mathlib.Omega.{arith}
 use lib.Dec.{ltb, eqb}
 use borrow.Author.Tests.{ltb-true, lt-ltb, eq-eqb, ne_eqb, eqb-true, eqb-false, not-true, not-false}
-use Rattle.grid.specs.declared.Beside.{Beside}
-use Rattle.grid.specs.declared.Beside.TheVariants.{At, Off}
 use Rattle.position.specs.Tally.{any}
 use Rattle.position.specs.Board.{Board, force_of, enemy, neutral, relates}
 use Rattle.position.specs.declared.Relation.{Relation}
@@ -101,7 +101,7 @@ module _ (s : Scene) (f h : ℕ) where
   casts_around e = simp (ne_eqb (s.map.surface h) 2 e)
 
   -- over a side that lets it through from the neighbour
-  pub over_from : (d n : ℕ) → side s.map h d < 2 → beside s.map h d ≡ At n → casts_over s f h d ≡ holds_caster s f n
+  pub over_from : (d n : ℕ) → side s.map h d < 2 → beside s.map h d ≡ O.Some n → casts_over s f h d ≡ holds_caster s f n
   unfolding casts_over caster_at
   over_from d n l e = simp (lt-ltb (side s.map h d) 2 l, e)
 
@@ -116,7 +116,7 @@ pub record CastFrom (s : Scene) (g h : ℕ) : Type 0 where
   pub turned : direction < 6
   pub not_sea : s.map.surface h ≡ 2 → ⊥
   pub thin : side s.map h direction < 2
-  pub next : beside s.map h direction ≡ At hex
+  pub next : beside s.map h direction ≡ O.Some hex
   pub held : holds_caster s g hex ≡ true
 
 -- an Enemy of force f does
@@ -127,15 +127,15 @@ pub record ZoneFrom (s : Scene) (f h : ℕ) : Type 0 where
   pub from : CastFrom s force h
 
 -- a hex beside another, with a caster
-record Held (s : Scene) (f : ℕ) (b : Beside) : Type 0 where
+record Held (s : Scene) (f : ℕ) (b : Option ℕ) : Type 0 where
   hex : ℕ
-  at : b ≡ At hex
+  at : b ≡ O.Some hex
   caster : holds_caster s f hex ≡ true
 
-held-at : (s : Scene) (f : ℕ) (b : Beside) → caster_at s f b ≡ true → Held s f b
+held-at : (s : Scene) (f : ℕ) (b : Option ℕ) → caster_at s f b ≡ true → Held s f b
 unfolding caster_at
-held-at s f (At n) e = record { hex = n; at = refl; caster = e }
-held-at s f Off e = not_both false e refl
+held-at s f (O.Some n) e = record { hex = n; at = refl; caster = e }
+held-at s f O.None e = not_both false e refl
 
 module _ (s : Scene) (f h : ℕ) where
   casts_parts : casts s f h ≡ true → (not (eqb (s.map.surface h) 2) ≡ true) × (any (casts_over s f h) 6 ≡ true)

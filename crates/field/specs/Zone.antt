@@ -1,8 +1,6 @@
 -- Who stands where, and zones of control.
 -- Assumes nothing.
-use Rattle.std.specs.Prelude.{ℕ, Bool, false, not, ◌&&◌, ltb, eqb}
-use Rattle.grid.specs.declared.Beside.{Beside}
-use Rattle.grid.specs.declared.Beside.TheVariants.{At, Off}
+use Rattle.std.specs.Prelude.{ℕ, Bool, false, not, ◌&&◌, ltb, eqb, Option, Some, None}
 use Rattle.position.specs.Layout.{forces}
 use Rattle.position.specs.Tally.{any}
 use Rattle.position.specs.Kind.{casts_zone, supply_kind}
@@ -62,9 +60,9 @@ caster_on s f h u = own_on s f h u && casts_zone (s.kind u)
 unfoldable pub holds_caster : Scene → ℕ → ℕ → Bool
 holds_caster s f h = any (caster_on s f h) s.count
 
-unfoldable pub caster_at : Scene → ℕ → Beside → Bool
-caster_at s f (At n) = holds_caster s f n
-caster_at s f Off = false
+unfoldable pub caster_at : Scene → ℕ → Option ℕ → Bool
+caster_at s f (Some n) = holds_caster s f n
+caster_at s f None = false
 
 -- "but not across blocked or major river sides": a plain side or a river lets a zone through
 unfoldable pub casts_over : Scene → ℕ → ℕ → ℕ → Bool

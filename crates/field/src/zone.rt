@@ -12,10 +12,7 @@ fn related_on(p: &[u8], v: View, w: Relation, f: usize, h: usize, u: usize) -> b
     requires { Laid p.now v }
     ensures { result ≡ related_on (scene (board p.now)) w f h u }
 {
-    if read::hex(p, v, u) == h {
-        return forces::related(p, v, w, f, forces::force_of(p, v, u));
-    }
-    false
+    read::hex(p, v, u) == h && forces::related(p, v, w, f, forces::force_of(p, v, u))
 }
 
 // Whether hex `h` holds such a unit.
@@ -23,15 +20,7 @@ fn holds_related(p: &[u8], v: View, w: Relation, f: usize, h: usize) -> bool
     requires { Laid p.now v }
     ensures { result ≡ holds_related (scene (board p.now)) w f h }
 {
-    let count = v.count;
-    let mut u = 0;
-    while u < count {
-        if related_on(p, v, w, f, h, u) {
-            return true;
-        }
-        u += 1;
-    }
-    false
+    (0..v.count).any(|u| related_on(p, v, w, f, h, u))
 }
 
 // Whether hex `h` holds an Enemy of force `f`.
@@ -47,8 +36,5 @@ pub fn holds_neutral(p: &[u8], v: View, f: usize, h: usize) -> bool
     requires { Laid p.now v }
     ensures { result ≡ holds_neutral (scene (board p.now)) f h }
 {
-    if v.players == 0 {
-        return false;
-    }
-    holds_related(p, v, Relation::Neutral, f, h)
+    v.players != 0 && holds_related(p, v, Relation::Neutral, f, h)
 }

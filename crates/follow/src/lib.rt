@@ -9,27 +9,20 @@ ghost use Rattle.plot.specs.Trail.{trail_of, TrailOk};
 ghost use Rattle.plot.specs.Follow.{follows_in, TookIn, PushedOut, Stepped};
 
 use chains::Stand;
+use grid::region;
 use grid::region::Region;
-use grid::{Beside, region};
-use plot::{Took, chain};
+use plot::chain;
 
 // Whether place `z` is next to place `h`.
 fn leads(plot: &[u8; 182], h: usize, z: usize) -> bool
     requires { (length plot.now ≡ 182) × (h < 182) }
     ensures { result ≡ leads (next_in plot.now) h z }
 {
-    for d in 0..6 {
-        let Beside::At(x) = plot::next_in(plot, h, d) else {
-            continue;
-        };
-        if x == z {
-            return true;
-        }
-    }
-    false
+    (0..6).any(|d| plot::next_in(plot, h, d) == Some(z))
 }
 
-// The chain from the stack in place `h` on, by the pushes from number `k` on. `left` stacks may still be pushed, three at most, and one fewer at
+// The chain from the stack in place `h` on, by the pushes from number `k` on: up to its last place, and the number of the first push that it
+// leaves. `left` stacks may still be pushed, three at most, and one fewer at
 // each turn.
 fn take(
     plot: &[u8; 182],
@@ -41,28 +34,28 @@ fn take(
     h: usize,
     pushes: &[u16],
     k: usize,
-) -> Took
+) -> Option<(usize, usize)>
     requires { (length plot.now ≡ 182) × RegionOk at × TrailOk t left × (1 ≤ left) × (h < 182) × (k ≤ length pushes.now) }
     ensures { TookIn (place_in w height at) plot.now (trail_of t) left h k pushes.now result }
 {
     if pushes.len() <= k {
-        return Took::Wrong;
+        return None;
     }
     let z = region::place_in(w, height, at, pushes[k] as usize);
     if !leads(plot, h, z) {
-        return Took::Wrong;
+        return None;
     }
     if chain::rests(plot, t, h, z) {
-        return Took::UpTo(z, k + 1);
+        return Some((z, k + 1));
     }
     if left < 2 {
-        return Took::Wrong;
+        return None;
     }
     if chain::has_rest(plot, t, h) {
-        return Took::Wrong;
+        return None;
     }
     if !chain::yields(plot, t, h, z) {
-        return Took::Wrong;
+        return None;
     }
     take(
         plot,
@@ -87,16 +80,14 @@ fn push_out(
     x: usize,
     pushes: &[u16],
     k: usize,
-) -> Took
+) -> Option<(usize, usize)>
     requires { (length plot.old ≡ 182) × RegionOk at × (a < 182) × (x < 182) × (k ≤ length pushes.now) }
     ensures { PushedOut (place_in w height at) plot.old plot.new a x k pushes.now result }
 {
     let own = chain::own(a);
-    let Took::UpTo(y, m) = take(plot, w, height, at, own, 3, x, pushes, k) else {
-        return Took::Wrong;
-    };
+    let (y, m) = take(plot, w, height, at, own, 3, x, pushes, k)?;
     plot::shift(plot, x, y);
-    Took::UpTo(y, m)
+    Some((y, m))
 }
 
 // The group goes from place `a` into place `x` after `i` steps.
@@ -111,23 +102,23 @@ fn enter(
     x: usize,
     pushes: &[u16],
     k: usize,
-) -> Took
+) -> Option<(usize, usize)>
     requires { (length plot.old ≡ 182) × RegionOk at × (home < 182) × (a < 182) × (k ≤ length pushes.now) }
     ensures { Stepped (place_in w height at) home plot.old plot.new i a x k pushes.now result }
 {
     if !leads(plot, a, x) {
-        return Took::Wrong;
+        return None;
     }
     let far = grid::distance(plot::WIDE, plot::HIGH, home, x);
     if far == 0 {
-        return Took::Wrong;
+        return None;
     }
     if far - 1 != i {
-        return Took::Wrong;
+        return None;
     }
     match plot::stand_in(plot, x) {
-        Stand::Shut => Took::Wrong,
-        Stand::Free => Took::UpTo(x, k),
+        Stand::Shut => None,
+        Stand::Free => Some((x, k)),
         Stand::Loose => push_out(plot, w, height, at, a, x, pushes, k),
     }
 }
@@ -147,9 +138,9 @@ pub fn follows(
 {
     let mut a = home;
     let mut k = 0;
-    for i in 0..route.len() {
-        let x = region::place_in(w, height, at, route[i] as usize);
-        let Took::UpTo(_, m) = enter(plot, w, height, at, home, i, a, x, pushes, k) else {
+    for (i, &hex) in route.iter().enumerate() {
+        let x = region::place_in(w, height, at, hex as usize);
+        let Some((_, m)) = enter(plot, w, height, at, home, i, a, x, pushes, k) else {
             return false;
         };
         a = x;

@@ -19,10 +19,7 @@ use shoves::group;
 fn hex_at(route: &[u16], i: usize) -> usize
     ensures { Read (get_or route.now i nowhere) 65536 result }
 {
-    if route.len() <= i {
-        return layout::NOWHERE;
-    }
-    route[i] as usize
+    route.get(i).map_or(layout::NOWHERE, |x| *x as usize)
 }
 
 // Unit `u` goes to hex `end` with no role; a supply unit is destroyed.
@@ -55,8 +52,7 @@ fn leave_all(p: &mut [u8], v: View, h: usize, end: usize)
     requires { Laid p.old v }
     ensures { p.new ≡ makes p.old (goes_off (board p.old) end (group (board p.old) h)) }
 {
-    let count = v.count;
-    for u in 0..count {
+    for u in 0..v.count {
         leave_one(p, v, h, end, u);
     }
 }
@@ -77,8 +73,7 @@ fn fall_all(p: &mut [u8], v: View, h: usize)
     requires { Laid p.old v }
     ensures { p.new ≡ makes p.old (map destroyed (group (board p.old) h)) }
 {
-    let count = v.count;
-    for u in 0..count {
+    for u in 0..v.count {
         fall_one(p, v, h, u);
     }
 }

@@ -1,9 +1,9 @@
 -- Hexes that are close by steps are close by columns and rows.
 -- Assumes nothing.
+use Rattle.std.specs.Prelude.{Some}
 use mathlib.Core.Path.{◌≡◌}
 use Prim.Native.Nat.{ℕ, ◌+◌, ◌/◌, ◌%◌, ◌≤◌}
 use native.Mathlib.Omega.{arith}
-use Rattle.grid.specs.declared.Beside.TheVariants.{At}
 use Rattle.grid.specs.Map.{neighbour_of}
 use Rattle.grid.specs.Walk.{depth, distance_of}
 use Rattle.grid.proofs.Far.{Within, far_within}
@@ -28,5 +28,5 @@ far_close w a b n l =
     record { east = omega (arith, c.east); west = omega (arith, c.west); south = omega (arith, c.south); north = omega (arith, c.north) }
 
 -- a neighbour lies in the column and the row beside at most
-pub beside_close : (w h a d b : ℕ) → neighbour_of w h a d ≡ At b → Close 1 (a % w) (a / w) (b % w) (b / w)
+pub beside_close : (w h a d b : ℕ) → neighbour_of w h a d ≡ Some b → Close 1 (a % w) (a / w) (b % w) (b / w)
 beside_close w h a d b e = far_close w a b 1 (omega (arith, beside_one w h a d b e))

@@ -1,10 +1,10 @@
 -- What callers want of neighbours and distances.
 -- Assumes nothing.
+use Rattle.std.specs.Prelude.{Some}
 use mathlib.Core.Path.{◌≡◌, refl, ◌∙◌, ap, subst}
 use Prim.Native.Nat.{ℕ, ◌+◌, ◌/◌, ◌%◌, ◌≤◌, ◌<◌}
 use native.Mathlib.Nat.{le_antisymm, zero-add, suc-add}
 use native.Mathlib.Omega.{arith}
-use Rattle.grid.specs.declared.Beside.TheVariants.{At}
 use Rattle.grid.specs.Map.{On, neighbour_of}
 use Rattle.grid.specs.Walk.{Adjacent, Walk, here, step, Distance, depth, distance_of}
 use Rattle.grid.proofs.Arith.{column, row, number}
@@ -12,7 +12,7 @@ use Rattle.grid.proofs.Step.{ways, goes_back, one_way, stepped, steps}
 pub use Rattle.grid.proofs.Tests.{on_facts, on_test}
 pub use Rattle.grid.proofs.Walks.{distance_is, zero_same, same_zero, symmetric}
 
-module _ (w h a d b : ℕ) (e : neighbour_of w h a d ≡ At b) where
+module _ (w h a d b : ℕ) (e : neighbour_of w h a d ≡ Some b) where
   -- a hex that has a neighbour is on the map, so is the neighbour, and only six directions lead to one
   pub from_map : On w h a
   from_map = (stepped w h a d b e).from
@@ -24,10 +24,10 @@ module _ (w h a d b : ℕ) (e : neighbour_of w h a d ≡ At b) where
   direction = (stepped w h a d b e).goes.dir
 
   -- a neighbour's neighbour in the opposite direction is the hex itself
-  pub opposite : neighbour_of w h b ((d + 3) % 6) ≡ At a
+  pub opposite : neighbour_of w h b ((d + 3) % 6) ≡ Some a
   opposite =
       let s = stepped w h a d b e in
-      steps w h b ((d + 3) % 6) (a % w) (a / w) s.to (column s.from) (row s.from) (goes_back s.goes) ∙ ap At (number w a)
+      steps w h b ((d + 3) % 6) (a % w) (a / w) s.to (column s.from) (row s.from) (goes_back s.goes) ∙ ap Some (number w a)
 
   -- a neighbour is another hex
   pub other : a ≡ b → ⊥
@@ -37,7 +37,7 @@ module _ (w h a d b : ℕ) (e : neighbour_of w h a d ≡ At b) where
       omega (arith, ap (λ (n : ℕ). depth (n % w) (n / w)) p)
 
 -- two directions lead to two neighbours
-pub distinct : (w h a d d' b : ℕ) → neighbour_of w h a d ≡ At b → neighbour_of w h a d' ≡ At b → d ≡ d'
+pub distinct : (w h a d d' b : ℕ) → neighbour_of w h a d ≡ Some b → neighbour_of w h a d' ≡ Some b → d ≡ d'
 distinct w h a d d' b p q = one_way (stepped w h a d b p).goes (stepped w h a d' b q).goes
 
 -- a walk begins and ends on the map
@@ -76,10 +76,10 @@ some_step : {w h a b m : ℕ} → Walk w h a b m → (a ≡ b → ⊥) → 1 ≤
 some_step (here o) f = absurd (f refl)
 some_step (step dir e k) f = omega arith
 
-pub distance_beside : (w h a d b : ℕ) → neighbour_of w h a d ≡ At b → Distance w h a b 1
+pub distance_beside : (w h a d b : ℕ) → neighbour_of w h a d ≡ Some b → Distance w h a b 1
 distance_beside w h a d b e = record { reached = step d e (here (on_map_lem w h a d b e)); least = λ m k. some_step k (other w h a d b e) }
 
-pub beside_one : (w h a d b : ℕ) → neighbour_of w h a d ≡ At b → distance_of w a b ≡ 1
+pub beside_one : (w h a d b : ℕ) → neighbour_of w h a d ≡ Some b → distance_of w a b ≡ 1
 beside_one w h a d b e = closed (distance_beside w h a d b e)
 
 first_step : {w h a b : ℕ} → Walk w h a b 1 → Adjacent w h a b

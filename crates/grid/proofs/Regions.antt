@@ -1,5 +1,6 @@
 -- Laws of regions: the place of a hex, which hexes a region has, and which are away from it.
 -- Assumes nothing.
+use Rattle.std.specs.Prelude.{Some}
 use Prim.Native.Nat.{ℕ, zero, suc, ◌+◌, ◌-◌, ◌*◌, ◌/◌, ◌%◌, ◌≤◌, ◌<◌, max}
 use mathlib.Core.Path.{◌≡◌, refl, sym, ap, ap₂, ◌∙◌}
 use mathlib.Core.Bool.{Bool, true, false, ◌&&◌}
@@ -7,7 +8,6 @@ use native.Mathlib.Omega.{arith}
 use native.Mathlib.Nat.{mod-lt, zero-mul, mul-le-mul_right, suc-mul, mul_comm, div-lt_iff_lt-mul, le-div_iff_mul-le}
 use lib.Dec.{leb, ltb}
 use borrow.Author.Tests.{ltb-true, leb-true, le-leb, lt-leb, lt-ltb, le-ltb}
-use Rattle.grid.specs.declared.Beside.TheVariants.{At}
 use Rattle.grid.specs.declared.Spot.{Spot}
 use Rattle.grid.specs.declared.region.Region.{Region}
 use Rattle.grid.specs.Map.{On, on_map, neighbour_of}
@@ -79,7 +79,7 @@ placed {w} {h} {at} {x} {i} k e =
 pub hex_there :
     {w h : ℕ} {at : Region} {i : ℕ} → On w h 0 → i < places_of at → 8 ≤ i % at.wide + at.left → i % at.wide + at.left < w + 8
     → 8 ≤ i / at.wide + at.top → i / at.wide + at.top < h + 8
-    → HexOf w h at i (At ((i / at.wide + at.top - 8) * w + (i % at.wide + at.left - 8)))
+    → HexOf w h at i (Some ((i / at.wide + at.top - 8) * w + (i % at.wide + at.left - 8)))
 unfolding place_of
 hex_there {w} {h} {at} {i} o l a b c d =
     let n = at.wide in
@@ -223,8 +223,8 @@ module _ {w h : ℕ} {at : Region} (even : at.left % 2 ≡ 0) where
       (gap_same (depth (a % n) (a / n)) (depth (b % n) (b / n)) (depth (x % w) (x / w)) (depth (z % w) (z / w)) (2 * at.top) 16 (deep i) (deep j))
 
   as_steps :
-      RegionOk at → (x d z : ℕ) → Inside w h at x → Inside w h at z → neighbour_of w h x d ≡ At z
-      → neighbour_of at.wide at.high (place_of w at x) d ≡ At (place_of w at z)
+      RegionOk at → (x d z : ℕ) → Inside w h at x → Inside w h at z → neighbour_of w h x d ≡ Some z
+      → neighbour_of at.wide at.high (place_of w at x) d ≡ Some (place_of w at z)
   as_steps k x d z i j e =
       let a = place_of w at x in
       let b = place_of w at z in
@@ -243,7 +243,7 @@ module _ {w h : ℕ} {at : Region} (even : at.left % 2 ≡ 0) where
       }
       in
       steps n at.high a d (b % n) (b / n) o (omega (arith, place_column j, in_column j)) (omega (arith, place_row j, in_row j)) g'
-      ∙ ap At (number n b)
+      ∙ ap Some (number n b)
 
   pub alike : RegionOk at → Alike w h at
   alike k = record { steps = as_steps k; far = λ x z i j. as_far i j }

@@ -1,11 +1,11 @@
 -- Laws of the rim: hex 0 is on it, and what comes next after a hex of it.
 -- Assumes nothing.
+use Rattle.std.specs.Prelude.{None}
 use mathlib.Core.Path.{◌≡◌, sym, ◌∙◌, ap}
 use Prim.Native.Nat.{ℕ, zero, suc, ◌+◌, ◌-◌, ◌*◌, ◌/◌, ◌%◌, ◌≤◌, ◌<◌}
 use native.Mathlib.Nat.{add-mul, mod-eq_of_lt}
 use native.Mathlib.Decide.{dec_lt}
 use native.Mathlib.Omega.{arith}
-use Rattle.grid.specs.declared.Beside.TheVariants.{Off}
 use Rattle.grid.specs.Map.{On, neighbour_of}
 use Rattle.grid.specs.Rim.{RimHex, RimNext}
 use Rattle.grid.proofs.Arith.{small, row, number, column_of_lem, row_of}
@@ -13,14 +13,14 @@ use Rattle.grid.proofs.Step.{aside, down, Goes, steps}
 
 module _ (w h a : ℕ) (o : On w h a) where
   -- a direction that leads to a column and a row of the map leads to a hex
-  not_off : (d c r : ℕ) → c < w → r < h → Goes d (a % w) (a / w) c r → neighbour_of w h a d ≡ Off → ⊥
+  not_off : (d c r : ℕ) → c < w → r < h → Goes d (a % w) (a / w) c r → neighbour_of w h a d ≡ None → ⊥
   not_off d c r p q g e =
       let s = steps w h a d c r o p q g in
       let z : ◌≡◌ {A = ℕ} 0 1 = cc in
       omega arith
 
   -- so do the directions 0, 1 and 2, but from the top row, the bottom row and the right column
-  inner : (d : ℕ) → d < 3 → 0 < a / w → a / w + 1 < h → a % w + 1 < w → neighbour_of w h a d ≡ Off → ⊥
+  inner : (d : ℕ) → d < 3 → 0 < a / w → a / w + 1 < h → a % w + 1 < w → neighbour_of w h a d ≡ None → ⊥
   unfolding aside down
   inner zero l t b s = not_off 0 (a % w) (a / w - 1) (omega arith) (omega arith) (omega arith)
   inner (suc zero) l t b s = not_off 1 (a % w + 1) (a / w - 1 + a % w % 2) (omega arith) (omega arith) (omega arith)
@@ -78,7 +78,7 @@ module _ {w h x : ℕ} (o : RimHex w h x) where
     row_next : {c : ℕ} → c < w → (x + 1 + c) / w ≡ x / w + 1
     row_next {c} l = ap (λ (n : ℕ). n / w) (next_row c) ∙ row_of (x / w + 1) l
 
-    inside_row : (y d : ℕ) → x < y → y < x + w → d < 3 → neighbour_of w h y d ≡ Off → ⊥
+    inside_row : (y d : ℕ) → x < y → y < x + w → d < 3 → neighbour_of w h y d ≡ None → ⊥
     inside_row y d j k l =
         let e : x + 1 + (y - (x + 1)) ≡ y = omega arith in
         let q : y - (x + 1) < w = omega arith in

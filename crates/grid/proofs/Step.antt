@@ -1,5 +1,6 @@
 -- A step to a neighbour, on columns and rows: what `neighbour_of` says, both ways, in one form for all directions and columns.
 -- Assumes nothing.
+use Rattle.std.specs.Prelude.{Some}
 use mathlib.Core.Path.{◌≡◌, refl, sym, ◌∙◌, ap, ap₂}
 use mathlib.Core.Bool.{cond}
 use Prim.Native.Nat.{ℕ, zero, suc, ◌+◌, ◌-◌, ◌*◌, ◌/◌, ◌%◌, ◌≤◌, ◌<◌}
@@ -7,7 +8,6 @@ use native.Mathlib.Nat.{add-zero}
 use native.Mathlib.Decide.{dec_lt}
 use native.Mathlib.Omega.{arith}
 use lib.Dec.{ltb}
-use Rattle.grid.specs.declared.Beside.TheVariants.{At}
 use Rattle.grid.specs.Map.{On, on_map, Place, hex_at, towards, beside_even, beside_odd, beside_of, neighbour_of}
 use Rattle.grid.specs.Walk.{depth}
 use Rattle.grid.proofs.Arith.{column_of_lem, row_of, inside}
@@ -121,7 +121,7 @@ goes_to_lem w h c r d b f (yes l) =
     let k = ways d l in
     record { dir = l; over = omega arith; deeper = omega arith }
 
-pub stepped : (w h a d b : ℕ) → neighbour_of w h a d ≡ At b → Stepped w h a d b
+pub stepped : (w h a d b : ℕ) → neighbour_of w h a d ≡ Some b → Stepped w h a d b
 unfolding neighbour_of
 stepped w h a d b e =
     let t = under (on_map w h a) _ e in
@@ -137,7 +137,7 @@ stepped w h a d b e =
 goes_there : {d c r c1 r1 : ℕ} → Goes d c r c1 r1 → beside_of (c % 2) (c + 1) (r + 1) d ≡ (c1 + 1, r1 + 1)
 goes_there {d} {c} {r} g = beside_is c r d g.dir ∙ same_place (omega arith) (omega arith)
 
-pub steps : (w h a d c1 r1 : ℕ) → On w h a → c1 < w → r1 < h → Goes d (a % w) (a / w) c1 r1 → neighbour_of w h a d ≡ At (r1 * w + c1)
+pub steps : (w h a d c1 r1 : ℕ) → On w h a → c1 < w → r1 < h → Goes d (a % w) (a / w) c1 r1 → neighbour_of w h a d ≡ Some (r1 * w + c1)
 unfolding neighbour_of
 steps w h a d c1 r1 o p q g =
     simp (on_test w h a o) (ap (hex_at w h) (goes_there g) ∙ find p q)

@@ -1,13 +1,12 @@
 -- What the map's tests say: whether a number is one of 1 to another, a hex on the map, a place on the map.
 -- Assumes nothing.
+use Rattle.std.specs.Prelude.{Option, Some, None}
 use mathlib.Core.Path.{◌≡◌, refl}
 use mathlib.Core.Bool.{Bool, true, false, cond, ◌&&◌}
 use Prim.Native.Nat.{ℕ, ◌-◌, ◌+◌, ◌*◌, ◌≤◌, ◌<◌}
 use native.Mathlib.Omega.{arith}
 use borrow.Author.Tests.{ltb-true, leb-true, lt-ltb, le-leb}
 use lib.Dec.{leb, ltb}
-use Rattle.grid.specs.declared.Beside.{Beside}
-use Rattle.grid.specs.declared.Beside.TheVariants.{At, Off}
 use Rattle.grid.specs.Map.{On, one_to, on_map, Place, hex_at}
 
 -- the parts of a test
@@ -35,7 +34,7 @@ unfolding on_map
 on_test w h a o = simp (le-leb _ _ o.wide, le-leb _ _ o.wide64, le-leb _ _ o.high, le-leb _ _ o.high64, lt-ltb _ _ o.below)
 
 -- what is found under a test is found because the test holds
-pub under : (t : Bool) (x : Beside) {b : ℕ} → cond t x Off ≡ At b → (t ≡ true) × (x ≡ At b)
+pub under : (t : Bool) (x : Option ℕ) {b : ℕ} → cond t x None ≡ Some b → (t ≡ true) × (x ≡ Some b)
 under true x e = (refl, e)
 under false x e = let z : ◌≡◌ {A = ℕ} 0 1 = cc in absurd (omega arith)
 
@@ -47,17 +46,17 @@ pub record Found (w h : ℕ) (p : Place) (b : ℕ) : Type 0 where
   pub bottom : p.1 ≤ h
   pub is : b ≡ (p.1 - 1) * w + (p.0 - 1)
 
-pub found : (w h : ℕ) (p : Place) (b : ℕ) → hex_at w h p ≡ At b → Found w h p b
+pub found : (w h : ℕ) (p : Place) (b : ℕ) → hex_at w h p ≡ Some b → Found w h p b
 unfolding hex_at
 found w h p b e =
-    let t = under (one_to p.0 w && one_to p.1 h) (At ((p.1 - 1) * w + (p.0 - 1))) e in
+    let t = under (one_to p.0 w && one_to p.1 h) (Some ((p.1 - 1) * w + (p.0 - 1))) e in
     let s = both_yes (one_to p.0 w) (one_to p.1 h) t.0 in
     let u = one_to_lem p.0 w s.0 in
     let v = one_to_lem p.1 h s.1 in
-    let at : At ((p.1 - 1) * w + (p.0 - 1)) ≡ At b = t.1 in
+    let at : Some ((p.1 - 1) * w + (p.0 - 1)) ≡ Some b = t.1 in
     record { left = u.0; right = u.1; top = v.0; bottom = v.1; is = cc }
 
-pub find : {w h c r : ℕ} → c < w → r < h → hex_at w h (c + 1, r + 1) ≡ At (r * w + c)
+pub find : {w h c r : ℕ} → c < w → r < h → hex_at w h (c + 1, r + 1) ≡ Some (r * w + c)
 unfolding hex_at
 find {w} {h} {c} {r} p q =
     let ec : c + 1 - 1 ≡ c = omega arith in

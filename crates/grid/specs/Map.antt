@@ -1,8 +1,6 @@
 -- The map: hexes in columns and rows, and which hex lies beside which. "Hex number = row x width + column."
 -- Assumes nothing.
-use Rattle.std.specs.Prelude.{ℕ, zero, suc, ◌+◌, ◌-◌, ◌*◌, ◌/◌, ◌%◌, ◌≤◌, ◌<◌, Bool, cond, ◌&&◌, leb, ltb, eqb}
-use Rattle.grid.specs.declared.Beside.{Beside}
-use Rattle.grid.specs.declared.Beside.TheVariants.{At, Off}
+use Rattle.std.specs.Prelude.{ℕ, zero, suc, ◌+◌, ◌-◌, ◌*◌, ◌/◌, ◌%◌, ◌≤◌, ◌<◌, Bool, cond, ◌&&◌, leb, ltb, eqb, Option, Some, None}
 
 -- whether n is one of 1 to most
 abbrev pub one_to : ℕ → ℕ → Bool
@@ -25,8 +23,8 @@ abbrev pub Place : Type 0
 Place = ℕ × ℕ
 
 -- the hex at a place: "Off the map there is none"
-unfoldable pub hex_at : ℕ → ℕ → Place → Beside
-hex_at w h p = cond (one_to p.0 w && one_to p.1 h) (At ((p.1 - 1) * w + (p.0 - 1))) Off
+unfoldable pub hex_at : ℕ → ℕ → Place → Option ℕ
+hex_at w h p = cond (one_to p.0 w && one_to p.1 h) (Some ((p.1 - 1) * w + (p.0 - 1))) None
 
 -- the one of six that a direction names, clockwise from the north; what is no direction names no place
 abbrev pub towards : ℕ → Place → Place → Place → Place → Place → Place → Place
@@ -65,5 +63,5 @@ unfoldable pub beside_of : ℕ → ℕ → ℕ → ℕ → Place
 beside_of low c r dir = cond (eqb low 0) (beside_even c r dir) (beside_odd c r dir)
 
 -- the neighbour of a hex in a direction, from the hex's column, hex % w, and row, hex / w
-unfoldable pub neighbour_of : ℕ → ℕ → ℕ → ℕ → Beside
-neighbour_of w h hex dir = cond (on_map w h hex) (hex_at w h (beside_of (hex % w % 2) (hex % w + 1) (hex / w + 1) dir)) Off
+unfoldable pub neighbour_of : ℕ → ℕ → ℕ → ℕ → Option ℕ
+neighbour_of w h hex dir = cond (on_map w h hex) (hex_at w h (beside_of (hex % w % 2) (hex % w + 1) (hex / w + 1) dir)) None

@@ -1,9 +1,7 @@
 -- Beside what is certain: vocabulary of contracts and proofs.
 -- A part of the map with places of its own: which hexes it has, the place of each, and what lies away from it.
 -- Assumes nothing.
-use Rattle.std.specs.Prelude.{ℕ, ◌+◌, ◌-◌, ◌*◌, ◌/◌, ◌%◌, ◌≤◌, ◌<◌, ◌≡◌, Bool, cond, ◌&&◌, leb, ltb}
-use Rattle.grid.specs.declared.Beside.{Beside}
-use Rattle.grid.specs.declared.Beside.TheVariants.{At, Off}
+use Rattle.std.specs.Prelude.{ℕ, ◌+◌, ◌-◌, ◌*◌, ◌/◌, ◌%◌, ◌≤◌, ◌<◌, ◌≡◌, Bool, cond, ◌&&◌, leb, ltb, Option, Some, None}
 use Rattle.grid.specs.declared.region.Region.{Region}
 use Rattle.grid.specs.Map.{On, on_map, neighbour_of}
 use Rattle.grid.specs.Walk.{distance_of}
@@ -48,15 +46,15 @@ unfoldable pub place_in : ℕ → ℕ → Region → ℕ → ℕ
 place_in w h at x = cond (inside w h at x) (place_of w at x) (places_of at)
 
 -- which hex has place i
-abbrev pub HexOf : ℕ → ℕ → Region → ℕ → Beside → Type 0
-HexOf w h at i (At x) = Inside w h at x × (place_of w at x ≡ i)
-HexOf w h at i Off = (x : ℕ) → Inside w h at x → place_of w at x ≡ i → ⊥
+abbrev pub HexOf : ℕ → ℕ → Region → ℕ → Option ℕ → Type 0
+HexOf w h at i (Some x) = Inside w h at x × (place_of w at x ≡ i)
+HexOf w h at i None = (x : ℕ) → Inside w h at x → place_of w at x ≡ i → ⊥
 
 -- places lie to each other as their hexes do on the map: the region is a small map of its own
 pub record Alike (w h : ℕ) (at : Region) : Type 0 where
   pub steps :
-      (x d z : ℕ) → Inside w h at x → Inside w h at z → neighbour_of w h x d ≡ At z
-      → neighbour_of at.wide at.high (place_of w at x) d ≡ At (place_of w at z)
+      (x d z : ℕ) → Inside w h at x → Inside w h at z → neighbour_of w h x d ≡ Some z
+      → neighbour_of at.wide at.high (place_of w at x) d ≡ Some (place_of w at z)
   pub far :
       (x z : ℕ) → Inside w h at x → Inside w h at z → distance_of at.wide (place_of w at x) (place_of w at z) ≡ distance_of w x z
 
@@ -83,7 +81,7 @@ pub record Round (w h start far : ℕ) (at : Region) : Type 0 where
 -- hex x is away from it: the region has neither x nor a neighbour of x
 pub record Away (w h : ℕ) (at : Region) (x : ℕ) : Type 0 where
   pub other : Inside w h at x → ⊥
-  pub apart : (y d : ℕ) → Inside w h at y → neighbour_of w h x d ≡ At y → ⊥
+  pub apart : (y d : ℕ) → Inside w h at y → neighbour_of w h x d ≡ Some y → ⊥
 
 -- so are the numbers before `from`, and those from `to` on; those between are hexes of the map
 pub record Before (w h : ℕ) (at : Region) (from : ℕ) : Type 0 where

@@ -1,8 +1,7 @@
 -- Beside what is certain: vocabulary of contracts and proofs.
 -- The rim of the map: its top row, its bottom row and its right column.
 -- Assumes nothing.
-use Rattle.std.specs.Prelude.{ℕ, ◌+◌, ◌*◌, ◌%◌, ◌≤◌, ◌<◌, ◌≡◌}
-use Rattle.grid.specs.declared.Beside.TheVariants.{Off}
+use Rattle.std.specs.Prelude.{ℕ, ◌+◌, ◌*◌, ◌%◌, ◌≤◌, ◌<◌, ◌≡◌, None}
 use Rattle.grid.specs.Map.{On, neighbour_of}
 
 -- a hex of the rim: between the top row and the bottom row it is the last of its row
@@ -15,4 +14,4 @@ pub record RimNext (w h x r : ℕ) : Type 0 where
   pub later : x < r
   pub most : r ≤ w * h
   pub rim : r < w * h → RimHex w h r
-  pub between : (y d : ℕ) → x < y → y < r → d < 3 → neighbour_of w h y d ≡ Off → ⊥
+  pub between : (y d : ℕ) → x < y → y < r → d < 3 → neighbour_of w h y d ≡ None → ⊥

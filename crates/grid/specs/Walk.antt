@@ -1,18 +1,17 @@
 -- Walks over the map, and the distance of two hexes: "the fewest steps over map hexes, terrain ignored".
 -- Assumes nothing.
-use Rattle.std.specs.Prelude.{ℕ, zero, suc, ◌+◌, ◌-◌, ◌*◌, ◌/◌, ◌%◌, ◌≤◌, max, ◌≡◌}
-use Rattle.grid.specs.declared.Beside.TheVariants.{At}
+use Rattle.std.specs.Prelude.{ℕ, zero, suc, ◌+◌, ◌-◌, ◌*◌, ◌/◌, ◌%◌, ◌≤◌, max, ◌≡◌, Some}
 use Rattle.grid.specs.Map.{On, neighbour_of}
 
 -- b is a neighbour of a
 pub record Adjacent (w h a b : ℕ) : Type 0 where
   pub dir : ℕ
-  pub leads : neighbour_of w h a dir ≡ At b
+  pub leads : neighbour_of w h a dir ≡ Some b
 
 -- a walk of n steps from a hex to a hex, each step to a neighbour on the map
 pub data Walk (w h : ℕ) : ℕ → ℕ → ℕ → Type 0 where
   here : {a : ℕ} → On w h a → Walk w h a a zero
-  step : {a b c n : ℕ} (dir : ℕ) → neighbour_of w h a dir ≡ At b → Walk w h b c n → Walk w h a c (suc n)
+  step : {a b c n : ℕ} (dir : ℕ) → neighbour_of w h a dir ≡ Some b → Walk w h b c n → Walk w h a c (suc n)
 
 -- n is the distance of a and b: a walk has n steps, and none has fewer
 pub record Distance (w h a b n : ℕ) : Type 0 where

@@ -10,26 +10,12 @@ ghost use Rattle.std.specs.Prelude.{◌≡◌, ◌<◌, ◌≤◌};
 ghost use Rattle.grid.specs.Map.{On, one_to, on_map, hex_at, beside_of, neighbour_of};
 ghost use Rattle.grid.specs.Walk.{gap_of, distance_of};
 
-// What lies beside a hex: another hex, or the map's edge.
-#[derive(Clone, Copy)]
-pub enum Beside {
-    At(usize),
-    Off,
-}
-
 // A hex with its column and its row, both counted from 0.
 #[derive(Clone, Copy)]
 pub struct Spot {
     pub hex: usize,
     column: usize,
     row: usize,
-}
-
-// What lies beside a hex, with its column and row.
-#[derive(Clone, Copy)]
-pub enum Nearby {
-    At(Spot),
-    Off,
 }
 
 // A column and a row, both counted from 1, so that 0 is off the map.
@@ -63,23 +49,23 @@ pub fn on_map(w: usize, h: usize, hex: usize) -> bool
 }
 
 // The hex in column x and row y, both counted from 1.
-fn hex_at(w: usize, h: usize, x: usize, y: usize) -> Beside
+fn hex_at(w: usize, h: usize, x: usize, y: usize) -> Option<usize>
     requires { (w ≤ 64) × (h ≤ 64) }
     ensures { result ≡ hex_at w h (x, y) }
 {
     if x < 1 {
-        return Beside::Off;
+        return None;
     }
     if w < x {
-        return Beside::Off;
+        return None;
     }
     if y < 1 {
-        return Beside::Off;
+        return None;
     }
     if h < y {
-        return Beside::Off;
+        return None;
     }
-    Beside::At((y - 1) * w + (x - 1))
+    Some((y - 1) * w + (x - 1))
 }
 
 // The place beside column x and row y. One table serves both kinds of column: an odd one lies half a hex lower, and there low is 1.
@@ -104,11 +90,11 @@ fn place_beside(low: usize, x: usize, y: usize, dir: usize) -> Place
 }
 
 // The neighbour of a hex: directions 0 to 5 are N, NE, SE, S, SW, NW. Off also where the arguments are no map, hex and direction.
-pub fn neighbour(w: usize, h: usize, hex: usize, dir: usize) -> Beside
+pub fn neighbour(w: usize, h: usize, hex: usize, dir: usize) -> Option<usize>
     ensures { result ≡ neighbour_of w h hex dir }
 {
     if !on_map(w, h, hex) {
-        return Beside::Off;
+        return None;
     }
     let c = hex % w;
     let r = hex / w;

@@ -4,7 +4,7 @@ ghost use Rattle.grid.specs.Map.{On};
 ghost use Rattle.grid.specs.Spot.{SpotOf};
 ghost use Rattle.grid.specs.Region.{RegionOk, Inside, inside, place_of, place_in, HexOf, Whole, One, Round, Away, Before, Past};
 
-use crate::{Beside, Spot, near};
+use crate::{Spot, near};
 
 // How many columns and rows of a region may lie beyond the map's edge: its first ones are counted from there.
 const MARGIN: usize = 8;
@@ -101,25 +101,25 @@ pub fn place_in(w: usize, h: usize, at: Region, x: usize) -> usize
 }
 
 // The hex of the map that has place `i`, if one has.
-pub fn hex_of(w: usize, h: usize, at: Region, i: usize) -> Beside
+pub fn hex_of(w: usize, h: usize, at: Region, i: usize) -> Option<usize>
     requires { On w h 0 × RegionOk at × (i < at.wide * at.high) }
     ensures { HexOf w h at i result }
 {
     let column = i % at.wide + at.left;
     let row = i / at.wide + at.top;
     if column < MARGIN {
-        return Beside::Off;
+        return None;
     }
     if w + MARGIN <= column {
-        return Beside::Off;
+        return None;
     }
     if row < MARGIN {
-        return Beside::Off;
+        return None;
     }
     if h + MARGIN <= row {
-        return Beside::Off;
+        return None;
     }
-    Beside::At((row - MARGIN) * w + (column - MARGIN))
+    Some((row - MARGIN) * w + (column - MARGIN))
 }
 
 // The hexes before this one are away from the region: those above the row above it.

@@ -1,13 +1,11 @@
 // The ground: sides between hexes, steps over unblocked sides, and where a unit may stand.
 #![tactic(auto)]
 
-ghost use Rattle.std.specs.Prelude.{◌≡◌, cond, ◌<◌, ltb};
-ghost use Rattle.grid.specs.declared.Beside.TheVariants.{At};
+ghost use Rattle.std.specs.Prelude.{◌≡◌, cond, ◌<◌, ltb, Some};
 ghost use Rattle.position.specs.Board.{board, ground};
-ghost use Rattle.position.specs.Ground.{beside, stored, side, next, is_at, bearing, joined, standable};
-ghost use Rattle.position.specs.Laid.{Laid, Read};
+ghost use Rattle.position.specs.Ground.{beside, stored, side, next, bearing, joined, standable};
+ghost use Rattle.position.specs.Laid.{Laid, Read, Sought};
 
-use grid::Beside;
 use position::{View, read};
 
 pub const PLAIN: usize = 0;
@@ -41,7 +39,7 @@ pub fn side(p: &[u8], v: View, h: usize, d: usize) -> usize
     if d < 3 {
         return stored(p, v, h, d);
     }
-    let Beside::At(n) = grid::neighbour(v.width, v.height, h, d) else {
+    let Some(n) = grid::neighbour(v.width, v.height, h, d) else {
         return PLAIN;
     };
     stored(p, v, n, d - 3)
@@ -59,48 +57,30 @@ fn keeper(h: usize, n: usize, d: usize) -> usize
 
 // The side between hex `h` and its neighbour `n` in direction `d`, for one who knows the neighbour.
 pub fn between(p: &[u8], v: View, h: usize, n: usize, d: usize) -> usize
-    requires { Laid p.now v × (d < 6) × (beside (ground p.now) h d ≡ At n) }
+    requires { Laid p.now v × (d < 6) × (beside (ground p.now) h d ≡ Some n) }
     ensures { Read (side (ground p.now) h d) 4 result }
 {
     stored(p, v, keeper(h, n, d), d % 3)
 }
 
 // Where a step from hex `h` in direction `d` leads, if the side is not blocked. The neighbour is looked up once, for itself and its side.
-pub fn next(p: &[u8], v: View, h: usize, d: usize) -> Beside
+pub fn next(p: &[u8], v: View, h: usize, d: usize) -> Option<usize>
     requires { Laid p.now v × (d < 6) }
     ensures { result ≡ next (ground p.now) h d }
 {
-    let Beside::At(n) = grid::neighbour(v.width, v.height, h, d) else {
-        return Beside::Off;
-    };
+    let n = grid::neighbour(v.width, v.height, h, d)?;
     if between(p, v, h, n, d) == BLOCKED {
-        return Beside::Off;
+        return None;
     }
-    Beside::At(n)
+    Some(n)
 }
 
-pub fn is_at(b: Beside, x: usize) -> bool
-    ensures { result ≡ is_at b x }
-{
-    match b {
-        Beside::At(n) => n == x,
-        Beside::Off => false,
-    }
-}
-
-// The direction in which a step over an unblocked side leads from hex `h` to hex `x`; 6 if none does.
-pub fn bearing(p: &[u8], v: View, h: usize, x: usize) -> usize
+// The direction in which a step over an unblocked side leads from hex `h` to hex `x`, if one does.
+pub fn bearing(p: &[u8], v: View, h: usize, x: usize) -> Option<usize>
     requires { Laid p.now v }
-    ensures { Read (bearing (ground p.now) h x) 7 result }
+    ensures { Sought (bearing (ground p.now) h x) 6 result }
 {
-    let mut d = 0;
-    while d < 6 {
-        if is_at(next(p, v, h, d), x) {
-            return d;
-        }
-        d += 1;
-    }
-    6
+    (0..6).find(|d| next(p, v, h, *d) == Some(x))
 }
 
 // Whether hex `x` is next to hex `h` over an unblocked side.
@@ -108,7 +88,7 @@ pub fn joined(p: &[u8], v: View, h: usize, x: usize) -> bool
     requires { Laid p.now v }
     ensures { result ≡ joined (ground p.now) h x }
 {
-    bearing(p, v, h, x) < 6
+    bearing(p, v, h, x).is_some()
 }
 
 // Whether a unit may stand on hex `h`: land or coast of the map, unprohibited.

@@ -4,7 +4,7 @@ use Prim.Native.Nat.{ℕ, zero, suc, ◌+◌, ◌<◌, ◌≤◌}
 use native.Mathlib.Omega.{arith}
 use mathlib.Core.Path.{◌≡◌, refl, sym, ◌∙◌}
 use mathlib.Core.List.{List, [], ◌∷◌, map}
-use borrow.Author.Count.{below_more, below_none}
+use borrow.Author.Count.{below_more}
 use lib.ListN.{get_or, length, length-map, length-set, set, take}
 use lib.Seq.{ext_get_or, get_or-set_other, get_or-set_same, get_or-take, length-take-le}
 use Rattle.line.specs.Line.{Filled, fighter_at, fighter_of, places}
@@ -17,9 +17,6 @@ at_place f (x ∷ xs) zero d l = refl
 at_place f (x ∷ xs) (suc j) d l = at_place f xs j d (omega arith)
 
 module _ {g : ℕ → Fighter} where
-  pub filled_none : {l : List Fighter} → length l ≡ places → Filled g 0 l
-  filled_none {l} e = record { size = e; each = below_none (λ j. fighter_at l j ≡ g j) }
-
   -- one place more
   pub filled_more : {i : ℕ} {l m : List Fighter} {x : Fighter} → i < places → Filled g i l → x ≡ g i → m ≡ set l i x → Filled g (i + 1) m
   filled_more {i} {l} {m} {x} k o e f =
@@ -31,10 +28,6 @@ module _ {g : ℕ → Fighter} where
             (λ j h. get_or-set_other l i j x (fighter_of 0 0 0) (λ d. omega arith) ∙ o.each j h)
             (get_or-set_same l i x (fighter_of 0 0 0) (omega (arith, o.size)) ∙ e);
       })
-
-  -- no more places than were filled
-  pub filled_all : {i n : ℕ} {l : List Fighter} → Filled g i l → n ≤ i → Filled g n l
-  filled_all o h = record { size = o.size; each = λ j k. o.each j (omega arith) }
 
   -- the line of a list, if each place has the fighter of its unit
   pub filled_list :

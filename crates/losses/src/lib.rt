@@ -34,7 +34,7 @@ use field::listed;
 use line::Fighter;
 use position::kind::Kind;
 use position::{View, read, role};
-use ruling::{Answer, Tested};
+use ruling::Refusal;
 
 // Whether unit `u` owes.
 fn owes(p: &[u8], v: View, u: usize) -> bool
@@ -45,31 +45,29 @@ fn owes(p: &[u8], v: View, u: usize) -> bool
 }
 
 // The questions of unit `u` behind the first `n` of the list: 4, 6.
-fn loss(p: &[u8], v: View, units: &[u16], n: usize, u: usize) -> Tested
+fn loss(p: &[u8], v: View, units: &[u16], n: usize, u: usize) -> Result<(), Refusal>
     requires { Laid p.now v × (n ≤ length units.now) × (n < 18) }
     ensures { TestedOf p.now (loss (board p.now) (take n units.now) u (n + 1)) (Unit {0}) result }
 {
     let k = n + 1;
     if !owes(p, v, u) {
-        return Tested::Stopped(4, k);
+        return Err(Refusal::WrongUnit(k));
     }
     if listed::named(units, n, u) {
-        return Tested::Stopped(6, k);
+        return Err(Refusal::NamedTwice(k));
     }
-    Tested::Passed
+    Ok(())
 }
 
 // The questions of every unit, along the list.
-fn each_loss(p: &[u8], v: View, units: &[u16]) -> Tested
+fn each_loss(p: &[u8], v: View, units: &[u16]) -> Result<(), Refusal>
     requires { Laid p.now v × (length units.now ≤ 18) }
     ensures { TestedOf p.now (losses (board p.now) units.now) (Unit {0}) result }
 {
-    for i in 0..units.len() {
-        if let Tested::Stopped(n, k) = loss(p, v, units, i, units[i] as usize) {
-            return Tested::Stopped(n, k);
-        }
+    for (i, &u) in units.iter().enumerate() {
+        loss(p, v, units, i, u as usize)?;
     }
-    Tested::Passed
+    Ok(())
 }
 
 // The line of the list: each unit with the strength that it shows. Nobody fights.
@@ -78,10 +76,10 @@ fn loss_line(p: &[u8], v: View, units: &[u16]) -> [Fighter; 21]
     ensures { Filled (loss_at (board p.now) units.now) (length units.now) result }
 {
     let mut fighters = line::nobody();
-    for i in 0..units.len() {
+    for (i, &unit) in units.iter().enumerate() {
         fighters[i] = Fighter {
-            unit: units[i],
-            printed: read::shown(p, v, units[i] as usize) as u8,
+            unit,
+            printed: read::shown(p, v, unit as usize) as u8,
             fighting: 0,
         };
     }
@@ -93,8 +91,8 @@ fn shown_total(p: &[u8], v: View, units: &[u16]) -> usize
     requires { Laid p.now v × (length units.now ≤ 18) }
     ensures { result ≡ shown_total (board p.now) units.now }
 {
-    let totals = line::sum_up(loss_line(p, v, units), 0, units.len());
-    totals.printed
+    let fighters = loss_line(p, v, units);
+    line::printed_total(&fighters[..units.len()])
 }
 
 // Whether unit `u` owes and the list spares it.
@@ -113,15 +111,7 @@ fn any_spared(p: &[u8], v: View, units: &[u16]) -> bool
     requires { Laid p.now v }
     ensures { result ≡ any (spared (board p.now) units.now) (board p.now).units.count }
 {
-    let count = v.count;
-    let mut u = 0;
-    while u < count {
-        if spared(p, v, units, u) {
-            return true;
-        }
-        u += 1;
-    }
-    false
+    (0..v.count).any(|u| spared(p, v, units, u))
 }
 
 // Whether the list reaches the need or names all.
@@ -151,15 +141,7 @@ fn phasing_owes(p: &[u8], v: View) -> bool
     requires { Laid p.now v }
     ensures { result ≡ any (owes_phasing (board p.now)) (board p.now).units.count }
 {
-    let count = v.count;
-    let mut u = 0;
-    while u < count {
-        if owes_phasing(p, v, u) {
-            return true;
-        }
-        u += 1;
-    }
-    false
+    (0..v.count).any(|u| owes_phasing(p, v, u))
 }
 
 // Whether the list names unit `u`, and it is no special infantry.
@@ -178,15 +160,7 @@ fn names_other(p: &[u8], v: View, units: &[u16]) -> bool
     requires { Laid p.now v }
     ensures { result ≡ any (other_type (board p.now) units.now) (board p.now).units.count }
 {
-    let count = v.count;
-    let mut u = 0;
-    while u < count {
-        if other_type(p, v, units, u) {
-            return true;
-        }
-        u += 1;
-    }
-    false
+    (0..v.count).any(|u| other_type(p, v, units, u))
 }
 
 // Whether unit `u` is special infantry that owes and that the list spares.
@@ -205,15 +179,7 @@ fn spares_special(p: &[u8], v: View, units: &[u16]) -> bool
     requires { Laid p.now v }
     ensures { result ≡ any (spared_special (board p.now) units.now) (board p.now).units.count }
 {
-    let count = v.count;
-    let mut u = 0;
-    while u < count {
-        if spared_special(p, v, units, u) {
-            return true;
-        }
-        u += 1;
-    }
-    false
+    (0..v.count).any(|u| spared_special(p, v, units, u))
 }
 
 // Whether special infantry is passed over.
@@ -242,29 +208,25 @@ fn short(p: &[u8], v: View, units: &[u16]) -> bool
 }
 
 // All the questions of losses.
-fn judge_losses(p: &[u8], v: View, units: &[u16]) -> Tested
+fn judge_losses(p: &[u8], v: View, units: &[u16]) -> Result<(), Refusal>
     requires { Laid p.now v }
     ensures { TestedOf p.now (loss_checks (board p.now) units.now) (Unit {0}) result }
 {
     if units.len() < 1 {
-        return Tested::Stopped(3, 0);
+        return Err(Refusal::OutOfRange(0));
     }
     if 18 < units.len() {
-        return Tested::Stopped(3, 0);
+        return Err(Refusal::OutOfRange(0));
     }
-    if let Tested::Stopped(n, k) = listed::all_there(p, v, units) {
-        return Tested::Stopped(n, k);
-    }
+    listed::all_there(p, v, units)?;
     if read::stage(p, v) != position::stage::LOSSES {
-        return Tested::Stopped(2, 0);
+        return Err(Refusal::Untimely);
     }
-    if let Tested::Stopped(n, k) = each_loss(p, v, units) {
-        return Tested::Stopped(n, k);
-    }
+    each_loss(p, v, units)?;
     if short(p, v, units) {
-        return Tested::Stopped(15, 0);
+        return Err(Refusal::LossesShort);
     }
-    Tested::Passed
+    Ok(())
 }
 
 // Every unit of the list is destroyed.
@@ -272,8 +234,8 @@ fn destroy_all(p: &mut [u8], v: View, units: &[u16])
     requires { Laid p.old v }
     ensures { p.new ≡ makes p.old (map destroyed units.now) }
 {
-    for i in 0..units.len() {
-        write::destroy(p, v, units[i] as usize);
+    for &u in units {
+        write::destroy(p, v, u as usize);
     }
 }
 
@@ -288,13 +250,11 @@ fn lose(p: &mut [u8], v: View, units: &[u16])
 }
 
 // The losses on a checked position: the units of the list are those of an exchange.
-pub fn losses(p: &mut [u8], v: View, units: &[u16]) -> Answer
+pub fn losses(p: &mut [u8], v: View, units: &[u16]) -> Result<(), Refusal>
     requires { Laid p.old v }
     ensures { Met p.old [] (losses_rule (board p.old) units.now) (answer_as result) p.new [] }
 {
-    if let Tested::Stopped(n, k) = judge_losses(p, v, units) {
-        return Answer::Refused(n, k);
-    }
+    judge_losses(p, v, units)?;
     lose(p, v, units);
-    Answer::Accepted
+    Ok(())
 }

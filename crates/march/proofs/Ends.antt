@@ -283,10 +283,6 @@ judges_next {p} {map} {q} {r} {n} {u} h l m a g =
       scenes = g.scenes ∙ a.scenes;
     }
 
--- what is traced stays so when units are judged
-pub traced_after : {p q map : List ℕ} {m n k : ℕ} → JudgesAll p n k q → Traced (scene (board p)) m map → Traced (scene (board q)) m map
-traced_after {map = map} {m = m} j = subst (λ (s : Scene). Traced s m map) (sym j.scenes)
-
 -- units of one nationality still wait when those of another are judged
 since_other : {b c : Board} {m n : ℕ} → (m ≡ n → ⊥) → (k : ℕ) → Since b c m → Since b (changes c (judge_all b n k)) m
 since_other {b} {c} {m} {n} d k s =
@@ -303,9 +299,6 @@ since_other {b} {c} {m} {n} d k s =
     }
 
 -- force 3 with its two nationalities, and the others
-pub judges_home : {p q : List ℕ} {f : ℕ} → f ≡ 3 → JudgesForce p 3 q → JudgesForce p f q
-judges_home {p} {q} e = subst (λ (f : ℕ). JudgesForce p f q) (sym e)
-
 module _ (p : List ℕ) {k : ℕ} (e : k ≡ Layout.count p) where
   full : {b : Board} {n : ℕ} → Since b (board p) n → k ≡ b.units.count
   full s = e ∙ ap (λ (x : Scene). x.count) s.scenes

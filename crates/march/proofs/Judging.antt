@@ -4,6 +4,7 @@ use Prim.Native.Nat.{ℕ, ◌+◌, ◌≤◌, ◌<◌}
 use mathlib.Core.Path.{◌≡◌, sym, subst}
 use mathlib.Core.Bool.{Bool, true, false}
 use mathlib.Core.List.{List}
+use Rattle.std.specs.Prelude.{Result, Ok, Err}
 use lib.ListN.{length, get_or}
 use borrow.Author.Tests.{lt-ltb, le-ltb}
 use Rattle.position.specs.Board.{Board, force_of}
@@ -16,8 +17,8 @@ use Rattle.field.specs.Scene.{scene}
 use Rattle.field.specs.Zone.{holds_enemy, holds_neutral}
 use Rattle.march.specs.Move.{Leg, leg, after_step, allowed, leaves_zone, no_step, step}
 use Rattle.march.specs.Judged.{Onward, PathOf}
-use Rattle.march.specs.declared.Path.{Path}
-use Rattle.march.specs.declared.Path.TheVariants as P
+use Rattle.ruling.specs.Refused.{refused_as}
+use Rattle.ruling.specs.declared.refusal.Refusal.{Refusal}
 
 -- the tests of a step, in their order
 module _ (p : List ℕ) (b : Board) (u : ℕ) (l : Leg) (x k : ℕ) where
@@ -74,6 +75,6 @@ gone_step b u {p} {path} {i} {first = first} o l w =
 pub path_through :
     {p : List ℕ} {f g : (Leg → Verdict) → Verdict}
     → ((l : List ℕ) (v : Leg → Verdict) (a : Ruling) (q m : List ℕ) → Met p l (f v) a q m → Met p l (g v) a q m)
-    → (r : Path) → PathOf p f r → PathOf p g r
-path_through t (P.To h) o = record { leg = o.leg; at = o.at; passes = λ l v a q m w. t l v a q m (o.passes l v a q m w) }
-path_through {p} t (P.Stop n k) o = λ l v. t l v (refused n k) p l (o l v)
+    → (r : Result ℕ Refusal) → PathOf p f r → PathOf p g r
+path_through t (Ok h) o = record { leg = o.leg; at = o.at; passes = λ l v a q m w. t l v a q m (o.passes l v a q m w) }
+path_through {p} t (Err r) o = λ l v. t l v (refused_as r) p l (o l v)

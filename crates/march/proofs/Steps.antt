@@ -1,11 +1,11 @@
 -- Laws of one step: what it costs, the working allowance, and the step's tests by cases.
 -- Assumes nothing.
+use Rattle.std.specs.Prelude.{Some}
 use Prim.Native.Nat.{ℕ, ◌≤◌, ◌<◌}
 use mathlib.Core.Path.{◌≡◌, sym, ap₂, ◌∙◌}
 use mathlib.Core.Bool.{Bool, true, false, not}
 use native.Mathlib.Omega.{arith}
 use borrow.Author.Tests.{lt-ltb, le-ltb, eq-eqb, ne_eqb, not-true}
-use Rattle.grid.specs.declared.Beside.TheVariants.{At}
 use Rattle.position.specs.Tally.{any}
 use Rattle.position.specs.Bits.{has, supplied}
 use Rattle.position.specs.Layout.{river, major_river}
@@ -60,7 +60,7 @@ module _ (b : Board) (h x : ℕ) where
   turned : bearing b.map h x < 6 → joined b.map h x ≡ true
   turned l = sym (bearing_joined b.map h x) ∙ lt-ltb (bearing b.map h x) 6 l
 
-  pub turned_next : bearing b.map h x < 6 → next b.map h (bearing b.map h x) ≡ At x
+  pub turned_next : bearing b.map h x < 6 → next b.map h (bearing b.map h x) ≡ Some x
   unfolding reaches
   turned_next l = is-at (next b.map h (bearing b.map h x)) x (bearing_reaches b.map h x (turned l))
 

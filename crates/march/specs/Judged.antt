@@ -1,25 +1,23 @@
 -- Beside what is certain: vocabulary of contracts and proofs.
 -- What the judging functions answer: they go on to whatever follows, or stop with a refusal.
 -- Assumes nothing.
-use Rattle.std.specs.Prelude.{ℕ, ◌<◌, ◌≡◌, Bool, List}
+use Rattle.std.specs.Prelude.{ℕ, ◌<◌, ◌≡◌, Bool, List, Result, Ok, Err}
 use Rattle.ruling.specs.Verdict.{Verdict, Ruling, Met}
 use Rattle.ruling.specs.Judged.{Passes, Stops}
 use Rattle.march.specs.Move.{Leg}
-use Rattle.march.specs.declared.Way.{Way}
-use Rattle.march.specs.declared.Way.TheVariants as W
-use Rattle.march.specs.declared.Path.{Path}
-use Rattle.march.specs.declared.Path.TheVariants as P
+use Rattle.ruling.specs.Refused.{number_of, place_of}
+use Rattle.ruling.specs.declared.refusal.Refusal.{Refusal}
 
--- On(spent, zone) is what the move has spent after the tests, never more than an allowance can be, and whether it is in an Enemy zone
+-- spent and zone are what the move has spent after the tests, never more than an allowance can be, and whether it is in an Enemy zone
 pub record Onward (p : List ℕ) (f : Verdict → Verdict) (want : ℕ) (there : Bool) (spent : ℕ) (zone : Bool) : Type 0 where
   pub passes : Passes p f
   pub is : spent ≡ want
   pub small : spent < 256
   pub enters : zone ≡ there
 
-abbrev pub WayOf : List ℕ → (Verdict → Verdict) → ℕ → Bool → Way → Type 0
-WayOf p f want there (W.On spent zone) = Onward p f want there spent zone
-WayOf p f want there (W.Stop n k) = Stops p f n k
+abbrev pub WayOf : List ℕ → (Verdict → Verdict) → ℕ → Bool → Result (ℕ × Bool) Refusal → Type 0
+WayOf p f want there (Ok (spent, zone)) = Onward p f want there spent zone
+WayOf p f want there (Err r) = Stops p f (number_of r) (place_of r)
 
 -- the tests of a path are passed, and it ends at hex h
 pub record Arrives (p : List ℕ) (f : (Leg → Verdict) → Verdict) (h : ℕ) : Type 0 where
@@ -27,6 +25,6 @@ pub record Arrives (p : List ℕ) (f : (Leg → Verdict) → Verdict) (h : ℕ) 
   pub at : leg.at ≡ h
   pub passes : (l : List ℕ) (v : Leg → Verdict) (a : Ruling) (q m : List ℕ) → Met p l (v leg) a q m → Met p l (f v) a q m
 
-abbrev pub PathOf : List ℕ → ((Leg → Verdict) → Verdict) → Path → Type 0
-PathOf p f (P.To h) = Arrives p f h
-PathOf p f (P.Stop n k) = Stops p f n k
+abbrev pub PathOf : List ℕ → ((Leg → Verdict) → Verdict) → Result ℕ Refusal → Type 0
+PathOf p f (Ok h) = Arrives p f h
+PathOf p f (Err r) = Stops p f (number_of r) (place_of r)

@@ -11,10 +11,10 @@ ghost use Rattle.march.specs.Answers.{moved_as};
 
 use clock::phase;
 use field::{listed, unit};
-use march::{Moved, Path, Way};
+use march::Moved;
 use position::kind::Kind;
 use position::{View, bits, read, stage};
-use ruling::Tested;
+use ruling::Refusal;
 
 // Whether a move may be made in this stage and phase.
 fn may_move_now(p: &[u8], v: View) -> bool
@@ -56,54 +56,48 @@ fn forbidden(p: &[u8], v: View, u: usize) -> bool
 }
 
 // The questions of every step, along the path. A zone at the start is free, so the first step leaves none.
-fn steps(p: &[u8], v: View, u: usize, path: &[u16]) -> Path
+fn steps(p: &[u8], v: View, u: usize, path: &[u16]) -> Result<usize, Refusal>
     requires { Laid p.now v × (length path.now < 31) }
     ensures { PathOf p.now (steps (board p.now) u path.now) result }
 {
     let mut at = read::hex(p, v, u);
     let mut spent = 0;
     let mut leaves = false;
-    for i in 0..path.len() {
-        let x = path[i] as usize;
-        match stepping::one_step(p, v, u, at, spent, leaves, x, i + 1) {
-            Way::Stop(n, k) => return Path::Stop(n, k),
-            Way::On(total, zone) => {
-                spent = total;
-                leaves = zone;
-            }
-        }
+    for (i, &hex) in path.iter().enumerate() {
+        let x = hex as usize;
+        let (total, zone) = stepping::one_step(p, v, u, at, spent, leaves, x, i + 1)?;
         at = x;
+        spent = total;
+        leaves = zone;
     }
-    Path::To(at)
+    Ok(at)
 }
 
 // All the questions of a move but 11.
-pub fn judge_move(p: &[u8], v: View, u: usize, path: &[u16]) -> Path
+pub fn judge_move(p: &[u8], v: View, u: usize, path: &[u16]) -> Result<usize, Refusal>
     requires { Laid p.now v }
     ensures { PathOf p.now (move_checks (board p.now) u path.now) result }
 {
     let long = path.len();
     if long < 1 {
-        return Path::Stop(3, 0);
+        return Err(Refusal::OutOfRange(0));
     }
     if 30 < long {
-        return Path::Stop(3, 0);
+        return Err(Refusal::OutOfRange(0));
     }
     let count = v.count;
     if count <= u {
-        return Path::Stop(3, 0);
+        return Err(Refusal::OutOfRange(0));
     }
-    if let Tested::Stopped(n, k) = listed::on_map_all(p, v, path) {
-        return Path::Stop(n, k);
-    }
+    listed::on_map_all(p, v, path)?;
     if !may_move_now(p, v) {
-        return Path::Stop(2, 0);
+        return Err(Refusal::Untimely);
     }
     if unit::not_phasing(p, v, u) {
-        return Path::Stop(4, 0);
+        return Err(Refusal::WrongUnit(0));
     }
     if forbidden(p, v, u) {
-        return Path::Stop(5, 0);
+        return Err(Refusal::Forbidden(0));
     }
     steps(p, v, u, path)
 }
@@ -117,7 +111,7 @@ fn arrive(p: &mut [u8], v: View, u: usize, h: usize, last: usize) -> Moved
     ensures { Met p.old [] (arrival (board p.old) u last h) (moved_as result) p.new [] }
 {
     if FULL <= crowd::others(p, v, u, h) {
-        return Moved::Refused(11, last);
+        return Moved::Refused(Refusal::Full(last));
     }
     let marks = read::marks(p, v, u);
     write::place(p, v, u, h);
@@ -130,9 +124,8 @@ pub fn move_unit(p: &mut [u8], v: View, unit: usize, path: &[u16]) -> Moved
     requires { Laid p.old v }
     ensures { Met p.old [] (move_rule (board p.old) unit path.now) (moved_as result) p.new [] }
 {
-    let way = judge_move(p, v, unit, path);
-    match way {
-        Path::Stop(n, k) => Moved::Refused(n, k),
-        Path::To(h) => arrive(p, v, unit, h, path.len()),
+    match judge_move(p, v, unit, path) {
+        Err(refusal) => Moved::Refused(refusal),
+        Ok(h) => arrive(p, v, unit, h, path.len()),
     }
 }

@@ -1,5 +1,6 @@
 -- Laws of the odds: the smaller and the larger, what an attacker crosses, the smallest of a list, and the last column reached.
 -- Assumes nothing.
+use Rattle.std.specs.Prelude.{min, max}
 use Prim.Native.Nat.{◌*◌, ◌+◌, ◌<◌, ◌≤◌, suc, zero, ℕ}
 use mathlib.Core.Bool.{Bool, false, true}
 use mathlib.Core.List.{List, [], ◌++◌, ◌∷◌, map}
@@ -43,6 +44,13 @@ module _ (m n : ℕ) where
 
   pub larger_below : (k : ℕ) → m < k → n < k → larger m n < k
   larger_below k h l = either (leb m n) (λ e. omega (arith, larger_second (leb-true m n e))) (λ e. omega (arith, larger_first (leb-false m n e)))
+
+-- what the library's `min` and `max` answer
+pub smaller_min : (low x : ℕ) → min low x ≡ smaller x low
+smaller_min low x = either (leb x low) (λ e. omega (arith, smaller_first x low (leb-true x low e), leb-true x low e)) (λ e. omega (arith, smaller_second x low (leb-false x low e), leb-false x low e))
+
+pub larger_max : (m n : ℕ) → max m n ≡ larger m n
+larger_max m n = either (leb m n) (λ e. omega (arith, larger_second m n (leb-true m n e), leb-true m n e)) (λ e. omega (arith, larger_first m n (leb-false m n e), leb-false m n e))
 
 -- a river, a major river, and any other side
 module _ (c : Chart) (s : ℕ) where

@@ -4,31 +4,13 @@
 ghost use Rattle.std.specs.Prelude.{◌≡◌, map, ◌<◌, ◌≤◌, length};
 ghost use Rattle.position.specs.Board.{board, chart, results, ground};
 ghost use Rattle.position.specs.Laid.{Laid, Read};
-ghost use Rattle.odds.specs.Odds.{smaller, larger, side_multiple, crossed, smallest, multiple_at, reached, column};
+ghost use Rattle.odds.specs.Odds.{side_multiple, crossed, smallest, multiple_at, reached, column};
 ghost use Rattle.odds.specs.Adjacent.{Adjacent, AllAdjacent};
 
 use position::{View, layout, read};
 
 // What a side without a river multiplies: nothing, less than any river.
 const NO_RIVER: usize = 0;
-
-fn smaller(m: usize, n: usize) -> usize
-    ensures { result ≡ smaller m n }
-{
-    if m <= n {
-        return m;
-    }
-    n
-}
-
-fn larger(m: usize, n: usize) -> usize
-    ensures { result ≡ larger m n }
-{
-    if m <= n {
-        return n;
-    }
-    m
-}
 
 fn side_multiple(p: &[u8], v: View, s: usize) -> usize
     requires { Laid p.now v }
@@ -49,7 +31,7 @@ fn crossed(p: &[u8], v: View, target: usize, u: usize) -> usize
     ensures { Read (crossed (board p.now) target u) 256 result }
 {
     let h = read::hex(p, v, u);
-    let d = ground::bearing(p, v, h, target);
+    let d = ground::bearing(p, v, h, target).unwrap();
     side_multiple(p, v, ground::side(p, v, h, d))
 }
 
@@ -59,8 +41,8 @@ fn smallest(p: &[u8], v: View, target: usize, units: &[u16]) -> usize
     ensures { Read (smallest (map (crossed (board p.now) target) units.now)) 256 result }
 {
     let mut low = crossed(p, v, target, units[0] as usize);
-    for i in 1..units.len() {
-        low = smaller(crossed(p, v, target, units[i] as usize), low);
+    for &u in &units[1..] {
+        low = low.min(crossed(p, v, target, u as usize));
     }
     low
 }
@@ -71,7 +53,7 @@ pub fn multiple_at(p: &[u8], v: View, target: usize, units: &[u16]) -> usize
     ensures { Read (multiple_at (board p.now) target units.now) 256 result }
 {
     let terrain = read::multiple(p, v, read::terrain(p, v, target));
-    larger(terrain, smallest(p, v, target, units))
+    terrain.max(smallest(p, v, target, units))
 }
 
 // Whether the odds reach column `c`.

@@ -5,10 +5,8 @@ ghost use Rattle.routes.specs.Outlook.{friendly, friendly_at};
 
 use position::{bits, layout};
 
-// The bytes of a window.
-const PLACES: usize = 56;
-
 // Whether a hex with the marks `m` may hold a stack that can be pushed: friends and no supply unit of theirs, outside Enemy zones.
+#[tactic(auto, unfolding(routes::specs::Outlook::friendly))]
 fn friendly(m: usize) -> bool
     ensures { result ≡ friendly m }
 {
@@ -26,13 +24,9 @@ fn any_friendly(painted: &[u8]) -> bool
     requires { length painted.now ≡ 56 }
     ensures { result ≡ any (friendly_at painted.now) 56 }
 {
-    let mut found = false;
-    for i in 0..PLACES {
-        if friendly(layout::wide(painted[i])) {
-            found = true;
-        }
-    }
-    found
+    painted
+        .iter()
+        .fold(false, |found, m| friendly(layout::wide(*m)) | found)
 }
 
 // Whether a place other than `home` does: the start's own, which no route enters, is blotted out first.

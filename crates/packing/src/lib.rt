@@ -2,6 +2,7 @@
 #![tactic(auto)]
 
 ghost use Rattle.std.specs.Prelude.{◌≡◌};
+ghost use Rattle.ruling.specs.Refused.{number_of, place_of};
 ghost use Rattle.ruling.specs.Answers.{answer_as};
 ghost use Rattle.ruling.specs.Packed.{refusal_of, packed};
 ghost use Rattle.march.specs.Answers.{moved_as};
@@ -11,21 +12,21 @@ ghost use Rattle.retreat.specs.Answers.{retreated_as};
 use battle::Fought;
 use march::Moved;
 use retreat::Retreated;
-use ruling::Answer;
+use ruling::Refusal;
 
 // A refusal: its number in the low byte, its place in bits 8 to 23.
-fn refusal(n: usize, k: usize) -> u64
-    ensures { result ≡ refusal_of n k }
+fn refusal(r: Refusal) -> u64
+    ensures { result ≡ refusal_of (number_of r) (place_of r) }
 {
-    (n % 256 + 256 * (k % 65536)) as u64
+    (r.number() % 256 + 256 * (r.place() % 65536)) as u64
 }
 
-pub fn pack_answer(a: Answer) -> u64
+pub fn pack_answer(a: Result<(), Refusal>) -> u64
     ensures { result ≡ packed (answer_as a) }
 {
     match a {
-        Answer::Accepted => 0,
-        Answer::Refused(n, k) => refusal(n, k),
+        Ok(()) => 0,
+        Err(r) => refusal(r),
     }
 }
 
@@ -34,7 +35,7 @@ pub fn pack_moved(a: Moved) -> u64
 {
     match a {
         Moved::Done => 0,
-        Moved::Refused(n, k) => refusal(n, k),
+        Moved::Refused(r) => refusal(r),
     }
 }
 
@@ -44,7 +45,7 @@ pub fn pack_fought(a: Fought) -> u64
 {
     match a {
         Fought::Done(column, code) => (256 * (column % 256) + 65536 * (code % 65536)) as u64,
-        Fought::Refused(n, k) => refusal(n, k),
+        Fought::Refused(r) => refusal(r),
     }
 }
 
@@ -55,6 +56,6 @@ pub fn pack_retreated(a: Retreated) -> u64
     match a {
         Retreated::To(end) => (256 + 65536 * (end % 65536)) as u64,
         Retreated::Destroyed => 512,
-        Retreated::Refused(n, k) => refusal(n, k),
+        Retreated::Refused(r) => refusal(r),
     }
 }

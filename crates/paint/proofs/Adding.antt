@@ -4,7 +4,6 @@ use Prim.Native.Nat.{ℕ, ◌<◌}
 use mathlib.Core.Path.{◌≡◌, refl, sym, ap, subst, ◌∙◌}
 use mathlib.Core.Bool.{Bool, true, false, ◌||◌, and-true, and-false}
 use mathlib.Core.List.{List}
-use native.Mathlib.Omega.{arith}
 use lib.ListN.{length, set, length-set}
 use borrow.Author.Tests.{eq-eqb, ne_eqb}
 use Rattle.grid.specs.declared.region.Region.{Region}
@@ -13,7 +12,6 @@ use Rattle.grid.proofs.Regions.{place_one}
 use Rattle.position.specs.Bits.{has}
 use Rattle.position.specs.Layout.{byte}
 use Rattle.position.proofs.Tallies.{same_or}
-use Rattle.paint.specs.Room.{Room}
 use Rattle.paint.specs.Paint.{Mark, bit, Stamp, Adds, inked, only}
 use Rattle.paint.proofs.Bytes.{byte_set, byte_other}
 use Rattle.paint.proofs.Inks.{has_inked}
@@ -25,10 +23,6 @@ or_assoc false b c = refl
 only_other : (b x : ℕ) (k : Mark) (h : ℕ) → (x ≡ h → ⊥) → only b x k h ≡ false
 unfolding only
 only_other b x k h n = simp (ne_eqb x h n, and-false)
-
--- a buffer that is as long has as much room
-pub room_kept : {at : Region} {l m : List ℕ} → Room at l → length m ≡ length l → Room at m
-room_kept r e = record { region = r.region; long = omega (arith, r.long) }
 
 -- what t says, and then what u says
 unfoldable pub also : (Mark → ℕ → Bool) → (Mark → ℕ → Bool) → Mark → ℕ → Bool

@@ -1,15 +1,12 @@
 -- Zones from the casters outward: what one caster covers, and that the units cover one by one what lies in an Enemy zone.
 -- Assumes nothing.
+use Rattle.std.specs.Prelude.{Option, Some, None}
 use Prim.Native.Nat.{ℕ, ◌+◌, ◌%◌, ◌≤◌, ◌<◌}
 use mathlib.Core.Path.{◌≡◌, refl, sym, ap, ◌∙◌}
 use mathlib.Core.Bool.{Bool, true, false, not, ◌&&◌, ◌||◌, and-false}
 use native.Mathlib.Omega.{arith}
 use lib.Dec.{ltb, eqb}
 use borrow.Author.Tests.{lt-ltb, le-ltb, ltb-true, eq-eqb, ne_eqb, eqb-true, eqb-false, not-true}
-use Rattle.grid.specs.declared.Beside.{Beside}
-use Rattle.grid.specs.declared.Beside.TheVariants.{At, Off}
-use Rattle.grid.specs.declared.Nearby.{Nearby}
-use Rattle.grid.specs.declared.Nearby.TheVariants as N
 use Rattle.grid.specs.declared.Spot.{Spot}
 use Rattle.grid.specs.Map.{neighbour_of}
 use Rattle.grid.specs.Spot.{SpotOf, NearOf}
@@ -27,27 +24,27 @@ use Rattle.paint.specs.Paint.{Mark, bit, zone_mark, casts_against, covers, zone_
 use Rattle.paint.proofs.Adding.{also}
 
 -- what lies beside a spot, by the answer's cases
-module _ (w h x d : ℕ) (b : Nearby) (o : NearOf w h x d b) where
-  pub near_off : b ≡ N.Off → neighbour_of w h x d ≡ Off
+module _ (w h x d : ℕ) (b : Option Spot) (o : NearOf w h x d b) where
+  pub near_off : b ≡ None → neighbour_of w h x d ≡ None
   near_off e = rw e at o
 
-  pub near_at : {t : Spot} → b ≡ N.At t → (neighbour_of w h x d ≡ At t.hex) × SpotOf w h t
+  pub near_at : {t : Spot} → b ≡ Some t → (neighbour_of w h x d ≡ Some t.hex) × SpotOf w h t
   near_at e = rw e at o
 
 module _ (m : Map) (n d : ℕ) where
   -- nothing is covered off the map, over a major river or a blocked side, or in all-sea
-  pub covers_edge : (h : ℕ) → beside m n d ≡ Off → covers m n h d ≡ false
+  pub covers_edge : (h : ℕ) → beside m n d ≡ None → covers m n h d ≡ false
   unfolding covers is_at
-  covers_edge h e = ap (λ (b : Beside). is_at b h && (ltb (side m n d) 2 && not (eqb (m.surface h) 2))) e
+  covers_edge h e = ap (λ (b : Option ℕ). is_at b h && (ltb (side m n d) 2 && not (eqb (m.surface h) 2))) e
 
   pub covers_stopped : (h : ℕ) → 2 ≤ side m n d → covers m n h d ≡ false
   unfolding covers
   covers_stopped h l = simp (le-ltb (side m n d) 2 l, and-false)
 
-  module _ (t : ℕ) (e : beside m n d ≡ At t) where
+  module _ (t : ℕ) (e : beside m n d ≡ Some t) where
     covers_at : (h : ℕ) → covers m n h d ≡ (eqb t h && (ltb (side m n d) 2 && not (eqb (m.surface h) 2)))
     unfolding covers is_at
-    covers_at h = ap (λ (b : Beside). is_at b h && (ltb (side m n d) 2 && not (eqb (m.surface h) 2))) e
+    covers_at h = ap (λ (b : Option ℕ). is_at b h && (ltb (side m n d) 2 && not (eqb (m.surface h) 2))) e
 
     pub covers_sea : (h : ℕ) → m.surface t ≡ 2 → covers m n h d ≡ false
     covers_sea h z =
@@ -122,7 +119,7 @@ module _ (s : Scene) (f u : ℕ) where
 
 -- what it is for a caster on hex n to cover hex h
 record Cover (m : Map) (n h d : ℕ) : Type 0 where
-  next : beside m n d ≡ At h
+  next : beside m n d ≡ Some h
   thin : side m n d < 2
   not_sea : m.surface h ≡ 2 → ⊥
 

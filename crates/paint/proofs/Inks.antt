@@ -1,6 +1,6 @@
 -- Laws of marks: one that is set is there, and leaves the others as they were.
 -- Assumes nothing.
-use Prim.Native.Nat.{ℕ, ◌+◌, ◌/◌, ◌%◌, ◌≤◌, ◌<◌}
+use Prim.Native.Nat.{ℕ, ◌+◌, ◌/◌, ◌%◌, ◌<◌}
 use mathlib.Core.Path.{◌≡◌, refl, ap, subst, ◌∙◌}
 use mathlib.Core.Bool.{true, false, ◌||◌}
 use native.Mathlib.Omega.{arith}
@@ -106,17 +106,6 @@ pub inked_fits : {b m : ℕ} → Stamp b → has b m ≡ false → m < 256 → m
 inked_fits {b} {m} s e l =
     let q : m / bit s.mark % 2 ≡ 0 = rw s.is (bit_off b m e) in
     omega (arith, fits m s.mark q l, s.is)
-
-some_bit : (i : Mark) → (1 ≤ bit i) × (bit i ≤ 32)
-some_bit in_zone = omega arith
-some_bit by_enemy = omega arith
-some_bit by_own = omega arith
-some_bit by_depot = omega arith
-some_bit by_any = omega arith
-some_bit spare = omega arith
-
-pub stamp_some : {b : ℕ} → Stamp b → (1 ≤ b) × (b ≤ 32)
-stamp_some s = let k = some_bit s.mark in omega (arith, s.is, k)
 
 -- the marks that an empty byte has
 pub has_none : (k : Mark) → has (bit k) 0 ≡ false

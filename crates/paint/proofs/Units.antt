@@ -58,24 +58,9 @@ use Rattle.paint.proofs.Casting.{zone_units}
 pub enemy_told : (b : Board) (f u : ℕ) {g : ℕ} {r t : Bool} → g ≡ force_of b u → r ≡ enemy b f g → r ≡ t → (scene b).enemy f (force_in (scene b) u) ≡ t
 enemy_told b f u e q z = ap (enemy b f) (sym (e ∙ force_in_lem b u)) ∙ sym q ∙ z
 
--- the marks that stamps are made with
+-- the mark that a zone is stamped with
 pub zone_stamp : Stamp 1
 zone_stamp = record { mark = in_zone; is = refl }
-
-pub enemy_stamp : Stamp 2
-enemy_stamp = record { mark = by_enemy; is = refl }
-
-pub own_stamp : Stamp 4
-own_stamp = record { mark = by_own; is = refl }
-
-pub depot_stamp : Stamp 8
-depot_stamp = record { mark = by_depot; is = refl }
-
-pub held_stamp : Stamp 16
-held_stamp = record { mark = by_any; is = refl }
-
-pub spare_stamp : Stamp 32
-spare_stamp = record { mark = spare; is = refl }
 
 -- what the marks of a hex say
 module _ {s : Scene} {f h m : ℕ} (k : Marked s f h m) where

@@ -9,7 +9,7 @@ ghost use Rattle.paint.specs.Paint.{in_zone, casts_against, Adds, cast_to, reach
 
 use crate::ink;
 use grid::region::Region;
-use grid::{Nearby, Spot, near};
+use grid::{Spot, near};
 use position::kind::Kind;
 use position::{View, layout, read};
 
@@ -20,7 +20,7 @@ fn over(p: &[u8], v: View, at: Region, s: Spot, d: usize, buf: &mut [u8])
     requires { Laid p.now v × Room at buf.old × SpotOf v.width v.height s × (d < 6) }
     ensures { Adds v.width v.height at (cast_to (ground p.now) s.hex d) buf.old buf.new }
 {
-    let Nearby::At(t) = near::near(v.width, v.height, s, d) else {
+    let Some(t) = near::near(v.width, v.height, s, d) else {
         return;
     };
     if ground::MAJOR_RIVER <= ground::between(p, v, s.hex, t.hex, d) {

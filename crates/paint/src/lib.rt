@@ -35,9 +35,7 @@ pub const SPARE: usize = 32;
 pub fn clear(buf: &mut [u8])
     ensures { buf.new ≡ replicate (length buf.old) 0 }
 {
-    for i in 0..buf.len() {
-        buf[i] = 0;
-    }
+    buf.fill(0);
 }
 
 // What unit `u` shows to force `f` in the region: nothing, if it stands more than a row or a column outside.
@@ -74,8 +72,7 @@ fn paint_units(p: &[u8], v: View, at: Region, f: usize, from: usize, to: usize, 
     requires { Laid p.now v × Room at buf.old × Before v.width v.height at from × Past v.width v.height at to }
     ensures { Adds v.width v.height at (says_below (scene (board p.now)) f v.count) buf.old buf.new }
 {
-    let count = v.count;
-    for u in 0..count {
+    for u in 0..v.count {
         paint_unit(p, v, at, f, from, to, u, buf);
     }
 }

@@ -15,10 +15,9 @@ fn reassign_one(p: &mut [u8], v: View, u: usize, from: usize, to: usize)
     requires { Laid p.old v × (to < 256) }
     ensures { p.new ≡ makes p.old (cond (eqb ((board p.old).units.state.role u) from) (assigned u to ∷ []) []) }
 {
-    if read::role(p, v, u) != from {
-        return;
+    if read::role(p, v, u) == from {
+        write::assign(p, v, u, to);
     }
-    write::assign(p, v, u, to);
 }
 
 // Every unit with the role `from` gets the role `to`.
@@ -26,8 +25,7 @@ pub fn reassign(p: &mut [u8], v: View, from: usize, to: usize)
     requires { Laid p.old v × (to < 256) }
     ensures { p.new ≡ makes p.old (reassigned (board p.old) from to) }
 {
-    let count = v.count;
-    for u in 0..count {
+    for u in 0..v.count {
         reassign_one(p, v, u, from, to);
     }
 }

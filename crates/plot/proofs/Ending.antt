@@ -1,13 +1,12 @@
 -- Laws of whether a chain ends anywhere at all.
 -- Assumes nothing.
+use Rattle.std.specs.Prelude.{Option, Some, None}
 use Prim.Native.Nat.{ℕ, ◌+◌, ◌-◌, ◌≤◌, ◌<◌}
 use mathlib.Core.Path.{◌≡◌, refl, sym, ap, ◌∙◌}
 use mathlib.Core.Bool.{Bool, true, false, ◌&&◌, and-false}
 use mathlib.Core.List.{List, ◌∷◌}
 use native.Mathlib.Omega.{arith}
 use borrow.Author.Tests.{eq-eqb}
-use Rattle.grid.specs.declared.Beside.{Beside}
-use Rattle.grid.specs.declared.Beside.TheVariants.{At, Off}
 use Rattle.position.specs.Tally.{any}
 use Rattle.position.proofs.Tallies.{not_both, same_or, any_some, any_true, any_false, any_never}
 use Rattle.chains.specs.Chain.{yields, has_rest}
@@ -23,11 +22,11 @@ ends l used left h = any (ends_in (next_in l) (stand_in l) used left h) places
 
 module _ (l used : List ℕ) (left h : ℕ) (p : 1 ≤ left) where
   -- a stack with a vacant place beside it ends one
-  beside : (d : ℕ) (b : Beside) → d < 6 → next_in l h d ≡ b → rest_way (next_in l) (stand_in l) (h ∷ used) h d ≡ true
+  beside : (d : ℕ) (b : Option ℕ) → d < 6 → next_in l h d ≡ b → rest_way (next_in l) (stand_in l) (h ∷ used) h d ≡ true
       → has_rest (next_in l) (stand_in l) (h ∷ used) h ≡ true → ends l used left h ≡ true
   unfolding up_to
-  beside d Off b e r q = not_both _ r (way_off (next_in l) (stand_in l) (h ∷ used) h d e)
-  beside d (At z) b e r q =
+  beside d None b e r q = not_both _ r (way_off (next_in l) (stand_in l) (h ∷ used) h d e)
+  beside d (Some z) b e r q =
       let f = sym (way_at (next_in l) (stand_in l) (h ∷ used) h d z e) ∙ r in
       any_true (ends_in (next_in l) (stand_in l) used left h) places z (next_below l h d z e)
       (sym (ends_rest (next_in l) (stand_in l) used left h z p q)
@@ -46,7 +45,7 @@ module _ (l used : List ℕ) (left h : ℕ) (p : 1 ≤ left) where
 
   -- a stack that it pushes goes on with one
   pub can_via :
-      (d z : ℕ) → d < 6 → next_in l h d ≡ At z → has_rest (next_in l) (stand_in l) (h ∷ used) h ≡ false
+      (d z : ℕ) → d < 6 → next_in l h d ≡ Some z → has_rest (next_in l) (stand_in l) (h ∷ used) h ≡ false
       → yields (stand_in l) (h ∷ used) z ≡ true → (trail : List ℕ) → trail ≡ h ∷ used → ends l trail (left - 1) z ≡ true
       → ends l used left h ≡ true
   unfolding up_to
@@ -79,10 +78,10 @@ module _ {l used : List ℕ} {left h : ℕ} where
     }
 
     -- nothing is in direction d; or a stack that cannot be pushed; or one with which no chain ends
-    pub endless_off : next_in l h d ≡ Off → Endless l used left h (d + 1)
+    pub endless_off : next_in l h d ≡ None → Endless l used left h (d + 1)
     endless_off e = endless_more (λ y m. via_off (next_in l) (stand_in l) (h ∷ used) h d (left - 1) e y)
 
-    pub endless_held : (z : ℕ) → next_in l h d ≡ At z → yields (stand_in l) (h ∷ used) z ≡ false → Endless l used left h (d + 1)
+    pub endless_held : (z : ℕ) → next_in l h d ≡ Some z → yields (stand_in l) (h ∷ used) z ≡ false → Endless l used left h (d + 1)
     endless_held z e r =
         endless_more
         (λ y m.
@@ -90,7 +89,7 @@ module _ {l used : List ℕ} {left h : ℕ} where
         ∙ ap (λ (v : Bool). v && ends_in (next_in l) (stand_in l) (h ∷ used) (left - 1) z y) r)
 
     pub endless_via :
-        (z : ℕ) → next_in l h d ≡ At z → (trail : List ℕ) → trail ≡ h ∷ used → ends l trail (left - 1) z ≡ false
+        (z : ℕ) → next_in l h d ≡ Some z → (trail : List ℕ) → trail ≡ h ∷ used → ends l trail (left - 1) z ≡ false
         → Endless l used left h (d + 1)
     endless_via z e trail f g =
         endless_more

@@ -1,5 +1,6 @@
 -- Laws of marks: the places in which a chain may end.
 -- Assumes nothing.
+use Rattle.std.specs.Prelude.{Option, Some, None}
 use Prim.Native.Nat.{ℕ, zero, suc, ◌+◌, ◌-◌, ◌/◌, ◌%◌, ◌≤◌, ◌<◌}
 use mathlib.Core.Path.{◌≡◌, refl, sym, ap, subst, ◌∙◌}
 use mathlib.Core.Bool.{Bool, true, false, ◌&&◌, ◌||◌, and-false, and-true, or-false, or_assoc}
@@ -8,8 +9,6 @@ use native.Mathlib.Omega.{arith}
 use native.Mathlib.Decide.{dec_le}
 use lib.Dec.{eqb}
 use borrow.Author.Tests.{eq-eqb, ne_eqb, le-leb, lt-leb, eqb-true}
-use Rattle.grid.specs.declared.Beside.{Beside}
-use Rattle.grid.specs.declared.Beside.TheVariants.{At, Off}
 use Rattle.position.specs.Bits.{has}
 use Rattle.position.specs.Tally.{any}
 use Rattle.position.specs.Ground.{is_at}
@@ -28,7 +27,7 @@ close_self x l = record { below = l; after = omega arith; before = omega arith }
 pub close_more : {x y m : ℕ} (n : ℕ) → m ≤ n → Close x y m → Close x y n
 close_more n l c = record { below = c.below; after = omega (arith, c.after); before = omega (arith, c.before) }
 
-pub close_step : (l : List ℕ) (i d z : ℕ) {x n : ℕ} → next_in l i d ≡ At z → Close x i n → Close x z (n + 1)
+pub close_step : (l : List ℕ) (i d z : ℕ) {x n : ℕ} → next_in l i d ≡ Some z → Close x i n → Close x z (n + 1)
 close_step l i d z e c =
     let n = next_near l i d z e in
     record { below = next_below l i d z e; after = omega (arith, c.after); before = omega (arith, c.before) }
@@ -119,40 +118,40 @@ unfoldable pub rest_way : Ways → Stands → List ℕ → ℕ → ℕ → Bool
 rest_way next s used h d = leads_to (rests s used) (next h d)
 
 module _ (next : Ways) (s : Stands) (used : List ℕ) (h d : ℕ) where
-  pub way_off : next h d ≡ Off → rest_way next s used h d ≡ false
+  pub way_off : next h d ≡ None → rest_way next s used h d ≡ false
   unfolding rest_way leads_to
   way_off e = simp e
 
-  pub way_at : (z : ℕ) → next h d ≡ At z → rest_way next s used h d ≡ rests s used z
+  pub way_at : (z : ℕ) → next h d ≡ Some z → rest_way next s used h d ≡ rests s used z
   unfolding rest_way leads_to
   way_at z e = simp e
 
-  pub rest_off : next h d ≡ Off → (y : ℕ) → rest_at next s used h d y ≡ false
+  pub rest_off : next h d ≡ None → (y : ℕ) → rest_at next s used h d y ≡ false
   unfolding rest_at is_at
   rest_off e y = simp e
 
-  pub rest-at : (z : ℕ) → next h d ≡ At z → (y : ℕ) → rest_at next s used h d y ≡ (eqb z y && rests s used y)
+  pub rest-at : (z : ℕ) → next h d ≡ Some z → (y : ℕ) → rest_at next s used h d y ≡ (eqb z y && rests s used y)
   unfolding rest_at is_at
   rest-at z e y = simp e
 
-  pub rest_not : (z : ℕ) → next h d ≡ At z → rests s used z ≡ false → (y : ℕ) → rest_at next s used h d y ≡ false
+  pub rest_not : (z : ℕ) → next h d ≡ Some z → rests s used z ≡ false → (y : ℕ) → rest_at next s used h d y ≡ false
   rest_not z e f y =
       rest-at z e y
       ∙ same_or z y
       (λ q. ap (λ (b : Bool). eqb z y && b) (ap (rests s used) (sym q) ∙ f) ∙ and-false (eqb z y))
       (λ n. ap (λ (b : Bool). b && rests s used y) (ne_eqb z y n))
 
-  pub rest_yes : (z : ℕ) → next h d ≡ At z → rests s used z ≡ true → (y : ℕ) → eqb z y ≡ rest_at next s used h d y
+  pub rest_yes : (z : ℕ) → next h d ≡ Some z → rests s used z ≡ true → (y : ℕ) → eqb z y ≡ rest_at next s used h d y
   rest_yes z e f y =
       same_or z y
       (λ q. sym (rest-at z e y ∙ ap (λ (b : Bool). eqb z y && b) (ap (rests s used) (sym q) ∙ f) ∙ and-true (eqb z y)))
       (λ n. ne_eqb z y n ∙ sym (rest-at z e y ∙ ap (λ (b : Bool). b && rests s used y) (ne_eqb z y n)))
 
-  pub via_off : (left : ℕ) → next h d ≡ Off → (y : ℕ) → end_via next s used left h d y ≡ false
+  pub via_off : (left : ℕ) → next h d ≡ None → (y : ℕ) → end_via next s used left h d y ≡ false
   unfolding end_via leads_to
   via_off left e y = simp e
 
-  pub via_at : (left z : ℕ) → next h d ≡ At z → (y : ℕ) → end_via next s used left h d y ≡ (yields s used z && ends_in next s used left z y)
+  pub via_at : (left z : ℕ) → next h d ≡ Some z → (y : ℕ) → end_via next s used left h d y ≡ (yields s used z && ends_in next s used left z y)
   unfolding end_via leads_to end_from
   via_at left z e y = simp e
 
@@ -167,7 +166,7 @@ rest_all_lem next s used h y =
     either (rests s used y) (λ e. simp (e, and-true)) (λ e. simp (e, and-false) (any_never _ 6 (λ k l. refl)))
 
 -- after a direction more
-module _ {x : ℕ} (next : Ways) (s : Stands) (used : List ℕ) (h d z : ℕ) (e : next h d ≡ At z) {l m n : List ℕ} where
+module _ {x : ℕ} (next : Ways) (s : Stands) (used : List ℕ) (h d z : ℕ) (e : next h d ≡ Some z) {l m n : List ℕ} where
   pub upto_rest :
       Marks x (up_to (rest_at next s used h) d) l m → rests s used z ≡ true → Close x z 3 → MarkSet (span + z - x) m n
       → Marks x (up_to (rest_at next s used h) (d + 1)) l n
@@ -227,9 +226,9 @@ module _ (next : Ways) (s : Stands) (used : List ℕ) (left h y : ℕ) (p : 1 �
   unfolding up_to
   ends_never q e = sym (ends_via e) ∙ any_never (λ d. end_via next s (h ∷ used) (left - 1) h d y) 6 (λ d l. off d (next h d) refl)
     where
-      off : (d : ℕ) (b : Beside) → next h d ≡ b → end_via next s (h ∷ used) (left - 1) h d y ≡ false
-      off d Off k = via_off next s (h ∷ used) h d (left - 1) k y
-      off d (At z) k =
+      off : (d : ℕ) (b : Option ℕ) → next h d ≡ b → end_via next s (h ∷ used) (left - 1) h d y ≡ false
+      off d None k = via_off next s (h ∷ used) h d (left - 1) k y
+      off d (Some z) k =
           let z0 : left - 1 ≡ 0 = omega arith in
           via_at next s (h ∷ used) h d (left - 1) z k y
           ∙ ap (λ (b : Bool). yields s (h ∷ used) z && b) (ap (λ (n : ℕ). ends_in next s (h ∷ used) n z y) z0 ∙ none_left next s (h ∷ used) 0 z y)
@@ -239,21 +238,21 @@ module _ (next : Ways) (s : Stands) (used : List ℕ) (left h y : ℕ) (p : 1 �
 pub record Led (next : Ways) (t : ℕ → Bool) (h : ℕ) : Type 0 where
   pub dir : ℕ
   pub to : ℕ
-  pub leads : next h dir ≡ At to
+  pub leads : next h dir ≡ Some to
   pub passes : t to ≡ true
 
-led_at : (next : Ways) (t : ℕ → Bool) (h d : ℕ) (b : Beside) → next h d ≡ b → leads_to t b ≡ true → Led next t h
+led_at : (next : Ways) (t : ℕ → Bool) (h d : ℕ) (b : Option ℕ) → next h d ≡ b → leads_to t b ≡ true → Led next t h
 unfolding leads_to
-led_at next t h d (At z) p q = record { dir = d; to = z; leads = p; passes = q }
-led_at next t h d Off p q = not_both false q refl
+led_at next t h d (Some z) p q = record { dir = d; to = z; leads = p; passes = q }
+led_at next t h d None p q = not_both false q refl
 
 pub led : (next : Ways) (t : ℕ → Bool) (h : ℕ) → any (λ d. leads_to t (next h d)) 6 ≡ true → Led next t h
 led next t h e = let k = any_some (λ d. leads_to t (next h d)) 6 e in led_at next t h k.at (next h k.at) refl k.passes
 
-at_leads : (b : Beside) (y : ℕ) → is_at b y ≡ leads_to (λ z. eqb z y) b
+at_leads : (b : Option ℕ) (y : ℕ) → is_at b y ≡ leads_to (λ z. eqb z y) b
 unfolding is_at leads_to
-at_leads (At z) y = refl
-at_leads Off y = refl
+at_leads (Some z) y = refl
+at_leads None y = refl
 
 pub led_next : (next : Ways) (h y : ℕ) → leads next h y ≡ true → Led next (λ z. eqb z y) h
 unfolding leads
@@ -268,7 +267,7 @@ unfolding rests_beside
 rest_close l s used h x y n b c e =
     let k = led_next (next_in l) h y (both_yes (leads (next_in l) h y) (rests s used y) e).0 in
     let q : k.to ≡ y = eqb-true k.to y k.passes in
-    close_more 3 (omega arith) (close_step l h k.dir y (k.leads ∙ ap At q) c)
+    close_more 3 (omega arith) (close_step l h k.dir y (k.leads ∙ ap Some q) c)
 
 led_end :
     (next : Ways) (s : Stands) (used : List ℕ) (left h y : ℕ) → up_to (end_via next s used left h) 6 y ≡ true

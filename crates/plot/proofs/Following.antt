@@ -1,5 +1,6 @@
 -- Laws of the test of an order on a plot.
 -- Assumes nothing.
+use Rattle.std.specs.Prelude.{Option, Some, None}
 use Prim.Native.Nat.{ℕ, suc, ◌+◌, ◌<◌, ◌≤◌}
 use mathlib.Core.Path.{◌≡◌, refl, sym, ap, ap₂, ◌∙◌}
 use mathlib.Core.Bool.{true, false, and-false}
@@ -14,8 +15,6 @@ use Rattle.chains.specs.declared.Stand.TheVariants.{Shut, Free, Loose}
 use Rattle.chains.specs.Chain.{Stands, leads, most, after}
 use Rattle.chains.specs.Series.{Land}
 use Rattle.chains.specs.Follows.{takes, by_stand, by_taken, follows}
-use Rattle.plot.specs.declared.Took.{Took}
-use Rattle.plot.specs.declared.Took.TheVariants as T
 use Rattle.plot.specs.Plot.{places, wide, stand_in, next_in, land_in, shifted}
 use Rattle.plot.specs.Follow.{places_from, follows_in, goes_on, Stepped, PushedOut}
 use Rattle.plot.proofs.Taking.{led_below, never_took, none_left, places_next, places_none, same_took}
@@ -50,12 +49,12 @@ on_shifted home l x y b p q i a rest ps =
     (sym (shifted_land l x y b p q home)) (sym (shifted_stands l x y b p q))
 
 module _ {place : ℕ → ℕ} {home : ℕ} {l : List ℕ} {i a x k : ℕ} {pushes : List ℕ} where
-  pub stepped_apart : leads (next_in l) a x ≡ false → Stepped place home l l i a x k pushes T.Wrong
+  pub stepped_apart : leads (next_in l) a x ≡ false → Stepped place home l l i a x k pushes None
   unfolding land_in
   stepped_apart e =
       record { long = refl; used = λ y j f. never_took y j f; left_to_ask = λ rest. follows_apart _ _ _ _ _ _ _ e }
 
-  pub stepped_far : (distance_of wide home x ≡ i + 1 → ⊥) → Stepped place home l l i a x k pushes T.Wrong
+  pub stepped_far : (distance_of wide home x ≡ i + 1 → ⊥) → Stepped place home l l i a x k pushes None
   unfolding land_in
   stepped_far n =
       record {
@@ -65,7 +64,7 @@ module _ {place : ℕ → ℕ} {home : ℕ} {l : List ℕ} {i a x k : ℕ} {push
       }
 
   module _ (e : leads (next_in l) a x ≡ true) (f : distance_of wide home x ≡ i + 1) where
-    pub stepped_shut : stand_in l x ≡ Shut → Stepped place home l l i a x k pushes T.Wrong
+    pub stepped_shut : stand_in l x ≡ Shut → Stepped place home l l i a x k pushes None
     unfolding land_in
     stepped_shut s =
         record {
@@ -74,7 +73,7 @@ module _ {place : ℕ → ℕ} {home : ℕ} {l : List ℕ} {i a x k : ℕ} {push
           left_to_ask = λ rest. follows_by _ _ _ _ _ _ _ e (f ∙ add-one i) ∙ rw s;
         }
 
-    pub stepped_free : stand_in l x ≡ Free → k ≤ length pushes → Stepped place home l l i a x k pushes (T.UpTo x k)
+    pub stepped_free : stand_in l x ≡ Free → k ≤ length pushes → Stepped place home l l i a x k pushes (Some (x, k))
     unfolding land_in
     stepped_free s b =
         record {
@@ -84,16 +83,16 @@ module _ {place : ℕ → ℕ} {home : ℕ} {l : List ℕ} {i a x k : ℕ} {push
         }
 
     pub stepped_loose :
-        {m : List ℕ} (r : Took) → stand_in l x ≡ Loose → length l ≡ places → PushedOut place l m a x k pushes r
+        {m : List ℕ} (r : Option (ℕ × ℕ)) → stand_in l x ≡ Loose → length l ≡ places → PushedOut place l m a x k pushes r
         → Stepped place home l m i a x k pushes r
     unfolding land_in
-    stepped_loose {m} T.Wrong s b p =
+    stepped_loose {m} None s b p =
         record {
           long = ap length (p.kept refl);
           used = λ y j g. never_took y j g;
           left_to_ask = λ rest. follows_by _ _ _ _ _ _ _ e (f ∙ add-one i) ∙ rw s (rw (sym p.took));
         }
-    stepped_loose {m} (T.UpTo y j) s b p =
+    stepped_loose {m} (Some (y, j)) s b p =
         let q = p.left y j refl in
         let n = led_below l a x e in
         record {
@@ -128,7 +127,7 @@ followed_none {place} {home} {l} {route} {pushes} {a} b e p =
 
 module _ {place : ℕ → ℕ} {home : ℕ} {l route pushes m : List ℕ} {a k i : ℕ} (u : Followed place home l route pushes m a k i) where
   -- a step more, or a wrong one
-  module _ {n : List ℕ} {x : ℕ} {r : Took} (b : i < length route) (e : x ≡ place (get_or route i 0))
+  module _ {n : List ℕ} {x : ℕ} {r : Option (ℕ × ℕ)} (b : i < length route) (e : x ≡ place (get_or route i 0))
       (t : Stepped place home m n i a x k pushes r) where
     stepped_on :
         follows_in place home l 0 home route 0 pushes
@@ -140,7 +139,7 @@ module _ {place : ℕ → ℕ} {home : ℕ} {l route pushes m : List ℕ} {a k i
         (places_next place i route x b e)
         ∙ t.left_to_ask (places_from place (i + 1) route)
 
-    pub followed_more : {y j : ℕ} → r ≡ T.UpTo y j → Followed place home l route pushes n x j (i + 1)
+    pub followed_more : {y j : ℕ} → r ≡ Some (y, j) → Followed place home l route pushes n x j (i + 1)
     unfolding follows_in
     followed_more {y} {j} f =
         let q = t.used y j f in
@@ -152,7 +151,7 @@ module _ {place : ℕ → ℕ} {home : ℕ} {l route pushes m : List ℕ} {a k i
           left_to_ask = stepped_on ∙ ap (goes_on place home n (suc i) x (places_from place (i + 1) route) pushes) f ∙ rw (add-one i);
         }
 
-    pub followed_wrong : r ≡ T.Wrong → follows_in place home l 0 home route 0 pushes ≡ false
+    pub followed_wrong : r ≡ None → follows_in place home l 0 home route 0 pushes ≡ false
     followed_wrong f = stepped_on ∙ ap (goes_on place home n (suc i) x (places_from place (i + 1) route) pushes) f
 
   -- the route is at its end

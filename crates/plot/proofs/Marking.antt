@@ -2,7 +2,7 @@
 -- Assumes nothing.
 use Prim.Native.Nat.{ℕ, zero, suc, ◌+◌, ◌/◌, ◌%◌, ◌<◌}
 use mathlib.Core.Path.{◌≡◌, refl, sym, ap, ◌∙◌}
-use mathlib.Core.Bool.{Bool, true, false}
+use mathlib.Core.Bool.{Bool, false}
 use mathlib.Core.List.{List}
 use native.Mathlib.Omega.{arith}
 use lib.ListN.{length, set, length-set}
@@ -11,7 +11,6 @@ use Rattle.position.specs.Bits.{has}
 use Rattle.position.specs.Layout.{byte}
 use Rattle.position.proofs.Tallies.{same_or}
 use Rattle.position.proofs.BitLaws.{bit_off, bit_there, bit_same}
-use Rattle.plot.specs.Plot.{side_bit}
 use Rattle.plot.specs.Ends.{bit_of, mark_in, MarkSet}
 
 -- no mark is in 0
@@ -39,21 +38,6 @@ below_8 t a b c d e f g h (suc (suc (suc (suc (suc zero))))) l = f
 below_8 t a b c d e f g h (suc (suc (suc (suc (suc (suc zero)))))) l = g
 below_8 t a b c d e f g h (suc (suc (suc (suc (suc (suc (suc zero))))))) l = h
 below_8 t a b c d e f g h (suc (suc (suc (suc (suc (suc (suc (suc j)))))))) l = absurd (omega arith)
-
--- the first two bits, and those that directions have too
-pub bit_low : (j : ℕ) → j < 2 → j + 1 ≡ bit_of j
-bit_low zero l = refl
-bit_low (suc zero) l = refl
-bit_low (suc (suc j)) l = absurd (omega arith)
-
-pub bit_side : (j : ℕ) → j < 6 → side_bit j ≡ bit_of (j + 2)
-bit_side zero l = refl
-bit_side (suc zero) l = refl
-bit_side (suc (suc zero)) l = refl
-bit_side (suc (suc (suc zero))) l = refl
-bit_side (suc (suc (suc (suc zero)))) l = refl
-bit_side (suc (suc (suc (suc (suc zero))))) l = refl
-bit_side (suc (suc (suc (suc (suc (suc j)))))) l = absurd (omega arith)
 
 -- on a byte m without a mark
 module _ (m : ℕ) where
@@ -109,9 +93,6 @@ unfolding mark_in
 mark_read k l b m r e p q = e ∙ ap (λ (x : ℕ). has x m) p ∙ ap (has (bit_of (k % 8))) q
 
 module _ (k : ℕ) (l : List ℕ) where
-  pub mark_known : mark_in l k ≡ true → MarkSet k l l
-  mark_known e = record { long = refl; there = e; others = λ j n. refl }
-
   module _ (m b : ℕ) (is : m ≡ byte l (k / 8)) (bit : b ≡ bit_of (k % 8)) (e : mark_in l k ≡ false) where
     free : m / bit_of (k % 8) % 2 ≡ 0
     unfolding mark_in

@@ -1,5 +1,6 @@
 -- Laws of plots: what a byte says of its place, where its steps lead, and what a chain that is done changes.
 -- Assumes nothing.
+use Rattle.std.specs.Prelude.{Some, None}
 use Prim.Native.Nat.{ℕ, zero, suc, ◌+◌, ◌/◌, ◌%◌, ◌≤◌, ◌<◌}
 use mathlib.Core.Path.{◌≡◌, ap, ap₂, fun_ext, ◌∙◌}
 use mathlib.Core.Bool.{Bool, true, false, cond}
@@ -9,7 +10,6 @@ use lib.Dec.{eqb}
 use lib.ListN.{length, set, length-set}
 use lib.Seq.{get_or-set_same, get_or-set_other, set-set, set_comm, set-get_or}
 use borrow.Author.Tests.{eq-eqb, ne_eqb}
-use Rattle.grid.specs.declared.Beside.TheVariants.{At, Off}
 use Rattle.grid.specs.Map.{neighbour_of}
 use Rattle.grid.specs.Walk.{depth, distance_of}
 use Rattle.grid.proofs.Step.{aside, down, ways, stepped}
@@ -70,13 +70,13 @@ module _ (l : List ℕ) (i d : ℕ) where
   unfolding next_in
   next_open e = simp e
 
-  pub next_shut : has (side_bit d) (byte l i) ≡ false → next_in l i d ≡ Off
+  pub next_shut : has (side_bit d) (byte l i) ≡ false → next_in l i d ≡ None
   unfolding next_in
   next_shut e = simp e
 
 -- a step leads to a place of the plot, at most fifteen off
-module _ (l : List ℕ) (i d z : ℕ) (e : next_in l i d ≡ At z) where
-  next_beside : neighbour_of wide high i d ≡ At z
+module _ (l : List ℕ) (i d z : ℕ) (e : next_in l i d ≡ Some z) where
+  next_beside : neighbour_of wide high i d ≡ Some z
   unfolding next_in
   next_beside = (under (has (side_bit d) (byte l i)) (neighbour_of wide high i d) e).1
 
@@ -151,7 +151,7 @@ module _ (l : List ℕ) (x y : ℕ) (long : length l ≡ places) (p : x < places
       (λ i.
       fun_ext
       (λ d.
-      ap (λ (t : Bool). cond t (neighbour_of wide high i d) Off)
+      ap (λ (t : Bool). cond t (neighbour_of wide high i d) None)
       (restand_has (set l x (restood (byte l x) 1)) y 2 (omega arith) (omega (arith, length-set l x (restood (byte l x) 1))) i d
       ∙ restand_has l x 1 (omega arith) (omega arith) i d)))
 

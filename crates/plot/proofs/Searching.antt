@@ -1,5 +1,6 @@
 -- Laws of the search on a plot.
 -- Assumes nothing.
+use Rattle.std.specs.Prelude.{Some, None}
 use Prim.Native.Nat.{ℕ, suc, ◌+◌, ◌-◌, ◌<◌, ◌≤◌}
 use mathlib.Core.Path.{◌≡◌, refl, sym, ap, ◌∙◌}
 use mathlib.Core.Bool.{Bool, true, false, and-true}
@@ -8,7 +9,6 @@ use native.Mathlib.Omega.{arith}
 use native.Mathlib.Numerals.{add-one}
 use borrow.Author.Tests.{eq-eqb, ne_eqb}
 use lib.ListN.{length, set, replicate, length-replicate}
-use Rattle.grid.specs.declared.Beside.TheVariants.{At, Off}
 use Rattle.grid.specs.Walk.{distance_of}
 use Rattle.grid.specs.Map.{On}
 use Rattle.position.specs.Layout.{byte}
@@ -48,11 +48,11 @@ module _ (home : ℕ) (l : List ℕ) (k i a : ℕ) where
   pub serves_more : (k ≡ 0 → ⊥) → serves_in home l k i a ≡ any (over_beside home l (k - 1) i a) 6
   serves_more h = let e : k ≡ suc (k - 1) = omega arith in ap (λ (n : ℕ). serves_in home l n i a) e ∙ more (k - 1)
 
-  pub beside_at : (n d x : ℕ) → next_in l a d ≡ At x → over_beside home l n i a d ≡ over_in home l n i a x
+  pub beside_at : (n d x : ℕ) → next_in l a d ≡ Some x → over_beside home l n i a d ≡ over_in home l n i a x
   unfolding over_beside leads_to
   beside_at n d x e = rw e
 
-  pub beside_off : (n d : ℕ) → next_in l a d ≡ Off → over_beside home l n i a d ≡ false
+  pub beside_off : (n d : ℕ) → next_in l a d ≡ None → over_beside home l n i a d ≡ false
   unfolding over_beside leads_to
   beside_off n d e = rw e
 
@@ -105,23 +105,23 @@ pub record Unserved (home : ℕ) (l : List ℕ) (k i a : ℕ) (m : List ℕ) (d 
 
 module _ {home : ℕ} {l : List ℕ} {k i a : ℕ} {m : List ℕ} {d : ℕ} (u : Unserved home l k i a m d) where
   -- there is nothing in direction d; or a place over which none goes; or one over which one does
-  pub unserved_off : d < 6 → next_in m a d ≡ Off → Unserved home l k i a m (d + 1)
+  pub unserved_off : d < 6 → next_in m a d ≡ None → Unserved home l k i a m (d + 1)
   unserved_off b e =
       let f = beside_off home l k i a (k - 1) d (ap (λ (q : List ℕ). next_in q a d) (sym u.same) ∙ e) in
       record { same = u.same; most = omega arith; none = any_miss _ _ f ∙ u.none }
 
-  over-at : (x : ℕ) → next_in m a d ≡ At x → over_beside home l (k - 1) i a d ≡ over_in home m (k - 1) i a x
+  over-at : (x : ℕ) → next_in m a d ≡ Some x → over_beside home l (k - 1) i a d ≡ over_in home m (k - 1) i a x
   over-at x e =
       beside_at home l k i a (k - 1) d x (ap (λ (q : List ℕ). next_in q a d) (sym u.same) ∙ e)
       ∙ ap (λ (q : List ℕ). over_in home q (k - 1) i a x) (sym u.same)
 
   pub unserved_over :
-      {x : ℕ} {n : List ℕ} → d < 6 → next_in m a d ≡ At x → over_in home m (k - 1) i a x ≡ false → n ≡ m → Unserved home l k i a n (d + 1)
+      {x : ℕ} {n : List ℕ} → d < 6 → next_in m a d ≡ Some x → over_in home m (k - 1) i a x ≡ false → n ≡ m → Unserved home l k i a n (d + 1)
   unserved_over {x} b e f g =
       record { same = g ∙ u.same; most = omega arith; none = any_miss _ _ (over-at x e ∙ f) ∙ u.none }
 
   pub served :
-      {x : ℕ} → (k ≡ 0 → ⊥) → d < 6 → next_in m a d ≡ At x → over_in home m (k - 1) i a x ≡ true → serves_in home l k i a ≡ true
+      {x : ℕ} → (k ≡ 0 → ⊥) → d < 6 → next_in m a d ≡ Some x → over_in home m (k - 1) i a x ≡ true → serves_in home l k i a ≡ true
   served {x} h b e f = serves_more home l k i a h ∙ any_true _ 6 d b (over-at x e ∙ f)
 
   pub unserved : (k ≡ 0 → ⊥) → 6 ≤ d → serves_in home l k i a ≡ false

@@ -1,5 +1,6 @@
 -- Laws of the chain of pushes that an order names.
 -- Assumes nothing.
+use Rattle.std.specs.Prelude.{Some, None, Option}
 use Prim.Native.Nat.{ℕ, zero, suc, ◌+◌, ◌-◌, ◌<◌, ◌≤◌}
 use mathlib.Core.Path.{◌≡◌, refl, sym, ap, ◌∙◌}
 use mathlib.Core.Bool.{Bool, true, false}
@@ -10,15 +11,12 @@ use borrow.Author.Tests.{eq-eqb, ne_eqb}
 use lib.Dec.{eqb}
 use lib.ListN.{length, get_or, drop_of_length-le}
 use lib.Seq.{drop-cons}
-use Rattle.grid.specs.declared.Beside.TheVariants.{At, Off}
 use Rattle.position.specs.Ground.{is_at}
 use Rattle.position.specs.Tally.{any}
 use Rattle.position.proofs.Tallies.{any_miss, any_true, either, same_or}
 use Rattle.chains.specs.Chain.{Ways, Stands, rests, yields, leads, has_rest, most}
 use Rattle.chains.specs.Follows.{up_to, wrong, takes, none}
 use Rattle.chains.proofs.Chains.{leads_steps}
-use Rattle.plot.specs.declared.Took.{Took}
-use Rattle.plot.specs.declared.Took.TheVariants as T
 use Rattle.plot.specs.Plot.{places, stand_in, next_in, shifted}
 use Rattle.plot.specs.Follow.{places_from, took_of, TookIn, PushedOut}
 use Rattle.plot.proofs.Plots.{next_below}
@@ -32,16 +30,16 @@ module _ (next : Ways) (h z d : ℕ) where
   unfolding leads led_by
   leads_by = refl
 
-  led_off : next h d ≡ Off → led_by next h z d ≡ false
+  led_off : next h d ≡ None → led_by next h z d ≡ false
   unfolding led_by is_at
   led_off e = rw e
 
-  led_at : (x : ℕ) → next h d ≡ At x → led_by next h z d ≡ eqb x z
+  led_at : (x : ℕ) → next h d ≡ Some x → led_by next h z d ≡ eqb x z
   unfolding led_by is_at
   led_at x e = rw e
 
 -- what leads there is a step, and it is a place of the plot
-pub led_by_lem : (l : List ℕ) (h z : ℕ) → leads (next_in l) h z ≡ true → (d : ℕ) × (next_in l h d ≡ At z)
+pub led_by_lem : (l : List ℕ) (h z : ℕ) → leads (next_in l) h z ≡ true → (d : ℕ) × (next_in l h d ≡ Some z)
 led_by_lem l h z e = let s = leads_steps (next_in l) h z e in (s.dir, s.way)
 
 pub led_below : (l : List ℕ) (h z : ℕ) → leads (next_in l) h z ≡ true → z < places
@@ -53,14 +51,14 @@ pub record Unled (l : List ℕ) (h z d : ℕ) : Type 0 where
   pub none : any (led_by (next_in l) h z) d ≡ false
 
 module _ {l : List ℕ} {h z d : ℕ} (u : Unled l h z d) where
-  pub unled_off : d < 6 → next_in l h d ≡ Off → Unled l h z (d + 1)
+  pub unled_off : d < 6 → next_in l h d ≡ None → Unled l h z (d + 1)
   unled_off b e = record { most = omega arith; none = any_miss _ _ (led_off (next_in l) h z d e) ∙ u.none }
 
-  pub unled_at : {x : ℕ} → d < 6 → next_in l h d ≡ At x → (x ≡ z → ⊥) → Unled l h z (d + 1)
+  pub unled_at : {x : ℕ} → d < 6 → next_in l h d ≡ Some x → (x ≡ z → ⊥) → Unled l h z (d + 1)
   unled_at {x} b e n =
       record { most = omega arith; none = any_miss _ _ (led_at (next_in l) h z d x e ∙ ne_eqb x z n) ∙ u.none }
 
-  pub led : {x : ℕ} → d < 6 → next_in l h d ≡ At x → x ≡ z → leads (next_in l) h z ≡ true
+  pub led : {x : ℕ} → d < 6 → next_in l h d ≡ Some x → x ≡ z → leads (next_in l) h z ≡ true
   led {x} b e q = leads_by (next_in l) h z d ∙ any_true _ 6 d b (led_at (next_in l) h z d x e ∙ eq-eqb x z q)
 
   pub unled : 6 ≤ d → leads (next_in l) h z ≡ false
@@ -154,10 +152,14 @@ takes_last next s used h z zs left p b e f =
     (λ y. takes_firm next s used h z zs left e f g y))
 
 -- an answer's parts
-pub same_took : (y j z k : ℕ) → T.UpTo y j ≡ T.UpTo z k → (y ≡ z) × (j ≡ k)
-same_took y j z k e = (cc, cc)
+abbrev parts : Option (ℕ × ℕ) → ℕ × ℕ
+parts (Some p) = p
+parts None = (0, 0)
 
-pub never_took : {A : Type 0} (y j : ℕ) → T.Wrong ≡ T.UpTo y j → A
+pub same_took : (y j z k : ℕ) → ◌≡◌ {A = Option (ℕ × ℕ)} (Some (y, j)) (Some (z, k)) → (y ≡ z) × (j ≡ k)
+same_took y j z k e = (ap (λ (o : Option (ℕ × ℕ)). (parts o).0) e, ap (λ (o : Option (ℕ × ℕ)). (parts o).1) e)
+
+pub never_took : {A : Type 0} (y j : ℕ) → ◌≡◌ {A = Option (ℕ × ℕ)} None (Some (y, j)) → A
 never_took y j e = let z : ◌≡◌ {A = ℕ} 0 1 = cc in absurd (omega arith)
 
 -- the next push is the place z
@@ -172,21 +174,21 @@ along_chain place l used left h k pushes z b e =
 -- the chain from the stack in place h on is wrong; or it comes to its last place
 module _ {place : ℕ → ℕ} {l used : List ℕ} {left h k : ℕ} {pushes : List ℕ} where
   took_wrong :
-      takes (next_in l) (stand_in l) used left h (places_from place k pushes) ≡ wrong → TookIn place l used left h k pushes T.Wrong
+      takes (next_in l) (stand_in l) used left h (places_from place k pushes) ≡ wrong → TookIn place l used left h k pushes None
   took_wrong e = record { took = sym e; ends = λ y j f. never_took y j f }
 
-  pub took_none : length pushes ≤ k → TookIn place l used left h k pushes T.Wrong
+  pub took_none : length pushes ≤ k → TookIn place l used left h k pushes None
   took_none b =
       took_wrong
       (ap (takes (next_in l) (stand_in l) used left h) (places_none place k pushes b) ∙ takes_none (next_in l) (stand_in l) used h 0 [] left)
 
   module _ {z : ℕ} (b : k < length pushes) (e : z ≡ place (get_or pushes k 0)) where
-    pub took_apart : leads (next_in l) h z ≡ false → TookIn place l used left h k pushes T.Wrong
+    pub took_apart : leads (next_in l) h z ≡ false → TookIn place l used left h k pushes None
     took_apart f = took_wrong (along_chain place l used left h k pushes z b e ∙ takes_apart _ _ _ _ _ _ left f)
 
     pub took_rest :
         1 ≤ left → leads (next_in l) h z ≡ true → rests (stand_in l) (h ∷ used) z ≡ true
-        → TookIn place l used left h k pushes (T.UpTo z (k + 1))
+        → TookIn place l used left h k pushes (Some (z, (k + 1)))
     took_rest p f r =
         record {
           took = sym (along_chain place l used left h k pushes z b e ∙ takes_rest _ _ _ _ _ _ left p f r);
@@ -197,22 +199,22 @@ module _ {place : ℕ → ℕ} {l used : List ℕ} {left h k : ℕ} {pushes : Li
 
     pub took_last :
         1 ≤ left → left < 2 → leads (next_in l) h z ≡ true → rests (stand_in l) (h ∷ used) z ≡ false
-        → TookIn place l used left h k pushes T.Wrong
+        → TookIn place l used left h k pushes None
     took_last p q f r = took_wrong (along_chain place l used left h k pushes z b e ∙ takes_last _ _ _ _ _ _ left p q f r)
 
     pub took_shy :
         leads (next_in l) h z ≡ true → rests (stand_in l) (h ∷ used) z ≡ false → has_rest (next_in l) (stand_in l) (h ∷ used) h ≡ true
-        → TookIn place l used left h k pushes T.Wrong
+        → TookIn place l used left h k pushes None
     took_shy f r g = took_wrong (along_chain place l used left h k pushes z b e ∙ takes_shy _ _ _ _ _ _ left f r g)
 
     pub took_firm :
         leads (next_in l) h z ≡ true → rests (stand_in l) (h ∷ used) z ≡ false → has_rest (next_in l) (stand_in l) (h ∷ used) h ≡ false
-        → yields (stand_in l) (h ∷ used) z ≡ false → TookIn place l used left h k pushes T.Wrong
+        → yields (stand_in l) (h ∷ used) z ≡ false → TookIn place l used left h k pushes None
     took_firm f r g y = took_wrong (along_chain place l used left h k pushes z b e ∙ takes_firm _ _ _ _ _ _ left f r g y)
 
     -- it goes on from the stack there
     pub took_on :
-        {more : List ℕ} {r : Took} → 1 ≤ left → leads (next_in l) h z ≡ true → rests (stand_in l) (h ∷ used) z ≡ false
+        {more : List ℕ} {r : Option (ℕ × ℕ)} → 1 ≤ left → leads (next_in l) h z ≡ true → rests (stand_in l) (h ∷ used) z ≡ false
         → has_rest (next_in l) (stand_in l) (h ∷ used) h ≡ false → yields (stand_in l) (h ∷ used) z ≡ true → more ≡ h ∷ used
         → TookIn place l more (left - 1) z (k + 1) pushes r → TookIn place l used left h k pushes r
     took_on p f r g y q t =
@@ -225,16 +227,16 @@ module _ {place : ℕ → ℕ} {l used : List ℕ} {left h k : ℕ} {pushes : Li
         }
 
 -- the group's own chain
-module _ {place : ℕ → ℕ} {l used : List ℕ} {a x k : ℕ} {pushes : List ℕ} {r : Took} (own : used ≡ a ∷ [])
+module _ {place : ℕ → ℕ} {l used : List ℕ} {a x k : ℕ} {pushes : List ℕ} {r : Option (ℕ × ℕ)} (own : used ≡ a ∷ [])
     (t : TookIn place l used most x k pushes r) where
   taken : took_of place pushes r ≡ takes (next_in l) (stand_in l) (a ∷ []) most x (places_from place k pushes)
   taken = t.took ∙ ap (λ (u : List ℕ). takes (next_in l) (stand_in l) u most x (places_from place k pushes)) own
 
-  pub pushed_wrong : r ≡ T.Wrong → PushedOut place l l a x k pushes T.Wrong
+  pub pushed_wrong : r ≡ None → PushedOut place l l a x k pushes None
   pushed_wrong e =
       record { took = ap (took_of place pushes) (sym e) ∙ taken; left = λ y j f. never_took y j f; kept = λ _. refl }
 
-  pub pushed_to : {m : List ℕ} {y j : ℕ} → r ≡ T.UpTo y j → m ≡ shifted l x y → PushedOut place l m a x k pushes (T.UpTo y j)
+  pub pushed_to : {m : List ℕ} {y j : ℕ} → r ≡ Some (y, j) → m ≡ shifted l x y → PushedOut place l m a x k pushes (Some (y, j))
   pushed_to {m} {y} {j} e f =
       record {
         took = ap (took_of place pushes) (sym e) ∙ taken;

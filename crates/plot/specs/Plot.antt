@@ -2,8 +2,7 @@
 -- A plot: a small map of its own, a byte for each place, on which pushes are searched for. A byte has what the place is to those who move,
 -- 0 shut, 1 free, 2 loose, and 4, 8, 16, 32, 64 and 128 for the directions that a step may take.
 -- Assumes nothing.
-use Rattle.std.specs.Prelude.{ℕ, zero, suc, ◌-◌, ◌+◌, ◌%◌, cond, List, eqb, set}
-use Rattle.grid.specs.declared.Beside.TheVariants.{Off}
+use Rattle.std.specs.Prelude.{ℕ, zero, suc, ◌-◌, ◌+◌, ◌%◌, cond, List, eqb, set, None}
 use Rattle.grid.specs.Map.{neighbour_of}
 use Rattle.grid.specs.Walk.{distance_of}
 use Rattle.position.specs.Bits.{has}
@@ -42,7 +41,7 @@ side_bit (suc (suc (suc (suc (suc (suc d)))))) = 256
 
 -- where a step from a place leads
 unfoldable pub next_in : List ℕ → Ways
-next_in l i d = cond (has (side_bit d) (byte l i)) (neighbour_of wide high i d) Off
+next_in l i d = cond (has (side_bit d) (byte l i)) (neighbour_of wide high i d) None
 
 -- the plot as a land on which the retreat starts from the place `home`
 unfoldable pub land_in : ℕ → List ℕ → Land

@@ -9,7 +9,6 @@ ghost use Rattle.plot.specs.Trail.{trail_of, TrailOk};
 ghost use Rattle.plot.specs.Ends.{bit_of, mark_in, MarkSet, Close, Marks, rests_beside, end_marked};
 
 use chains::Stand;
-use grid::Beside;
 use position::{bits, layout};
 
 // A place that is none.
@@ -84,7 +83,7 @@ pub fn has_rest(plot: &[u8; 182], t: usize, h: usize) -> bool
     ensures { result ≡ has_rest (next_in plot.now) (stand_in plot.now) (h ∷ trail_of t) h }
 {
     for d in 0..6 {
-        let Beside::At(z) = crate::next_in(plot, h, d) else {
+        let Some(z) = crate::next_in(plot, h, d) else {
             continue;
         };
         if rests(plot, t, h, z) {
@@ -131,7 +130,7 @@ fn mark_rests(plot: &[u8; 182], ends: &mut [u8; 12], x: usize, t: usize, h: usiz
     ensures { Marks x (rests_beside (next_in plot.now) (stand_in plot.now) (h ∷ trail_of t) h) ends.old ends.new }
 {
     for d in 0..6 {
-        let Beside::At(z) = crate::next_in(plot, h, d) else {
+        let Some(z) = crate::next_in(plot, h, d) else {
             continue;
         };
         if rests(plot, t, h, z) {
@@ -151,7 +150,7 @@ pub fn can_end(plot: &[u8; 182], t: usize, left: usize, h: usize) -> bool
     }
     let used = longer(t, h, left);
     for d in 0..6 {
-        let Beside::At(z) = crate::next_in(plot, h, d) else {
+        let Some(z) = crate::next_in(plot, h, d) else {
             continue;
         };
         if !yields(plot, t, h, z) {
@@ -192,7 +191,7 @@ pub fn gather(plot: &[u8; 182], ends: &mut [u8; 12], x: usize, t: usize, left: u
     }
     let used = longer(t, h, left);
     for d in 0..6 {
-        let Beside::At(z) = crate::next_in(plot, h, d) else {
+        let Some(z) = crate::next_in(plot, h, d) else {
             continue;
         };
         if !yields(plot, t, h, z) {

@@ -7,7 +7,6 @@ ghost use Rattle.std.specs.Prelude.{◌≡◌, ◌<◌, ◌≤◌, length};
 ghost use Rattle.plot.specs.Plot.{stand_in, side_bit, next_in, restood, shifted};
 
 use chains::Stand;
-use grid::Beside;
 use position::{bits, layout};
 
 // Its columns, its rows, and its places.
@@ -16,13 +15,6 @@ pub const WIDE: usize = 14;
 pub const HIGH: usize = 13;
 
 pub const PLACES: usize = 182;
-
-// What a chain takes of the pushes sent: up to its last place, and the number of the first push that it leaves.
-#[derive(Clone, Copy)]
-pub enum Took {
-    UpTo(usize, usize),
-    Wrong,
-}
 
 // What place `i` is to those who move.
 pub fn stand_in(plot: &[u8; 182], i: usize) -> Stand
@@ -55,14 +47,14 @@ pub fn side_bit(d: usize) -> usize
 }
 
 // Where a step from place `i` in direction `d` leads.
-pub fn next_in(plot: &[u8; 182], i: usize, d: usize) -> Beside
+pub fn next_in(plot: &[u8; 182], i: usize, d: usize) -> Option<usize>
     requires { (length plot.now ≡ 182) × (i < 182) × (d < 6) }
     ensures { result ≡ next_in plot.now i d }
 {
     if bits::has(side_bit(d), layout::wide(plot[i])) {
         return grid::neighbour(WIDE, HIGH, i, d);
     }
-    Beside::Off
+    None
 }
 
 // The byte `m` with another stand.

@@ -1,10 +1,9 @@
 -- Answers of tests, used: past an `if !f(..)` or in it, and along a loop that asks every number and stops at the first no.
 -- Assumes nothing.
-use Prim.Native.Nat.{ℕ, ◌+◌, ◌-◌, ◌≤◌, ◌<◌}
+use Prim.Native.Nat.{ℕ, ◌+◌, ◌≤◌, ◌<◌}
 use mathlib.Core.Path.{◌≡◌, refl, sym, subst, ◌∙◌}
-use mathlib.Core.Bool.{Bool, true, false, ◌&&◌}
+use mathlib.Core.Bool.{Bool, true, false}
 use native.Mathlib.Omega.{arith}
-use native.Mathlib.Decide.{dec_lt}
 use borrow.Author.Count.{below_more}
 use Rattle.position.specs.Shape.{In}
 use Rattle.position.specs.Laid.{Says}
@@ -41,9 +40,6 @@ module _ {b t : Bool} (e : b ≡ t) where
 pub carry : {lo n m hi : ℕ} → n ≡ m → In lo n hi → In lo m hi
 carry {lo} {hi = hi} e i = subst (λ (x : ℕ). In lo x hi) e i
 
-pub carry_both : {lo up n m hi : ℕ} → lo ≡ up → n ≡ m → In lo n hi → In up m hi
-carry_both e f i = record { low = omega arith; high = omega arith }
-
 -- every number below i, which is at most n, has passed
 pub record Passed (P : ℕ → Type 0) (i n : ℕ) : Type 0 where
   pub most : i ≤ n
@@ -52,21 +48,9 @@ pub record Passed (P : ℕ → Type 0) (i n : ℕ) : Type 0 where
 pub none_yet : {P : ℕ → Type 0} {n : ℕ} → Passed P 0 n
 none_yet = record { most = omega arith; held = λ k l. absurd (omega arith) }
 
--- the answer for every number below k, and the one for k
-pub said_more : (P : ℕ → Type 0) (k : ℕ) (a b : Bool) → Says a ((j : ℕ) → j < k → P j) → Says b (P k) → Says (a && b) ((j : ℕ) → j < k + 1 → P j)
-said_more P k true b f x = told b (below_more P k f) (λ g. g k (omega arith)) x
-said_more P k false b f x = λ g. f (λ j l. g j (omega arith))
-
 module _ {P : ℕ → Type 0} {i n : ℕ} where
   pub one_more : Passed P i n → i < n → P i → Passed P (i + 1) n
   one_more s l x = record { most = omega arith; held = below_more P i s.held x }
-
-  pub several_more : {k : ℕ} → Passed P i n → i + k ≤ n → ((j : ℕ) → j < k → P (i + j)) → Passed P (i + k) n
-  several_more {k} s l f = record { most = l; held = λ j m. at j m (dec_lt j i) }
-    where
-      at : (j : ℕ) → j < i + k → Dec (j < i) → P j
-      at j m (yes b) = s.held j b
-      at j m (no b) = let e : i + (j - i) ≡ j = omega arith in subst P e (f (j - i) (omega arith))
 
   pub all : {m : ℕ} → Passed P i n → m ≤ i → (k : ℕ) → k < m → P k
   all s l k h = s.held k (omega arith)

@@ -9,7 +9,7 @@ use native.Mathlib.Decide.{dec_lt, ℕ_discrete}
 use lib.Dec.{eqb}
 use borrow.Author.Tests.{lt-ltb, le-ltb, eq-eqb, ne_eqb}
 use Rattle.position.specs.Bits.{has, with, tried, faced}
-use Rattle.position.specs.Layout.{count, unit_byte, hex, strength, marks, role, desk_byte, need, route, route_field, unit_size, nationality_field, kind_field, hex_field, strength_field, allowance_field, marks_field, role_field, turn_field, last_turn_field, force_field, phase_field, stage_field, owed_field, need_field, routes_field, route_count, route_hexes, routes_end, players_field, player, set_unit, set_desk, set_hex, set_marks, set_role}
+use Rattle.position.specs.Layout.{count, unit_byte, hex, strength, marks, desk_byte, need, route, route_field, unit_size, nationality_field, kind_field, hex_field, strength_field, allowance_field, marks_field, role_field, turn_field, last_turn_field, force_field, phase_field, stage_field, owed_field, need_field, routes_field, route_count, route_hexes, routes_end, players_field, player, set_unit, set_desk, set_hex, set_marks, set_role}
 use Rattle.position.specs.Board.{Units, Desk, board, units, desk, shown}
 use Rattle.position.specs.Shape.{Shaped}
 use Rattle.position.specs.Change.{turned}

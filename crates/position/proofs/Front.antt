@@ -9,7 +9,7 @@ use lib.ListN.{length, set, length-set}
 use lib.Dec.{eqb}
 use lib.Seq.{get_or-set_other}
 use Rattle.position.specs.declared.View.{View}
-use Rattle.position.specs.Layout.{byte, desk_body, extent_at, players_field, forces, chart_at, units_head, extent, columns, map_at, width, height, hexes, units_at, count, desk_at, players_named, unit_at}
+use Rattle.position.specs.Layout.{byte, desk_body, extent_at, players_field, forces, chart_at, units_head, extent, map_at, hexes, units_at, count, desk_at, players_named, unit_at}
 use Rattle.position.specs.Shape.{Shaped}
 use Rattle.position.specs.Laid.{Laid}
 use Rattle.position.proofs.Counts.{Counts, counts_refl, counts_trans, word_of, hexes_same, units_at_same, desk_at_same, unit_at_same, shaped_same}

@@ -8,6 +8,8 @@ pub mod Tallies
 pub mod Crowds
 pub mod Sides
 pub mod Bearings
+pub mod Options
+pub mod Ranges
 pub mod Counts
 pub mod Bodies
 pub mod Front
@@ -19,3 +21,4 @@ pub mod Twins
 pub mod Players
 pub mod Restores
 pub mod Laying
+pub mod Listed

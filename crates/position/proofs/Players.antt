@@ -12,7 +12,7 @@ use lib.Dec.{eqb}
 use borrow.Author.Tests.{eq-eqb, ne_eqb}
 use Rattle.position.specs.Bits.{with, tried}
 use Rattle.position.specs.Layout.{byte, word, desk_body, extent_at, units_head, unit_size, marks_field, forces, chart_at, extent, map_at, hexes, units_at, count, players_field, players_named, desk_at, unit_at, unit_byte, strength_field, strength, marks, desk_byte, player, with_players, set_unit, set_desk, set_marks}
-use Rattle.position.specs.Board.{board, units, desk, enemy, neutral}
+use Rattle.position.specs.Board.{board, enemy, neutral}
 use Rattle.position.specs.Shape.{Shaped}
 use Rattle.position.specs.Change.{turned}
 use Rattle.position.proofs.Tables.{player_in, player_out, set_unit_in, set_unit_out}

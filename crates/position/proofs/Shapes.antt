@@ -1,6 +1,6 @@
 -- What the counts of a position come to: how many hexes, and where the bodies begin.
 -- Assumes nothing.
-use Prim.Native.Nat.{ℕ, ◌+◌, ◌*◌, ◌≤◌, ◌<◌}
+use Prim.Native.Nat.{ℕ, ◌+◌, ◌*◌, ◌≤◌}
 use mathlib.Core.Path.{◌≡◌, sym, ap, ap₂}
 use mathlib.Core.List.{List}
 use mathlib.Core.Bool.{Bool, true, false, cond}
@@ -36,12 +36,6 @@ use Rattle.position.proofs.Answers.{carry}
 -- two small numbers multiplied
 pub area : {w h : ℕ} → In 1 w 64 → In 1 h 64 → w * h ≤ 4096
 area w h = mul-le-mul w.high h.high
-
-pub bytes_product : {a b : ℕ} → a < 256 → b < 256 → a * b ≤ 65025
-bytes_product {a} {b} l m =
-    let x : a ≤ 255 = omega arith in
-    let y : b ≤ 255 = omega arith in
-    mul-le-mul x y
 
 pub hexes_most : {p : List ℕ} → Shaped p → hexes p ≤ 4096
 unfolding hexes

@@ -1,5 +1,6 @@
 -- Laws of the ground: which side lies between two hexes, and from both of them the same; where a step leads; where a unit may stand.
 -- Assumes nothing.
+use Rattle.std.specs.Prelude.{Option, Some, None}
 use Prim.Native.Nat.{ℕ, zero, suc, ◌+◌, ◌-◌, ◌*◌, ◌/◌, ◌%◌, ◌≤◌, ◌<◌}
 use mathlib.Core.Path.{◌≡◌, refl, sym, ap, ap₂, ◌∙◌}
 use mathlib.Core.List.{List}
@@ -9,8 +10,6 @@ use native.Mathlib.Nat.{one-mul, mul-le-mul_right}
 use native.Mathlib.Decide.{dec_lt}
 use lib.Dec.{ltb, eqb}
 use borrow.Author.Tests.{lt-ltb, le-ltb, le-leb, lt-leb, eqb-true, eq-eqb, ne_eqb}
-use Rattle.grid.specs.declared.Beside.{Beside}
-use Rattle.grid.specs.declared.Beside.TheVariants.{At, Off}
 use Rattle.grid.specs.Map.{On, neighbour_of}
 use Rattle.grid.proofs.Laws.{opposite, direction, on_map_lem}
 use Rattle.position.specs.declared.View.{View}
@@ -52,24 +51,24 @@ module _ (m : Map) (h : ℕ) where
     unfolding side
     side_other l = simp (le-ltb d 3 l)
 
-    pub side_beyond : (n : ℕ) → 3 ≤ d → beside m h d ≡ At n → side m h d ≡ stored m n (d - 3)
+    pub side_beyond : (n : ℕ) → 3 ≤ d → beside m h d ≡ Some n → side m h d ≡ stored m n (d - 3)
     unfolding stored_at
-    side_beyond n l e = side_other l ∙ ap (λ (b : Beside). stored_at m b d) e
+    side_beyond n l e = side_other l ∙ ap (λ (b : Option ℕ). stored_at m b d) e
 
     -- kept by one of the two hexes, in one of three directions
-    pub side_kept : (n : ℕ) → d < 6 → beside m h d ≡ At n → stored m (cond (ltb d 3) h n) (d % 3) ≡ side m h d
+    pub side_kept : (n : ℕ) → d < 6 → beside m h d ≡ Some n → stored m (cond (ltb d 3) h n) (d % 3) ≡ side m h d
     side_kept n l e = at (dec_lt d 3)
       where
         at : Dec (d < 3) → stored m (cond (ltb d 3) h n) (d % 3) ≡ side m h d
         at (yes k) = let q : d % 3 ≡ d = omega arith in rw (lt-ltb d 3 k, q) (sym (side_own k))
         at (no k) = let q : d % 3 ≡ d - 3 = omega arith in rw (le-ltb d 3 (omega arith), q) (sym (side_beyond n (omega arith) e))
 
-    pub side_edge : 3 ≤ d → beside m h d ≡ Off → side m h d ≡ 0
+    pub side_edge : 3 ≤ d → beside m h d ≡ None → side m h d ≡ 0
     unfolding stored_at
-    side_edge l e = side_other l ∙ ap (λ (b : Beside). stored_at m b d) e
+    side_edge l e = side_other l ∙ ap (λ (b : Option ℕ). stored_at m b d) e
 
     -- over a blocked side there is no step, over any other it leads to the neighbour
-    pub next_blocked : side m h d ≡ blocked_side → next m h d ≡ Off
+    pub next_blocked : side m h d ≡ blocked_side → next m h d ≡ None
     unfolding next
     next_blocked e = simp (eq-eqb (side m h d) blocked_side e)
 
@@ -78,7 +77,7 @@ module _ (m : Map) (h : ℕ) where
     next_beside e = simp (ne_eqb (side m h d) blocked_side e)
 
 -- a side is one side, seen from either hex
-pub side_symmetric : (m : Map) (h d n : ℕ) → beside m h d ≡ At n → side m h d ≡ side m n ((d + 3) % 6)
+pub side_symmetric : (m : Map) (h d n : ℕ) → beside m h d ≡ Some n → side m h d ≡ side m n ((d + 3) % 6)
 side_symmetric m h d n e = at (dec_lt d 3)
   where
     at : Dec (d < 3) → side m h d ≡ side m n ((d + 3) % 6)
@@ -113,36 +112,36 @@ module _ (b : Board) (h : ℕ) where
 
 -- where a step leads, by the neighbour and the side
 module _ {p : List ℕ} {v : View} (o : ViewOf p v) (a d : ℕ) where
-  pub next_off : neighbour_of v.width v.height a d ≡ Off → Off ≡ next (ground p) a d
+  pub next_off : neighbour_of v.width v.height a d ≡ None → None ≡ next (ground p) a d
   next_off e =
       same_or (side (ground p) a d) blocked_side
       (λ z. sym (next_blocked (ground p) a d z))
       (λ z. sym (next_beside (ground p) a d z ∙ sym (beside_view o a d) ∙ e))
 
   pub next_at :
-      {x : ℕ} → neighbour_of v.width v.height a d ≡ At x → (side (ground p) a d ≡ blocked_side → ⊥) → At x ≡ next (ground p) a d
+      {x : ℕ} → neighbour_of v.width v.height a d ≡ Some x → (side (ground p) a d ≡ blocked_side → ⊥) → Some x ≡ next (ground p) a d
   next_at e z = sym (next_beside (ground p) a d z ∙ sym (beside_view o a d) ∙ e)
 
 -- what a test of a step tells of it
-pub is-at : (r : Beside) (x : ℕ) → is_at r x ≡ true → r ≡ At x
+pub is-at : (r : Option ℕ) (x : ℕ) → is_at r x ≡ true → r ≡ Some x
 unfolding is_at
-is-at (At y) x e = ap At (eqb-true y x e)
-is-at Off x e = not_both false e refl
+is-at (Some y) x e = ap Some (eqb-true y x e)
+is-at None x e = not_both false e refl
 
-pub at_is : {r : Beside} {x : ℕ} → r ≡ At x → is_at r x ≡ true
+pub at_is : {r : Option ℕ} {x : ℕ} → r ≡ Some x → is_at r x ≡ true
 unfolding is_at
 at_is {x = x} e = rw e (eq-eqb x x refl)
 
 -- there is no hex where there is one
-pub off_at : {A : Type 0} {r : Beside} {x : ℕ} → r ≡ Off → r ≡ At x → A
+pub off_at : {A : Type 0} {r : Option ℕ} {x : ℕ} → r ≡ None → r ≡ Some x → A
 off_at p q = let z : ◌≡◌ {A = ℕ} 0 1 = cc in absurd (omega arith)
 
 -- a step over an unblocked side leads to the neighbour, a hex of the map, in one of six directions
-module _ (m : Map) (a d x : ℕ) (e : next m a d ≡ At x) where
+module _ (m : Map) (a d x : ℕ) (e : next m a d ≡ Some x) where
   pub unblocked : side m a d ≡ blocked_side → ⊥
   unblocked p = off_at (next_blocked m a d p) e
 
-  pub next_over : beside m a d ≡ At x
+  pub next_over : beside m a d ≡ Some x
   next_over = sym (next_beside m a d unblocked) ∙ e
 
   pub next_on : On m.width m.height x
@@ -151,7 +150,7 @@ module _ (m : Map) (a d x : ℕ) (e : next m a d ≡ At x) where
   pub next_dir : d < 6
   next_dir = direction m.width m.height a d x next_over
 
-pub next_in_lem : {p : List ℕ} {v : View} → ViewOf p v → (a d x : ℕ) → next (ground p) a d ≡ At x → x < v.hexes
+pub next_in_lem : {p : List ℕ} {v : View} → ViewOf p v → (a d x : ℕ) → next (ground p) a d ≡ Some x → x < v.hexes
 unfolding hexes
 next_in_lem {p} w a d x e = omega (arith, w.hexes, (next_on (ground p) a d x e).below)
 

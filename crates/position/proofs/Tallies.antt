@@ -187,10 +187,6 @@ module _ (t : ℕ → Bool) (u : ℕ) where
   unfolding but
   but_self w e = simp (eq-eqb w u e, and-false)
 
-  pub but_fails : (w : ℕ) → t w ≡ false → but t u w ≡ false
-  unfolding but
-  but_fails w e = simp e
-
   -- it counts one less, where u passes
   before : (n : ℕ) → n ≤ u → tally t n ≡ tally (but t u) n
   before n l = tally_same t (but t u) n (λ k m. sym (but_other k (omega arith)))

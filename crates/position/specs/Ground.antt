@@ -1,14 +1,12 @@
 -- The ground: which side lies between two hexes, which hexes a step may join, and where a unit may stand.
 -- Assumes nothing.
-use Rattle.std.specs.Prelude.{ℕ, zero, suc, ◌-◌, ◌/◌, ◌%◌, Bool, false, not, ◌&&◌, cond, ltb, leb, eqb}
-use Rattle.grid.specs.declared.Beside.{Beside}
-use Rattle.grid.specs.declared.Beside.TheVariants.{At, Off}
+use Rattle.std.specs.Prelude.{ℕ, zero, suc, ◌-◌, ◌/◌, ◌%◌, Bool, false, not, ◌&&◌, cond, ltb, leb, eqb, Option, Some, None}
 use Rattle.grid.specs.Map.{neighbour_of}
 use Rattle.position.specs.Tally.{any}
 use Rattle.position.specs.Board.{Board, Map}
 
 -- the neighbour of a hex on this map
-abbrev pub beside : Map → ℕ → ℕ → Beside
+abbrev pub beside : Map → ℕ → ℕ → Option ℕ
 beside m h d = neighbour_of m.width m.height h d
 
 -- "sides N + 4 x NE + 16 x SE (0 plain, 1 river, 2 major river, 3 blocked ..)": those are the directions 0, 1 and 2
@@ -18,9 +16,9 @@ stored m h (suc zero) = m.sides h / 4 % 4
 stored m h (suc (suc d)) = m.sides h / 16 % 4
 
 -- "The other three sides belong to the neighbours": seen from the neighbour, direction d is d - 3
-unfoldable pub stored_at : Map → Beside → ℕ → ℕ
-stored_at m (At n) d = stored m n (d - 3)
-stored_at m Off d = 0
+unfoldable pub stored_at : Map → Option ℕ → ℕ → ℕ
+stored_at m (Some n) d = stored m n (d - 3)
+stored_at m None d = 0
 
 -- the side of hex h in direction d
 unfoldable pub side : Map → ℕ → ℕ → ℕ
@@ -36,12 +34,12 @@ abbrev pub blocked_side : ℕ
 blocked_side = 3
 
 -- where a step over an unblocked side leads
-unfoldable pub next : Map → ℕ → ℕ → Beside
-next m h d = cond (eqb (side m h d) blocked_side) Off (beside m h d)
+unfoldable pub next : Map → ℕ → ℕ → Option ℕ
+next m h d = cond (eqb (side m h d) blocked_side) None (beside m h d)
 
-unfoldable pub is_at : Beside → ℕ → Bool
-is_at (At n) x = eqb n x
-is_at Off x = false
+unfoldable pub is_at : Option ℕ → ℕ → Bool
+is_at (Some n) x = eqb n x
+is_at None x = false
 
 -- the least number below n that passes the test, n where none does
 unfoldable pub least : (ℕ → Bool) → ℕ → ℕ

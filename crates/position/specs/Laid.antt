@@ -1,13 +1,11 @@
 -- Beside what is certain: vocabulary of contracts and proofs.
 -- What the functions that read and write a position ask for and answer.
 -- Assumes nothing.
-use Rattle.std.specs.Prelude.{ℕ, ◌+◌, ◌≤◌, ◌<◌, ◌≡◌, List, Bool, true, false, length}
+use Rattle.std.specs.Prelude.{ℕ, ◌+◌, ◌≤◌, ◌<◌, ◌≡◌, List, Bool, true, false, length, Option, Some, None}
 use Rattle.position.specs.Layout as Layout
 use Rattle.position.specs.Layout.{ViewOf, Fits}
 use Rattle.position.specs.Shape.{In, Shaped}
 use Rattle.position.specs.declared.View.{View}
-use Rattle.position.specs.declared.Checked.{Checked}
-use Rattle.position.specs.declared.Checked.TheVariants.{Whole, Broken}
 
 -- the bodies of p lie as they should, and v is its view: what reading and writing ask for
 pub record Laid (p : List ℕ) (v : View) : Type 0 where
@@ -25,6 +23,11 @@ pub record Read (want limit r : ℕ) : Type 0 where
   pub is : r ≡ want
   pub small : r < limit
 
+-- the first number below a limit, or none where that is the limit
+abbrev pub Sought : ℕ → ℕ → Option ℕ → Type 0
+Sought want limit (Some r) = (r ≡ want) × (r < limit)
+Sought want limit None = want ≡ limit
+
 -- the counts of p are within their limits, its bodies fill it, and v is its view
 pub record Sized (p : List ℕ) (v : View) : Type 0 where
   pub columns : In 1 (Layout.columns p) 12
@@ -35,10 +38,10 @@ pub record Sized (p : List ℕ) (v : View) : Type 0 where
   pub view : ViewOf p v
   pub fits : Fits (length p) v
 
-abbrev pub SizedOf : List ℕ → Checked → Type 0
-SizedOf p (Whole v) = Sized p v
-SizedOf p Broken = Shaped p → ⊥
+abbrev pub SizedOf : List ℕ → Option View → Type 0
+SizedOf p (Some v) = Sized p v
+SizedOf p None = Shaped p → ⊥
 
-abbrev pub LaidOf : List ℕ → Checked → Type 0
-LaidOf p (Whole v) = Laid p v
-LaidOf p Broken = Shaped p → ⊥
+abbrev pub LaidOf : List ℕ → Option View → Type 0
+LaidOf p (Some v) = Laid p v
+LaidOf p None = Shaped p → ⊥

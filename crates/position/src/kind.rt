@@ -2,7 +2,8 @@
 ghost use Rattle.std.specs.Prelude.{◌≡◌};
 ghost use Rattle.position.specs.Kind.{casts_zone, may_attack, moves_by_land, moves_in_phase2, always_tried, force, may_belong, may_allow};
 
-// The nationalities that rules name, and the force of US and Canada.
+// The nationalities that rules name, and the force of US and Canada. Numbers and no enum: what is read may be any byte, as long as no
+// check has seen the unit, and its reader promises that number (`Read` in `position/specs/Laid.antt`).
 pub const PAL: usize = 2;
 
 pub const US: usize = 3;
@@ -11,6 +12,7 @@ pub const CANADA: usize = 4;
 
 pub const HOME: usize = 3;
 
+// Its codes are associated constants, the form that document 01 names.
 #[derive(Clone, Copy)]
 pub struct Kind(pub usize);
 

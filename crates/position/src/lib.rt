@@ -22,13 +22,6 @@ pub struct View {
     pub players: usize,
 }
 
-// The answer of a check: the view of what passed, or nothing of it.
-#[derive(Clone, Copy)]
-pub enum Checked {
-    Whole(View),
-    Broken,
-}
-
 // What another force is to a force: its player is another, or the same.
 #[derive(Clone, Copy)]
 pub enum Relation {

@@ -1,5 +1,6 @@
 -- Laws of a drawn plot: what its bytes are made of, and that they give back what they were made of.
 -- Assumes nothing.
+use Rattle.std.specs.Prelude.{Option, Some, None}
 use Prim.Native.Nat.{ℕ, zero, suc, ◌+◌, ◌*◌, ◌/◌, ◌%◌, ◌≤◌, ◌<◌}
 use mathlib.Core.Path.{◌≡◌, refl, sym, ap, ap₂, subst, ◌∙◌}
 use mathlib.Core.Bool.{Bool, true, false, cond, ◌||◌, and-true, and-false, or-false}
@@ -10,8 +11,6 @@ use native.Mathlib.Numerals.{add-one}
 use lib.Dec.{eqb}
 use borrow.Author.Tests.{ne_eqb}
 use lib.ListN.{length, set, length-set}
-use Rattle.grid.specs.declared.Beside.{Beside}
-use Rattle.grid.specs.declared.Beside.TheVariants.{At, Off}
 use Rattle.grid.specs.declared.region.Region.{Region}
 use Rattle.grid.specs.Region.{Inside, place_of, HexOf, Round}
 use Rattle.grid.proofs.Regions.{place-in}
@@ -50,12 +49,12 @@ use Rattle.pushes.specs.Drawn.{
 }
 
 -- a step that leads to a hex, and one that leads to none
-module _ (m : Map) (x d : ℕ) {r : Beside} (q : r ≡ next m x d) where
-  pub opens_at : {z : ℕ} → r ≡ At z → opens m x d ≡ true
+module _ (m : Map) (x d : ℕ) {r : Option ℕ} (q : r ≡ next m x d) where
+  pub opens_at : {z : ℕ} → r ≡ Some z → opens m x d ≡ true
   unfolding opens leads_to
   opens_at e = rw (sym q ∙ e) refl
 
-  pub opens_off : r ≡ Off → opens m x d ≡ false
+  pub opens_off : r ≡ None → opens m x d ≡ false
   unfolding opens leads_to
   opens_off e = rw (sym q ∙ e) refl
 
@@ -243,11 +242,11 @@ shown {b} {f} {c} e s a =
     }
 
 -- the hex of a place, or that it has none
-module _ {w h i : ℕ} {at : Region} {r : Beside} (k : HexOf w h at i r) where
-  pub hex_here : {x : ℕ} → r ≡ At x → Inside w h at x × (place_of w at x ≡ i)
+module _ {w h i : ℕ} {at : Region} {r : Option ℕ} (k : HexOf w h at i r) where
+  pub hex_here : {x : ℕ} → r ≡ Some x → Inside w h at x × (place_of w at x ≡ i)
   hex_here e = subst (HexOf w h at i) e k
 
-  pub hex_nowhere : r ≡ Off → (x : ℕ) → Inside w h at x → place_of w at x ≡ i → ⊥
+  pub hex_nowhere : r ≡ None → (x : ℕ) → Inside w h at x → place_of w at x ≡ i → ⊥
   hex_nowhere e = subst (HexOf w h at i) e k
 
 -- 182 bytes have room for a plot
@@ -261,25 +260,7 @@ byte-of b f start x = refl
 
 -- along a pass over the places
 module _ {b : Board} {f start : ℕ} {at : Region} where
-  pub drawing_none : {l : List ℕ} → length l ≡ 182 → Shown b f at l → DrawnTo b f start at 0 l
-  drawing_none n s = record { long = n; done = λ x i q. absurd (omega arith); left = λ x i q. s.each x i }
-
   module _ {i : ℕ} {l : List ℕ} (d : DrawnTo b f start at i l) where
-    pub shown_in : ShownIn b f at i (byte l i)
-    shown_in x j e = subst (λ (n : ℕ). ShownAt b f x (byte l n)) e (d.left x j (omega (arith, e)))
-
-    pub drawing_more : (r : ℕ) → i < 182 → ByteIn b f start at i r → DrawnTo b f start at (i + 1) (set l i r)
-    drawing_more r q e =
-        let w = b.map.width in
-        record {
-          long = length-set l i r ∙ d.long;
-          done = λ x j k. same_or (place_of w at x) i
-              (λ z. ap (byte (set l i r)) z ∙ byte_set l i r (omega (arith, d.long)) ∙ e x j z)
-              (λ z. byte_other l i r (place_of w at x) z ∙ d.done x j (omega arith));
-          left = λ x j k.
-              subst (ShownAt b f x) (sym (byte_other l i r (place_of w at x) (λ z. omega (arith, z)))) (d.left x j (omega arith));
-        }
-
     pub drawn : 182 ≤ i → Round b.map.width b.map.height start 6 at → Drawn b f start at l
     drawn q r =
         record {

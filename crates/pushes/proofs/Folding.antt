@@ -1,13 +1,12 @@
 -- The drawn plot is a copy of the land round the start, so the search and the test answer on it as they do on the board.
 -- Assumes nothing.
+use Rattle.std.specs.Prelude.{Option, Some, None}
 use Prim.Native.Nat.{ℕ, ◌+◌, ◌≤◌, ◌<◌}
 use mathlib.Core.Path.{◌≡◌, refl, sym, ap, ap₂, ◌∙◌}
 use mathlib.Core.Bool.{Bool, true, false}
 use mathlib.Core.List.{List, map}
 use native.Mathlib.Omega.{arith}
 use lib.ListN.{length}
-use Rattle.grid.specs.declared.Beside.{Beside}
-use Rattle.grid.specs.declared.Beside.TheVariants.{At, Off}
 use Rattle.grid.specs.declared.region.Region.{Region}
 use Rattle.grid.specs.Map.{On, neighbour_of}
 use Rattle.grid.specs.Walk.{distance_of}
@@ -48,7 +47,7 @@ module _ (l : List ℕ) (i d : ℕ) where
   unfolding next_in
   step_open e = simp e
 
-  step_shut : has (side_bit d) (byte l i) ≡ false → next_in l i d ≡ Off
+  step_shut : has (side_bit d) (byte l i) ≡ false → next_in l i d ≡ None
   unfolding next_in
   step_shut e = simp e
 
@@ -83,7 +82,7 @@ module _ (b : Board) (f start home : ℕ) (at : Region) (l : List ℕ) (o : On b
       (ap (λ (m : ℕ). distance_of m (place_of w at start) (place_of w at x)) (sym r.wide)
       ∙ r.alike.far start x (near_inside start start_near) (near_inside x n))
 
-  near_step : (x d z : ℕ) → Near w h start 5 x → neighbour_of w h x d ≡ At z → neighbour_of 14 13 (place x) d ≡ At (place z)
+  near_step : (x d z : ℕ) → Near w h start 5 x → neighbour_of w h x d ≡ Some z → neighbour_of 14 13 (place x) d ≡ Some (place z)
   near_step x d z n q =
       let i = near_more w h start 5 6 x n (omega arith) in
       let j = near_further w h start o 5 x d z n q in
@@ -105,12 +104,12 @@ module _ (b : Board) (f start home : ℕ) (at : Region) (l : List ℕ) (o : On b
   drawn_open : (x d : ℕ) → Near w h start 6 x → d < 6 → has (side_bit d) (byte l (place x)) ≡ opens b.map x d
   drawn_open x d n q = rw (drawn_byte x n) (has_back b.map x (stand b f start x) d q)
 
-  way : (x d : ℕ) → Near w h start 5 x → d < 6 → (t : Beside) → next b.map x d ≡ t → next_in l (place x) d ≡ moved place t
+  way : (x d : ℕ) → Near w h start 5 x → d < 6 → (t : Option ℕ) → next b.map x d ≡ t → next_in l (place x) d ≡ moved place t
   unfolding moved
-  way x d n q (At z) u =
+  way x d n q (Some z) u =
       step_open l (place x) d (drawn_open x d (near_more w h start 5 6 x n (omega arith)) q ∙ opens_at b.map x d (sym u) refl)
       ∙ near_step x d z n (next_over b.map x d z u)
-  way x d n q Off u =
+  way x d n q None u =
       step_shut l (place x) d (drawn_open x d (near_more w h start 5 6 x n (omega arith)) q ∙ opens_off b.map x d (sym u) refl)
 
   -- so the plot is a copy of the land

@@ -11,7 +11,7 @@ ghost use Rattle.pushes.specs.Drawn.{stand_number, open_bits, bars_by, bars_belo
 use crate::stands;
 use chains::Stand;
 use grid::region::Region;
-use grid::{Beside, near, region};
+use grid::{near, region};
 use paint::ink;
 use position::{View, layout, read};
 
@@ -33,7 +33,7 @@ fn open_bits(p: &[u8], v: View, x: usize) -> usize
 {
     let mut m = 0;
     for d in 0..6 {
-        if let Beside::At(_) = ground::next(p, v, x, d) {
+        if let Some(_) = ground::next(p, v, x, d) {
             m += plot::side_bit(d);
         }
     }
@@ -62,8 +62,7 @@ fn bar_all(p: &[u8], v: View, at: Region, f: usize, room: &mut [u8])
     requires { Laid p.now v × Room at room.old }
     ensures { Adds v.width v.height at (bars_below (board p.now) f v.count) room.old room.new }
 {
-    let count = v.count;
-    for u in 0..count {
+    for u in 0..v.count {
         bar(p, v, at, f, u, room);
     }
 }
@@ -82,7 +81,7 @@ fn byte_for(p: &[u8], v: View, at: Region, f: usize, start: usize, i: usize, m: 
     requires { Laid p.now v × RegionOk at × (i < at.wide * at.high) × ShownIn (board p.now) f at i m }
     ensures { ByteIn (board p.now) f start at i result × (result < 256) }
 {
-    let Beside::At(x) = region::hex_of(v.width, v.height, at, i) else {
+    let Some(x) = region::hex_of(v.width, v.height, at, i) else {
         return 0;
     };
     open_bits(p, v, x) + stand_number(stands::stand_at(p, v, f, start, x, m))
@@ -94,7 +93,7 @@ pub fn draw(p: &[u8], v: View, at: Region, f: usize, start: usize, room: &mut [u
     ensures { Drawn (board p.now) f start at room.new }
 {
     show(p, v, at, f, room);
-    for i in 0..182 {
-        room[i] = byte_for(p, v, at, f, start, i, layout::wide(room[i])) as u8;
+    for (i, m) in room.iter_mut().enumerate() {
+        *m = byte_for(p, v, at, f, start, i, layout::wide(*m)) as u8;
     }
 }

@@ -45,15 +45,7 @@ fn any_apart(p: &[u8], v: View, a: usize, h: usize) -> bool
     requires { Laid p.now v }
     ensures { result ≡ any (apart (board p.now) a h) (board p.now).units.count }
 {
-    let count = v.count;
-    let mut u = 0;
-    while u < count {
-        if apart(p, v, a, h, u) {
-            return true;
-        }
-        u += 1;
-    }
-    false
+    (0..v.count).any(|u| apart(p, v, a, h, u))
 }
 
 // Whether unit `u` holds hex `h` against every push.
@@ -72,15 +64,7 @@ fn any_bars(p: &[u8], v: View, f: usize, a: usize, h: usize) -> bool
     requires { Laid p.now v }
     ensures { result ≡ any (bars (board p.now) f a h) (board p.now).units.count }
 {
-    let count = v.count;
-    let mut u = 0;
-    while u < count {
-        if bars(p, v, f, a, h, u) {
-            return true;
-        }
-        u += 1;
-    }
-    false
+    (0..v.count).any(|u| bars(p, v, f, a, h, u))
 }
 
 // What the group's own hex is, by who else stands there.

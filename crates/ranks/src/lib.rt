@@ -1,8 +1,8 @@
-// The battle line: who takes part, and what each brings. It is found in three arrays, of which the first `n` places count, and then drawn
-// up as one line of fighters, from which the units are read back for the result.
+// The battle line: who takes part, and what each brings. A fighter comes to its place with its unit and printed strength; what it fights with is
+// written there once the supply of its nationality is traced.
 #![tactic(auto)]
 
-ghost use Rattle.std.specs.Prelude.{◌≡◌, ◌+◌, ◌<◌, ◌≤◌, length};
+ghost use Rattle.std.specs.Prelude.{◌≡◌, ◌+◌, ◌<◌, ◌≤◌, length, map, take};
 ghost use Rattle.position.specs.Tally.{any};
 ghost use Rattle.position.specs.Board.{board};
 ghost use Rattle.position.specs.Laid.{Laid, Read};
@@ -10,40 +10,45 @@ ghost use Rattle.field.specs.Scene.{scene};
 ghost use Rattle.supply.specs.Traced.{Traced};
 ghost use Rattle.results.specs.Participants.{defenders};
 ghost use Rattle.battle.specs.Line.{strength_of};
-ghost use Rattle.line.specs.Line.{places, Filled};
-ghost use Rattle.battle.specs.Mustered.{Enlists, Joins, Musters, Prints, Standing, AllStanding, nation_at, Arms, ArmsHome, ArmsAll, drawn, Names};
+ghost use Rattle.line.specs.Line.{places};
+ghost use Rattle.battle.specs.Mustered.{recruit, Joins, Musters, Standing, AllStanding, nation_at, armed, arm_own, arm_home};
 
 use field::unit;
 use line::Fighter;
-use position::{View, kind, layout, read};
+use position::{View, kind, read};
 
-// A number as it stands in an array.
-fn word(x: u16) -> usize
-    ensures { Read x 65536 result }
+// Unit `u` as it comes to the line.
+#[tactic(auto, unfolding(battle::specs::Mustered::recruit))]
+fn recruit(p: &[u8], v: View, u: usize) -> Fighter
+    requires { Laid p.now v × (u < 65536) }
+    ensures { result ≡ recruit p.now u }
 {
-    x as usize
+    Fighter {
+        unit: u as u16,
+        printed: read::strength(p, v, u) as u8,
+        fighting: 0,
+    }
 }
 
 // The attackers stand first in the line, in list order.
-fn enlist(units: &[u16], who: &mut [u16; 21])
-    requires { (length units.now ≤ 18) × (length who.old ≡ places) }
-    ensures { Enlists units.now who.new }
+fn enlist(p: &[u8], v: View, units: &[u16], line: &mut [Fighter; 21])
+    requires { Laid p.now v × (length units.now ≤ 18) }
+    ensures { take (length units.now) line.new ≡ map (recruit p.now) units.now }
 {
-    for i in 0..units.len() {
-        who[i] = units[i];
+    for (i, &u) in units.iter().enumerate() {
+        line[i] = recruit(p, v, u as usize);
     }
 }
 
 // The units in the target hex join behind the first `m`, in counter order.
-fn join(p: &[u8], v: View, target: usize, m: usize, who: &mut [u16; 21]) -> usize
-    requires { Laid p.now v × (m + length (defenders (board p.now) target) ≤ places) × (length who.old ≡ places) }
-    ensures { Joins (board p.now) target who.old m who.new result }
+fn join(p: &[u8], v: View, target: usize, m: usize, line: &mut [Fighter; 21]) -> usize
+    requires { Laid p.now v × (m + length (defenders (board p.now) target) ≤ places) }
+    ensures { Joins p.now target line.old m line.new result }
 {
-    let count = v.count;
     let mut n = m;
-    for u in 0..count {
+    for u in 0..v.count {
         if read::hex(p, v, u) == target {
-            who[n] = u as u16;
+            line[n] = recruit(p, v, u);
             n += 1;
         }
     }
@@ -51,159 +56,85 @@ fn join(p: &[u8], v: View, target: usize, m: usize, who: &mut [u16; 21]) -> usiz
 }
 
 // All participants, and how many they are.
-pub fn muster(p: &[u8], v: View, target: usize, units: &[u16], who: &mut [u16; 21]) -> usize
-    requires { Laid p.now v × (length units.now ≤ 18) × (length (defenders (board p.now) target) ≤ 3) × (length who.old ≡ places) }
-    ensures { Musters (board p.now) target units.now who.new result }
+#[tactic(auto, using(battle::proofs::Lines::musters))]
+pub fn muster(p: &[u8], v: View, target: usize, units: &[u16], line: &mut [Fighter; 21]) -> usize
+    requires { Laid p.now v × (length units.now ≤ 18) × (length (defenders (board p.now) target) ≤ 3) }
+    ensures { Musters p.now target units.now line.new result }
 {
-    enlist(units, who);
-    join(p, v, target, units.len(), who)
+    enlist(p, v, units, line);
+    join(p, v, target, units.len(), line)
 }
 
-// The printed strengths of the first `n`.
-pub fn strengths(p: &[u8], v: View, who: &[u16; 21], n: usize, printed: &mut [u8; 21])
-    requires { Laid p.now v × (n ≤ places) × (length who.now ≡ places) × (length printed.old ≡ places) }
-    ensures { Prints p.now who.now n printed.new }
+// What `f` fights with, as what is traced of its nationality's supply says.
+fn strength(p: &[u8], v: View, f: Fighter, traced: &[u8]) -> usize
+    requires { Laid p.now v × Standing (board p.now) f.unit × Traced (scene (board p.now)) ((board p.now).units.counter.nationality f.unit) traced.now }
+    ensures { Read (strength_of (board p.now) f.unit f.printed) 256 result }
 {
-    for i in 0..n {
-        printed[i] = read::strength(p, v, word(who[i])) as u8;
-    }
-}
-
-// What unit `u`, with a printed strength, fights with, as what is traced of its nationality's supply says.
-fn armed(p: &[u8], v: View, u: usize, printed: usize, map: &[u8]) -> usize
-    requires { Laid p.now v × (printed < 256) × Standing (board p.now) u × Traced (scene (board p.now)) ((board p.now).units.counter.nationality u) map.now }
-    ensures { Read (strength_of (board p.now) u printed) 256 result }
-{
+    let u = f.unit as usize;
     let h = read::hex(p, v, u);
-    unit::working(p, v, u, 2 <= map[h], printed)
+    unit::working(p, v, u, 2 <= traced[h], f.printed as usize)
 }
 
-// The fighting strengths of the units of nationality `nation`, by its supply, which is traced in `map`.
-fn arm_by(
-    p: &[u8],
-    v: View,
-    nation: usize,
-    who: &[u16; 21],
-    n: usize,
-    printed: &[u8; 21],
-    fighting: &mut [u8; 21],
-    map: &[u8],
-)
-    requires { Laid p.now v × (n ≤ places) × AllStanding (board p.now) who.now n × (length fighting.old ≡ places) × Traced (scene (board p.now)) nation map.now }
-    ensures { Arms (board p.now) nation who.now n printed.now fighting.old fighting.new }
+// The fighters of nationality `nation` are armed by its supply, which is traced.
+fn arm_by(p: &[u8], v: View, nation: usize, line: &mut [Fighter], traced: &[u8])
+    requires { Laid p.now v × AllStanding (board p.now) line.old × Traced (scene (board p.now)) nation traced.now }
+    ensures { line.new ≡ map (arm_own (board p.now) nation) line.old }
 {
-    for i in 0..n {
-        let u = word(who[i]);
-        if read::nationality(p, v, u) == nation {
-            fighting[i] = armed(p, v, u, layout::wide(printed[i]), map) as u8;
+    for f in line.iter_mut() {
+        if read::nationality(p, v, f.unit as usize) == nation {
+            f.fighting = strength(p, v, *f, traced) as u8;
         }
     }
 }
 
-// Whether one of the first `n` is of the nationality.
-fn takes_part(p: &[u8], v: View, nation: usize, who: &[u16; 21], n: usize) -> bool
-    requires { Laid p.now v × (n ≤ places) }
-    ensures { result ≡ any (nation_at (board p.now) nation who.now) n }
+// Whether somebody in the line is of the nationality.
+fn takes_part(p: &[u8], v: View, nation: usize, line: &[Fighter]) -> bool
+    requires { Laid p.now v }
+    ensures { result ≡ any (nation_at (board p.now) nation line.now) (length line.now) }
 {
-    let mut i = 0;
-    while i < n {
-        if read::nationality(p, v, word(who[i])) == nation {
-            return true;
-        }
-        i += 1;
-    }
-    false
+    line.iter()
+        .any(|f| read::nationality(p, v, f.unit as usize) == nation)
 }
 
-// The fighting strengths of one nationality's units: its supply is traced in the scratch if it takes part.
-fn arm(
-    p: &[u8],
-    v: View,
-    nation: usize,
-    who: &[u16; 21],
-    n: usize,
-    printed: &[u8; 21],
-    fighting: &mut [u8; 21],
-    scratch: &mut [u8],
-)
-    requires { Laid p.now v × (n ≤ places) × AllStanding (board p.now) who.now n × (length fighting.old ≡ places) × (length scratch.old ≡ v.hexes) }
-    ensures { Arms (board p.now) nation who.now n printed.now fighting.old fighting.new }
+// One nationality's fighters are armed: its supply is traced in the scratch if it takes part.
+#[tactic(auto, using(battle::proofs::Lines::arms_none))]
+fn arm(p: &[u8], v: View, nation: usize, line: &mut [Fighter], scratch: &mut [u8])
+    requires { Laid p.now v × AllStanding (board p.now) line.old × (length scratch.old ≡ v.hexes) }
+    ensures { line.new ≡ map (arm_own (board p.now) nation) line.old }
 {
-    if !takes_part(p, v, nation, who, n) {
+    if !takes_part(p, v, nation, line) {
         return;
     }
     supply::trace(p, v, nation, scratch);
-    arm_by(p, v, nation, who, n, printed, fighting, scratch);
+    arm_by(p, v, nation, line, scratch);
 }
 
-// The fighting strengths of the units of US and Canada. Where both take part, what is traced for the US serves Canada too.
-fn arm_home(
-    p: &[u8],
-    v: View,
-    who: &[u16; 21],
-    n: usize,
-    printed: &[u8; 21],
-    fighting: &mut [u8; 21],
-    scratch: &mut [u8],
-)
-    requires { Laid p.now v × (n ≤ places) × AllStanding (board p.now) who.now n × (length fighting.old ≡ places) × (length scratch.old ≡ v.hexes) }
-    ensures { ArmsHome (board p.now) who.now n printed.now fighting.old fighting.new }
+// The fighters of US and Canada are armed. Where both take part, what is traced for the US serves Canada too.
+#[tactic(auto, using(battle::proofs::Lines::arms_none, battle::proofs::Lines::standing_own), unfolding(battle::specs::Mustered::arm_home))]
+fn arm_home(p: &[u8], v: View, line: &mut [Fighter], scratch: &mut [u8])
+    requires { Laid p.now v × AllStanding (board p.now) line.old × (length scratch.old ≡ v.hexes) }
+    ensures { line.new ≡ arm_home (board p.now) line.old }
 {
-    if !takes_part(p, v, kind::US, who, n) {
-        arm(p, v, kind::CANADA, who, n, printed, fighting, scratch);
+    if !takes_part(p, v, kind::US, line) {
+        arm(p, v, kind::CANADA, line, scratch);
         return;
     }
     supply::trace(p, v, kind::US, scratch);
-    arm_by(p, v, kind::US, who, n, printed, fighting, scratch);
-    if !takes_part(p, v, kind::CANADA, who, n) {
+    arm_by(p, v, kind::US, line, scratch);
+    if !takes_part(p, v, kind::CANADA, line) {
         return;
     }
     supply::retrace(p, v, scratch);
-    arm_by(p, v, kind::CANADA, who, n, printed, fighting, scratch);
+    arm_by(p, v, kind::CANADA, line, scratch);
 }
 
-// The fighting strengths of the first `n`, nationality by nationality.
-pub fn arm_all(
-    p: &[u8],
-    v: View,
-    who: &[u16; 21],
-    n: usize,
-    printed: &[u8; 21],
-    fighting: &mut [u8; 21],
-    scratch: &mut [u8],
-)
-    requires { Laid p.now v × (n ≤ places) × AllStanding (board p.now) who.now n × (length fighting.old ≡ places) × (length scratch.old ≡ v.hexes) }
-    ensures { ArmsAll (board p.now) who.now n printed.now fighting.new }
+// All are armed, nationality by nationality.
+pub fn arm_all(p: &[u8], v: View, line: &mut [Fighter], scratch: &mut [u8])
+    requires { Laid p.now v × AllStanding (board p.now) line.old × (length scratch.old ≡ v.hexes) }
+    ensures { line.new ≡ map (armed (board p.now)) line.old }
 {
     for nation in 0..kind::US {
-        arm(p, v, nation, who, n, printed, fighting, scratch);
+        arm(p, v, nation, line, scratch);
     }
-    arm_home(p, v, who, n, printed, fighting, scratch);
-}
-
-// The battle line: a record for each of the first `n`.
-pub fn draw_up(who: &[u16; 21], printed: &[u8; 21], fighting: &[u8; 21], n: usize) -> [Fighter; 21]
-    requires { (n ≤ places) × (length who.now ≡ places) × (length printed.now ≡ places) × (length fighting.now ≡ places) }
-    ensures { Filled (drawn who.now printed.now fighting.now) n result }
-{
-    let mut fighters = line::nobody();
-    for i in 0..n {
-        fighters[i] = Fighter {
-            unit: who[i],
-            printed: printed[i],
-            fighting: fighting[i],
-        };
-    }
-    fighters
-}
-
-// The units of the first `n` of the line, read back into an array: those that the result is carried out on.
-pub fn units_of(fighters: [Fighter; 21], n: usize, who: &mut [u16; 21])
-    requires { (n ≤ places) × (length who.old ≡ places) }
-    ensures { Names fighters n who.new }
-{
-    for i in 0..n {
-        let f = fighters[i];
-        who[i] = f.unit;
-    }
+    arm_home(p, v, line, scratch);
 }

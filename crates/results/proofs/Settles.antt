@@ -62,9 +62,6 @@ turning_more {p} {us} {q} {r} {v} {i} {u} o l e f =
       laid = rw f (laid_turned o.laid u);
     }
 
-pub turning_all : {p us q : List ℕ} {v : View} {i : ℕ} → Turning p v us i q → length us ≤ i → q ≡ turned_all p us
-turning_all {p} {us} {i = i} o l = o.made ∙ ap (turned_all p) (take_all i us l)
-
 -- a side that is destroyed, and one that gets a role
 module _ (fate u : ℕ) where
   pub suffers_lost : fate ≡ lost → suffers fate u ≡ destroyed u
@@ -177,10 +174,6 @@ marking_more {p} {us} {q} {r} {v} {i} {u} {m} {x} o l e f g h =
             rw (ap board z ∙ board_make o.laid.shaped (y u)) (likened_fought n.1 u),
           );
     }
-
-pub marking_all : {p us q : List ℕ} {v : View} {i : ℕ} → Marking p v us i q → length us ≤ i → MarksAll p us q
-marking_all {p} {us} {q} {v} {i} o l =
-    record { made = λ b k. (o.made b k).0 ∙ ap (λ (x : List ℕ). makes p (fought_by b x)) (take_all i us l) }
 
 -- who is named in a list and behind it
 named_still : (xs : List ℕ) (y x : ℕ) → named xs x ≡ true → named (xs ++ (y ∷ [])) x ≡ true
@@ -319,9 +312,6 @@ laid_either false x l e = rw e (laid_make l x)
 
 pub laid_once : {q t : List ℕ} {v : View} {before : Bool} {r h n : ℕ} → Laid q v → RoutesOnce q before r h n t → Laid t v
 laid_once {before = before} {r = r} {h = h} l o = laid_either before (routed r h nowhere nowhere nowhere) l o.made
-
-pub routing_all : {p us q : List ℕ} {v : View} {i r : ℕ} → Routing p v us i r q → length us ≤ i → q ≡ makes p (routed_from 0 (once_each [] (map (hex p) us)))
-routing_all {p} {us} {i = i} o l = o.made ∙ ap (λ (x : List ℕ). makes p (routed_from 0 (once_each [] (map (hex p) x)))) (take_all i us l)
 
 -- the attackers destroyed, the defenders destroyed, and nobody
 module _ (b : Board) (target : ℕ) (units : List ℕ) (o : Upshot) where

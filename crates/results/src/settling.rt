@@ -1,5 +1,5 @@
 // A result is written: who is turned over, who is destroyed, owes or may advance, the routes, and the desk.
-ghost use Rattle.std.specs.Prelude.{◌≡◌, [], map, ◌+◌, ◌<◌, ◌≤◌, length, take, get_or};
+ghost use Rattle.std.specs.Prelude.{◌≡◌, [], map, ◌<◌, ◌≤◌, length};
 ghost use Rattle.position.specs.Board.{board};
 ghost use Rattle.position.specs.Layout.{hex};
 ghost use Rattle.position.specs.Change.{make, makes};
@@ -19,8 +19,8 @@ fn turn_all(p: &mut [u8], v: View, us: &[u16])
     requires { Laid p.old v }
     ensures { p.new ≡ turned_all p.old us.now }
 {
-    for i in 0..us.len() {
-        write::turn_over(p, v, us[i] as usize);
+    for u in us {
+        write::turn_over(p, v, *u as usize);
     }
 }
 
@@ -29,10 +29,9 @@ fn mark_all(p: &mut [u8], v: View, us: &[u16])
     requires { Laid p.old v }
     ensures { MarksAll p.old us.now p.new }
 {
-    for i in 0..us.len() {
-        let u = us[i] as usize;
-        let m = read::marks(p, v, u);
-        write::mark(p, v, u, bits::with(bits::FOUGHT, m));
+    for u in us {
+        let m = read::marks(p, v, *u as usize);
+        write::mark(p, v, *u as usize, bits::with(bits::FOUGHT, m));
     }
 }
 
@@ -53,33 +52,26 @@ fn suffer(p: &mut [u8], v: View, us: &[u16], fate: usize)
     requires { Laid p.old v × (fate < 256) }
     ensures { p.new ≡ makes p.old (map (suffers fate) us.now) }
 {
-    for i in 0..us.len() {
-        suffer_one(p, v, us[i] as usize, fate);
+    for u in us {
+        suffer_one(p, v, *u as usize, fate);
     }
 }
 
-// Whether one of the first `n` of the list stands on hex `h`.
-fn stood_before(p: &[u8], v: View, units: &[u16], n: usize, h: usize) -> bool
-    requires { Laid p.now v × (n ≤ length units.now) }
-    ensures { result ≡ named (map (hex p.now) (take n units.now)) h }
+// Whether one of the units stands on hex `h`.
+fn one_stands(p: &[u8], v: View, units: &[u16], h: usize) -> bool
+    requires { Laid p.now v }
+    ensures { result ≡ named (map (hex p.now) units.now) h }
 {
-    let mut j = 0;
-    while j < n {
-        if read::hex(p, v, units[j] as usize) == h {
-            return true;
-        }
-        j += 1;
-    }
-    false
+    units.iter().any(|u| read::hex(p, v, *u as usize) == h)
 }
 
-// The hex of unit `i` of the list is written as route `r`, unless one before it stands there; then the number of the next route.
-fn route_once(p: &mut [u8], v: View, units: &[u16], i: usize, r: usize) -> usize
-    requires { Laid p.old v × (i < length units.now) × (r < 65536) }
-    ensures { RoutesOnce p.old (named (map (hex p.old) (take i units.now)) (hex p.old (get_or units.now i 0))) r (hex p.old (get_or units.now i 0)) result p.new }
+// The hex of unit `u` is written as route `r`, unless one before it stands there; then the number of the next route.
+fn route_once(p: &mut [u8], v: View, before: &[u16], u: usize, r: usize) -> usize
+    requires { Laid p.old v × (r < 65536) }
+    ensures { RoutesOnce p.old (named (map (hex p.old) before.now) (hex p.old u)) r (hex p.old u) result p.new }
 {
-    let h = read::hex(p, v, units[i] as usize);
-    if stood_before(p, v, units, i, h) {
+    let h = read::hex(p, v, u);
+    if one_stands(p, v, before, h) {
         return r;
     }
     write::set_route(
@@ -100,8 +92,8 @@ fn route_hexes(p: &mut [u8], v: View, units: &[u16])
     ensures { p.new ≡ makes p.old (routed_from 0 (once_each [] (map (hex p.old) units.now))) }
 {
     let mut r = 0;
-    for i in 0..units.len() {
-        r = route_once(p, v, units, i, r);
+    for (i, u) in units.iter().enumerate() {
+        r = route_once(p, v, &units[..i], *u as usize, r);
     }
 }
 
@@ -110,13 +102,11 @@ fn write_routes(p: &mut [u8], v: View, target: usize, units: &[u16], o: Upshot)
     requires { Laid p.old v × (length units.now ≤ 18) × (target < 65536) }
     ensures { p.new ≡ makes p.old (routed_from 0 (routes_written (board p.old) target units.now o)) }
 {
-    let attackers = o.attackers;
-    if attackers == LOST {
+    if o.attackers == LOST {
         route_hexes(p, v, units);
         return;
     }
-    let defenders = o.defenders;
-    if defenders == LOST {
+    if o.defenders == LOST {
         write::set_route(
             p,
             v,

@@ -1,6 +1,6 @@
 -- What comes of a group, by the tests that decide it, and what each fate says of the refusals.
 -- Assumes nothing.
-use Prim.Native.Nat.{◌<◌, ◌≤◌, ℕ}
+use Prim.Native.Nat.{ℕ}
 use mathlib.Core.Bool.{Bool, ◌&&◌, ◌||◌, cond, false, or-true, true}
 use mathlib.Core.List.{List, [], ◌∷◌}
 use mathlib.Core.Path.{◌≡◌, refl, sym, ap, ◌∙◌}
@@ -40,14 +40,6 @@ module _ (b : Board) (h : ℕ) where
     pub spared_series : has_series b h ≡ true → doomed b h ≡ false
     unfolding doomed
     spared_series s = simp (w, s, or-true)
-
-pub none_empty : (xs : List ℕ) → length xs ≤ 0 → none xs ≡ true
-none_empty [] l = refl
-none_empty (x ∷ xs) l = absurd (omega arith)
-
-pub none_some : (xs : List ℕ) → 0 < length xs → none xs ≡ false
-none_some [] l = absurd (omega arith)
-none_some (x ∷ xs) l = refl
 
 pub none_nil : (xs : List ℕ) → none xs ≡ true → xs ≡ []
 none_nil [] e = refl

@@ -75,26 +75,6 @@ module _ (b : Board) (h : ℕ) where
   unfolding group
   none_owing e = sym (ap (λ (us : List ℕ). get_or us 0 0) (sieve_none (owes_at b h) b.units.count e))
 
--- what the outlook is, of the numbers as they were read
-pub outlook_as :
-    (b : Board) (h : ℕ) (route : List ℕ) (r : Outlook) {f g n m : ℕ} → f ≡ g → n ≡ m → OutlookOf b f h n route r
-    → OutlookOf b g h m route r
-outlook_as b h route r ef en o = rw ef at (rw en at o)
-
--- it tells whether a run of so many hexes exists
-abbrev pub opens : Outlook → Bool
-opens Legal = true
-opens Illegal = true
-opens (Friends run) = false
-opens (Alone run) = false
-
-pub outlook_opens :
-    (b : Board) (f h n : ℕ) (route : List ℕ) (r : Outlook) → OutlookOf b f h n route r → found (first_route b f h n) ≡ opens r
-outlook_opens b f h n route Legal o = o.0
-outlook_opens b f h n route Illegal o = o.0
-outlook_opens b f h n route (Friends run) o = o.0
-outlook_opens b f h n route (Alone run) o = o.0
-
 -- what is asked of a vacant route
 pub none_found :
     (b : Board) (h : ℕ) → has_route b h ≡ false → found (first_route b (group_force b h) h b.desk.battle.owed) ≡ false

@@ -9,7 +9,7 @@ ghost use Rattle.retreat.specs.Retreat.{RetreatNow, group_checks};
 
 use field::listed;
 use position::{View, read, stage};
-use ruling::Tested;
+use ruling::Refusal;
 use shoves::group;
 
 // Whether a unit owes in hex `h`.
@@ -17,43 +17,37 @@ fn any_owes(p: &[u8], v: View, h: usize) -> bool
     requires { Laid p.now v }
     ensures { result ≡ any (owes_at (board p.now) h) (board p.now).units.count }
 {
-    let count = v.count;
-    let mut u = 0;
-    while u < count {
-        if group::owes_at(p, v, h, u) {
-            return true;
-        }
-        u += 1;
-    }
-    false
+    (0..v.count).any(|u| group::owes_at(p, v, h, u))
 }
 
 // The questions of a retreat before those of its route and pushes: 3, 2, 4. Places are counted on through both lists.
-pub fn judge_group(p: &[u8], v: View, h: usize, route: &[u16], pushes: &[u16]) -> Tested
+pub fn judge_group(
+    p: &[u8],
+    v: View,
+    h: usize,
+    route: &[u16],
+    pushes: &[u16],
+) -> Result<(), Refusal>
     requires { Laid p.now v }
     ensures { TestedOf p.now (group_checks (board p.now) h route.now pushes.now) (RetreatNow (board p.now) h) result }
 {
     if 3 < route.len() {
-        return Tested::Stopped(3, 0);
+        return Err(Refusal::OutOfRange(0));
     }
     if 9 < pushes.len() {
-        return Tested::Stopped(3, 0);
+        return Err(Refusal::OutOfRange(0));
     }
     let hexes = v.hexes;
     if hexes <= h {
-        return Tested::Stopped(3, 0);
+        return Err(Refusal::OutOfRange(0));
     }
-    if let Tested::Stopped(n, k) = listed::on_map_all(p, v, route) {
-        return Tested::Stopped(n, k);
-    }
-    if let Tested::Stopped(n, k) = listed::on_map_from(p, v, pushes, route.len() + 1) {
-        return Tested::Stopped(n, k);
-    }
+    listed::on_map_all(p, v, route)?;
+    listed::on_map_from(p, v, pushes, route.len() + 1)?;
     if read::stage(p, v) != stage::RETREATS {
-        return Tested::Stopped(2, 0);
+        return Err(Refusal::Untimely);
     }
     if !any_owes(p, v, h) {
-        return Tested::Stopped(4, 0);
+        return Err(Refusal::WrongUnit(0));
     }
-    Tested::Passed
+    Ok(())
 }

@@ -10,34 +10,12 @@ ghost use Rattle.acceptance.specs.Holder.{HolderOf};
 
 use position::{View, read, role};
 
-// The first unit that has role `r`; the count where none has.
-fn holder(p: &[u8], v: View, r: usize) -> usize
+// The first unit that has role `r`.
+fn holder(p: &[u8], v: View, r: usize) -> Option<usize>
     requires { Laid p.now v }
     ensures { HolderOf (board p.now) r result }
 {
-    let count = v.count;
-    let mut u = 0;
-    while u < count {
-        if read::role(p, v, u) == r {
-            return u;
-        }
-        u += 1;
-    }
-    u
-}
-
-// Whether unit `u`, if it has role `r`, is of force `f`.
-fn is_of(p: &[u8], v: View, r: usize, f: usize, u: usize) -> bool
-    requires { Laid p.now v }
-    ensures { Says result (role p.now u ≡ r → force_of (board p.now) u ≡ f) }
-{
-    if read::role(p, v, u) != r {
-        return true;
-    }
-    if forces::force_of(p, v, u) != f {
-        return false;
-    }
-    true
+    (0..v.count).find(|u| read::role(p, v, *u) == r)
 }
 
 // Whether every unit of role `r` is of force `f`.
@@ -45,60 +23,39 @@ fn all_of(p: &[u8], v: View, r: usize, f: usize) -> bool
     requires { Laid p.now v }
     ensures { Says result ((u : ℕ) → u < count p.now → role p.now u ≡ r → force_of (board p.now) u ≡ f) }
 {
-    let count = v.count;
-    for u in 0..count {
-        if !is_of(p, v, r, f, u) {
-            return false;
-        }
-    }
-    true
+    (0..v.count).all(|u| read::role(p, v, u) != r || forces::force_of(p, v, u) == f)
 }
 
-// Whether the units of role `r` are of one force: that of the first of them, `u`.
-fn one_force(p: &[u8], v: View, r: usize, u: usize) -> bool
-    requires { Laid p.now v × HolderOf (board p.now) r u }
+// Whether the units of role `r` are of one force: that of the first of them, if there is one.
+fn one_force(p: &[u8], v: View, r: usize, first: Option<usize>) -> bool
+    requires { Laid p.now v × HolderOf (board p.now) r first }
     ensures { Says result (OneForce (board p.now) r) }
 {
-    let count = v.count;
-    if count <= u {
-        return true;
+    match first {
+        None => true,
+        Some(u) => all_of(p, v, r, forces::force_of(p, v, u)),
     }
-    all_of(p, v, r, forces::force_of(p, v, u))
 }
 
-// Whether the force of role 1 is another than that of role 2: `u` and `w` are the first that have them.
-fn apart(p: &[u8], v: View, u: usize, w: usize) -> bool
+// Whether the force of role 1 is another than that of role 2, by the first that owes and the first that may advance.
+fn apart(p: &[u8], v: View, owing: Option<usize>, advancing: Option<usize>) -> bool
     requires laid { Laid p.now v × OneForce (board p.now) 1 × OneForce (board p.now) 2 }
-    requires holder_of { HolderOf (board p.now) 1 u × HolderOf (board p.now) 2 w }
+    requires holder_of { HolderOf (board p.now) 1 owing × HolderOf (board p.now) 2 advancing }
     ensures { Says result (RolesApart (board p.now)) }
 {
-    let count = v.count;
-    if count <= u {
+    let (Some(u), Some(w)) = (owing, advancing) else {
         return true;
-    }
-    if count <= w {
-        return true;
-    }
-    if forces::force_of(p, v, w) == forces::force_of(p, v, u) {
-        return false;
-    }
-    true
+    };
+    forces::force_of(p, v, w) != forces::force_of(p, v, u)
 }
 
 pub fn roles_ok(p: &[u8], v: View) -> bool
     requires { Laid p.now v }
     ensures { Says result (RolesOk (board p.now)) }
 {
-    let u = holder(p, v, role::OWES);
-    let w = holder(p, v, role::ADVANCES);
-    if !one_force(p, v, role::OWES, u) {
-        return false;
-    }
-    if !one_force(p, v, role::ADVANCES, w) {
-        return false;
-    }
-    if !apart(p, v, u, w) {
-        return false;
-    }
-    true
+    let owing = holder(p, v, role::OWES);
+    let advancing = holder(p, v, role::ADVANCES);
+    one_force(p, v, role::OWES, owing)
+        && one_force(p, v, role::ADVANCES, advancing)
+        && apart(p, v, owing, advancing)
 }

@@ -1,5 +1,6 @@
 -- The search finds the first legal route, and nothing only where there is none.
 -- Assumes nothing.
+use Rattle.std.specs.Prelude.{Option, Some, None}
 use Prim.Native.Nat.{ℕ, zero, suc, ◌+◌, ◌≤◌, ◌<◌}
 use mathlib.Core.Path.{◌≡◌, refl, sym, ap, subst}
 use mathlib.Core.List.{List, [], ◌∷◌, ◌++◌, append_assoc}
@@ -8,12 +9,8 @@ use native.Mathlib.Omega.{arith}
 use native.Mathlib.Decide.{ℕ_discrete}
 use mathlib.Core.Logic.{◌↔◌}
 use lib.ListN.{length}
-use Rattle.grid.specs.declared.Beside.{Beside}
-use Rattle.grid.specs.declared.Beside.TheVariants.{At, Off}
 use Rattle.position.specs.Board.{Board}
 use Rattle.position.proofs.Tallies.{not_both}
-use Rattle.routes.specs.declared.Found.{Found}
-use Rattle.routes.specs.declared.Found.TheVariants.{Route, Nothing}
 use Rattle.routes.specs.Run.{Step, Run, stay, go, LegalRoute, RouteExists}
 use Rattle.routes.specs.Search.{
   step_of,
@@ -58,50 +55,50 @@ module _ (b : Board) (f start : ℕ) where
   turns t = t.dir ∷ heads t.way
 
   -- what an answer says of the runs from hex a, with the hexes passed before it
-  abbrev Answer : ℕ → ℕ → List ℕ → ℕ → Found → Type 0
-  Answer i left past a (Route x y z) =
-      (w : Way i left a) × (route_of (past ++ w.route) ≡ Route x y z) × ((u : Way i left a) → NotAfter (heads w) (heads u))
-  Answer i left past a Nothing = Way i left a → ⊥
+  abbrev Answer : ℕ → ℕ → List ℕ → ℕ → Option (ℕ × ℕ × ℕ) → Type 0
+  Answer i left past a (Some (x, y, z)) =
+      (w : Way i left a) × (route_of (past ++ w.route) ≡ Some (x, y, z)) × ((u : Way i left a) → NotAfter (heads w) (heads u))
+  Answer i left past a None = Way i left a → ⊥
 
   -- and of those that begin in direction d or a later one
-  abbrev AnswerFrom : ℕ → ℕ → List ℕ → ℕ → ℕ → Found → Type 0
-  AnswerFrom i left past a d (Route x y z) =
+  abbrev AnswerFrom : ℕ → ℕ → List ℕ → ℕ → ℕ → Option (ℕ × ℕ × ℕ) → Type 0
+  AnswerFrom i left past a d (Some (x, y, z)) =
       (t : Turn i left a)
       × (d ≤ t.dir)
-      × (route_of (past ++ (t.hex ∷ t.way.route)) ≡ Route x y z)
+      × (route_of (past ++ (t.hex ∷ t.way.route)) ≡ Some (x, y, z))
       × ((u : Turn i left a) → d ≤ u.dir → NotAfter (turns t) (turns u))
-  AnswerFrom i left past a d Nothing = (u : Turn i left a) → d ≤ u.dir → ⊥
+  AnswerFrom i left past a d None = (u : Turn i left a) → d ≤ u.dir → ⊥
 
-  abbrev search : ℕ → ℕ → List ℕ → ℕ → Found
+  abbrev search : ℕ → ℕ → List ℕ → ℕ → Option (ℕ × ℕ × ℕ)
   search i left past x = go_on b f start (suc i) left (past ++ (x ∷ [])) x
 
-  abbrev tries : ℕ → ℕ → List ℕ → ℕ → ℕ → Found
+  abbrev tries : ℕ → ℕ → List ℕ → ℕ → ℕ → Option (ℕ × ℕ × ℕ)
   tries i left past a d = search_beyond (search i left past) (step_of b f start i a d)
 
   module _ (i left : ℕ) (past : List ℕ) (a d : ℕ) where
     -- a direction that has nothing can be passed
-    pass : ((u : Turn i left a) → u.dir ≡ d → ⊥) → (y : Found) → AnswerFrom i left past a (suc d) y → AnswerFrom i left past a d y
-    pass bad (Route x y z) r = (r.0, omega (arith, r.1), r.2, λ u l. at u l (ℕ_discrete u.dir d))
+    pass : ((u : Turn i left a) → u.dir ≡ d → ⊥) → (y : Option (ℕ × ℕ × ℕ)) → AnswerFrom i left past a (suc d) y → AnswerFrom i left past a d y
+    pass bad (Some (x, y, z)) r = (r.0, omega (arith, r.1), r.2, λ u l. at u l (ℕ_discrete u.dir d))
       where
         at : (u : Turn i left a) → d ≤ u.dir → Dec (u.dir ≡ d) → NotAfter (turns r.0) (turns u)
         at u l (yes e) = absurd (bad u e)
         at u l (no e) = r.3 u (omega arith)
-    pass bad Nothing r = λ u l. at u l (ℕ_discrete u.dir d)
+    pass bad None r = λ u l. at u l (ℕ_discrete u.dir d)
       where
         at : (u : Turn i left a) → d ≤ u.dir → Dec (u.dir ≡ d) → ⊥
         at u l (yes e) = bad u e
         at u l (no e) = r u (omega arith)
 
     -- a step in this direction leads to one hex
-    at_hex : {x : ℕ} → step_of b f start i a d ≡ At x → (u : Turn i left a) → u.dir ≡ d → u.hex ≡ x
+    at_hex : {x : ℕ} → step_of b f start i a d ≡ Some x → (u : Turn i left a) → u.dir ≡ d → u.hex ≡ x
     at_hex e u q =
-        let h : step_of b f start i a d ≡ At u.hex = rw q at (is_step b f start i a u.dir u.hex u.step) in
+        let h : step_of b f start i a d ≡ Some u.hex = rw q at (is_step b f start i a u.dir u.hex u.step) in
         cc
 
     -- the direction's own answer, and else that of the later ones
-    one : (x : ℕ) → step_of b f start i a d ≡ At x → (y : Found) → Answer (suc i) left (past ++ (x ∷ [])) x y
-        → (z : Found) → AnswerFrom i left past a (suc d) z → AnswerFrom i left past a d (or_else y z)
-    one x e (Route x1 x2 x3) r z q = (
+    one : (x : ℕ) → step_of b f start i a d ≡ Some x → (y : Option (ℕ × ℕ × ℕ)) → Answer (suc i) left (past ++ (x ∷ [])) x y
+        → (z : Option (ℕ × ℕ × ℕ)) → AnswerFrom i left past a (suc d) z → AnswerFrom i left past a d (or_else y z)
+    one x e (Some (x1, x2, x3)) r z q = (
       record { dir = d; hex = x; step = step_is b f start i a d x e; way = r.0 },
       omega arith,
       rw append_assoc at r.1,
@@ -113,13 +110,13 @@ module _ (b : Board) (f start : ℕ) where
             subst (λ (k : ℕ). NotAfter (d ∷ heads r.0) (k ∷ heads u.way)) (sym h)
             (later (subst (λ (k : ℕ). (w : Way (suc i) left k) → NotAfter (heads r.0) (heads w)) (sym (at_hex e u h)) r.2 u.way))
         at u l (no h) = let m : d < u.dir = omega arith in sooner m
-    one x e Nothing r z q = pass (λ u h. r (subst (λ (k : ℕ). Way (suc i) left k) (at_hex e u h) u.way)) z q
+    one x e None r z q = pass (λ u h. r (subst (λ (k : ℕ). Way (suc i) left k) (at_hex e u h) u.way)) z q
 
     turn : ((x : ℕ) → Answer (suc i) left (past ++ (x ∷ [])) x (search i left past x))
-        → (t : Beside) → step_of b f start i a d ≡ t → (z : Found) → AnswerFrom i left past a (suc d) z
+        → (t : Option ℕ) → step_of b f start i a d ≡ t → (z : Option (ℕ × ℕ × ℕ)) → AnswerFrom i left past a (suc d) z
         → AnswerFrom i left past a d (or_else (search_beyond (search i left past) t) z)
-    turn g (At x) e z q = one x e (search i left past x) (g x) z q
-    turn g Off e z q = pass (λ u h. off_at e (rw h at (is_step b f start i a u.dir u.hex u.step))) z q
+    turn g (Some x) e z q = one x e (search i left past x) (g x) z q
+    turn g None e z q = pass (λ u h. off_at e (rw h at (is_step b f start i a u.dir u.hex u.step))) z q
 
   module _ (i left : ℕ) (past : List ℕ) (a : ℕ) where
     all_turns : ((x : ℕ) → Answer (suc i) left (past ++ (x ∷ [])) x (search i left past x)) → (k d : ℕ) → k + d ≡ 6
@@ -135,8 +132,8 @@ module _ (b : Board) (f start : ℕ) where
     apart (go {i} {a} {x} {last} {route} d s k) e =
         (record { dir = d; hex = x; step = s; way = record { route = route; long = omega arith; last = last; run = k } }, refl)
 
-    whole : (y : Found) → AnswerFrom i left past a 0 y → Answer i (suc left) past a y
-    whole (Route x y z) r =
+    whole : (y : Option (ℕ × ℕ × ℕ)) → AnswerFrom i left past a 0 y → Answer i (suc left) past a y
+    whole (Some (x, y, z)) r =
         let t = r.0 in (
           record { route = t.hex ∷ t.way.route; long = ap suc t.way.long; last = t.way.last; run = go t.dir t.step t.way.run },
           r.2,
@@ -144,7 +141,7 @@ module _ (b : Board) (f start : ℕ) where
               let k = apart u.run u.long in
               subst (λ (ds : List ℕ). NotAfter (turns t) ds) (sym k.1) (r.3 k.0 (omega arith)),
         )
-    whole Nothing r = λ u. r (apart u.run u.long).0 (omega arith)
+    whole None r = λ u. r (apart u.run u.long).0 (omega arith)
 
   none_heads : {i a last : ℕ} {route : List ℕ} (k : Run b f start i a route last) → length route ≡ 0 → NotAfter [] (headings k)
   none_heads stay e = same
@@ -168,8 +165,8 @@ pub first_right : FirstRight
 unfolding first_route way_of
 first_right b f start n = say (first_route b f start n) (answer b f start 0 n [] start)
   where
-    say : (y : Found) → Answer b f start 0 n [] start y → Searched b f start n y
-    say (Route x y z) r = (
+    say : (y : Option (ℕ × ℕ × ℕ)) → Answer b f start 0 n [] start y → Searched b f start n y
+    say (Some (x, y, z)) r = (
       r.0.route,
       record {
         legal = record { long = r.0.long; last = r.0.last; run = r.0.run };
@@ -177,11 +174,11 @@ first_right b f start n = say (first_route b f start n) (answer b f start 0 n []
       },
       r.1,
     )
-    say Nothing r = λ k. r (way_of b f start n k.0 k.1)
+    say None r = λ k. r (way_of b f start n k.0 k.1)
 
 pub found_right : FoundRight
 found_right b f start n = say (first_route b f start n) (first_right b f start n)
   where
-    say : (y : Found) → Searched b f start n y → (found y ≡ true) ↔ RouteExists b f start n
-    say (Route x y z) r = (λ e. (r.0, r.1.legal), λ k. refl)
-    say Nothing r = (λ e. not_both false e refl, λ k. absurd (r k))
+    say : (y : Option (ℕ × ℕ × ℕ)) → Searched b f start n y → (found y ≡ true) ↔ RouteExists b f start n
+    say (Some (x, y, z)) r = (λ e. (r.0, r.1.legal), λ k. refl)
+    say None r = (λ e. not_both false e refl, λ k. absurd (r k))

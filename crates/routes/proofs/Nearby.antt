@@ -2,7 +2,7 @@
 -- Assumes nothing.
 use Prim.Native.Nat.{ℕ, ◌<◌}
 use mathlib.Core.Path.{◌≡◌, refl, sym, ap, ◌∙◌}
-use mathlib.Core.Bool.{true, false, not}
+use mathlib.Core.Bool.{false}
 use mathlib.Core.List.{List}
 use native.Mathlib.Omega.{arith}
 use lib.ListN.{length, set}
@@ -11,7 +11,6 @@ use Rattle.grid.specs.Region.{Inside, place_of}
 use Rattle.grid.proofs.Walks.{same_zero}
 use Rattle.grid.proofs.Regions.{place-in, place_one}
 use Rattle.position.specs.declared.View.{View}
-use Rattle.position.specs.Bits.{has}
 use Rattle.position.specs.Laid.{Laid}
 use Rattle.position.specs.Board.{Board, board}
 use Rattle.position.specs.Tally.{any}
@@ -25,21 +24,6 @@ use Rattle.routes.specs.Window.{Window}
 use Rattle.routes.specs.Outlook.{Nobody, friendly, friendly_at, friends}
 use Rattle.routes.proofs.Windows.{window_marked}
 
--- the test of the marks, case by case
-module _ (m : ℕ) where
-  pub friendly_none : has 4 m ≡ false → friendly m ≡ false
-  unfolding friendly
-  friendly_none e = simp e
-
-  module _ (o : has 4 m ≡ true) where
-    pub friendly_depot : has 8 m ≡ true → friendly m ≡ false
-    unfolding friendly
-    friendly_depot e = simp (o, e)
-
-    pub friendly_zone : has 8 m ≡ false → friendly m ≡ not (has 1 m)
-    unfolding friendly
-    friendly_zone e = simp (o, e)
-
 -- a hex's marks say whether it has friends
 pub friendly_marked : (b : Board) (f x : ℕ) {m : ℕ} → Marked (scene b) f x m → friendly m ≡ friends b f x
 unfolding friendly friends
@@ -47,7 +31,7 @@ friendly_marked b f x k = simp (marked_own k, marked_depot k, marked_zone k)
 
 -- if no place shows any but the start's, which is blotted out, there are none near
 module _ {p : List ℕ} {v : View} {f start : ℕ} {at : Region} {l : List ℕ} (d : Laid p v) (k : Window p v f start at l) where
-  pub start_inside : start < v.hexes → Inside v.width v.height at start
+  start_inside : start < v.hexes → Inside v.width v.height at start
   start_inside s = k.round.near start (on_view d start s) (omega (arith, same_zero v.width start))
 
   pub nobody_near :

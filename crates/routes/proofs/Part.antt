@@ -120,13 +120,6 @@ module _ (b : Board) (f start n : ℕ) (route : List ℕ) (e : found (first_rout
       at (no l) =
           ap (λ (j : ℕ). legal b f start j route) (s.most out (omega arith)) ∙ no_legal ∙ sym (no_run (omega arith))
 
-pub tested_most : {t : Bool} {n k r : ℕ} → RouteTested t n k r → r ≤ n
-tested_most {t} {n} {k} {r} s = either t (λ e. omega (arith, s.owed e)) (λ e. at e (dec_lt k n))
-  where
-    at : t ≡ false → Dec (k < n) → r ≤ n
-    at e (yes l) = omega (arith, s.own e l)
-    at e (no l) = omega (arith, s.most e (omega arith))
-
 -- how far a group gets, by what is found
 module _ (b : Board) (f start : ℕ) where
   pub farthest_here : (n : ℕ) → found (first_route b f start n) ≡ true → farthest b f start n ≡ n

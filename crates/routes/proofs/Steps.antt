@@ -1,13 +1,12 @@
 -- Laws of one step of a run: as a fact, as a test, and by its direction.
 -- Assumes nothing.
+use Rattle.std.specs.Prelude.{Option, Some, None}
 use Prim.Native.Nat.{ℕ, ◌+◌, ◌<◌}
 use mathlib.Core.Path.{◌≡◌, refl, sym, ap, ◌∙◌}
 use mathlib.Core.List.{List}
 use mathlib.Core.Bool.{Bool, true, false, cond}
 use lib.Dec.{eqb}
 use borrow.Author.Tests.{eqb-true, eq-eqb}
-use Rattle.grid.specs.declared.Beside.{Beside}
-use Rattle.grid.specs.declared.Beside.TheVariants.{At, Off}
 use Rattle.grid.specs.Walk.{distance_of}
 use Rattle.position.specs.declared.View.{View}
 use Rattle.position.specs.Layout.{width}
@@ -27,13 +26,13 @@ far_view l start x = ap (λ (w : ℕ). distance_of w start x) l.view.width
 
 -- hexes are joined exactly if some step leads from one to the other
 module _ (m : Map) (a x : ℕ) where
-  pub joined_next : joined m a x ≡ true → (d : ℕ) × (next m a d ≡ At x)
+  pub joined_next : joined m a x ≡ true → (d : ℕ) × (next m a d ≡ Some x)
   unfolding reaches
   joined_next e =
       let s = any_some (reaches m a x) 6 (sym (joined_is m a x) ∙ e) in
       (s.at, is-at (next m a s.at) x s.passes)
 
-  pub next_joined : (d : ℕ) → next m a d ≡ At x → joined m a x ≡ true
+  pub next_joined : (d : ℕ) → next m a d ≡ Some x → joined m a x ≡ true
   unfolding reaches
   next_joined d e = joined_is m a x ∙ any_true (reaches m a x) 6 d (next_dir m a d x e) (at_is e)
 
@@ -42,16 +41,9 @@ joined_in {p} l a x e = let s = joined_next (ground p) a x e in next_in_lem l.vi
 
 -- the test of the hex entered
 module _ (b : Board) (f start i x : ℕ) where
-  pub enters_not : eqb (distance_of b.map.width start x) (i + 1) ≡ false → enters b f start i x ≡ false
-  unfolding enters
-  enters_not e = simp e
-
-  pub enters_there : eqb (distance_of b.map.width start x) (i + 1) ≡ true → enters b f start i x ≡ refuge b f x
-  unfolding enters
-  enters_there e = simp e
-
   enters_away : distance_of b.map.width start x ≡ i + 1 → enters b f start i x ≡ refuge b f x
-  enters_away e = enters_there (eq-eqb (distance_of b.map.width start x) (i + 1) e)
+  unfolding enters
+  enters_away e = simp (eq-eqb (distance_of b.map.width start x) (i + 1) e)
 
   enters_is : enters b f start i x ≡ true → (distance_of b.map.width start x ≡ i + 1) × (refuge b f x ≡ true)
   unfolding enters
@@ -74,23 +66,9 @@ module _ (b : Board) (f start i a : ℕ) where
   step_steps {d} {x} s =
       simp (next_joined b.map a x d s.leads, enters_away b f start i x s.away, s.into)
 
-  -- and by its direction: no step, one into a hex that may be entered, and one that may not
-  module _ (d : ℕ) {s : Beside} (q : s ≡ next b.map a d) where
-    pub step_off : s ≡ Off → Off ≡ step_of b f start i a d
-    unfolding step_of entered
-    step_off e = simp (sym q ∙ e)
-
-    module _ {x : ℕ} {t : Bool} (e : s ≡ At x) (r : t ≡ enters b f start i x) where
-      pub step_lands : t ≡ true → At x ≡ step_of b f start i a d
-      unfolding step_of entered
-      step_lands g = simp (sym q ∙ e, sym r ∙ g)
-
-      pub step_barred : t ≡ false → Off ≡ step_of b f start i a d
-      unfolding step_of entered
-      step_barred g = simp (sym q ∙ e, sym r ∙ g)
-
+  -- and by its direction
   module _ (d x : ℕ) where
-    lands : (y : ℕ) (t : Bool) → next b.map a d ≡ At y → enters b f start i y ≡ t → cond t (At y) Off ≡ At x
+    lands : (y : ℕ) (t : Bool) → next b.map a d ≡ Some y → enters b f start i y ≡ t → cond t (Some y) None ≡ Some x
         → Step b f start i a d x
     lands y true e g q =
         let yx : y ≡ x = cc in
@@ -98,15 +76,15 @@ module _ (b : Board) (f start i a : ℕ) where
         record { leads = rw yx at e; into = k.1; away = k.0 }
     lands y false e g q = off_at refl q
 
-    leads : (r : Beside) → next b.map a d ≡ r → entered b f start i r ≡ At x → Step b f start i a d x
+    leads : (r : Option ℕ) → next b.map a d ≡ r → entered b f start i r ≡ Some x → Step b f start i a d x
     unfolding entered
-    leads (At y) e q = lands y (enters b f start i y) e refl q
-    leads Off e q = off_at refl q
+    leads (Some y) e q = lands y (enters b f start i y) e refl q
+    leads None e q = off_at refl q
 
-    pub step_is : step_of b f start i a d ≡ At x → Step b f start i a d x
+    pub step_is : step_of b f start i a d ≡ Some x → Step b f start i a d x
     unfolding step_of
     step_is q = leads (next b.map a d) refl q
 
-    pub is_step : Step b f start i a d x → step_of b f start i a d ≡ At x
+    pub is_step : Step b f start i a d x → step_of b f start i a d ≡ Some x
     unfolding step_of entered
     is_step s = simp (s.leads, enters_away b f start i x s.away, s.into)

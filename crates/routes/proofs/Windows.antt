@@ -2,14 +2,13 @@
 -- Assumes nothing.
 use Prim.Native.Nat.{ℕ, ◌*◌}
 use mathlib.Core.Path.{◌≡◌, sym, ap, ap₂, subst, ◌∙◌}
-use mathlib.Core.Bool.{true, false, not, and-false, not-not}
+use mathlib.Core.Bool.{true, false, and-false, not-not}
 use mathlib.Core.List.{List}
 use native.Mathlib.Omega.{arith}
 use lib.ListN.{length}
 use Rattle.grid.specs.declared.region.Region.{Region}
 use Rattle.grid.specs.Region.{Inside, place_of, Round}
 use Rattle.position.specs.declared.View.{View}
-use Rattle.position.specs.Bits.{has}
 use Rattle.position.specs.Layout.{byte, width}
 use Rattle.position.specs.Laid.{Laid}
 use Rattle.position.specs.Board.{Board, board}
@@ -20,15 +19,6 @@ use Rattle.paint.specs.Paint.{Marked, Shows}
 use Rattle.paint.proofs.Units.{marked_zone, marked_held}
 use Rattle.routes.specs.Bears.{bears, refuge}
 use Rattle.routes.specs.Window.{free, most, Window}
-
--- a hex that is held is not free; another is by its zone
-pub free_held : (m : ℕ) → has 16 m ≡ true → free m ≡ false
-unfolding free
-free_held m e = simp e
-
-pub free_vacant : (m : ℕ) → has 16 m ≡ false → free m ≡ not (has 1 m)
-unfolding free
-free_vacant m e = simp e
 
 -- a refuge is where a unit may stand, and free
 module _ (b : Board) (f h : ℕ) where

@@ -1,12 +1,11 @@
 -- Beside what is certain: examples.
 -- A small board on which zones and the search are computed.
 -- Assumes nothing.
-use Rattle.std.specs.Prelude.{ℕ, zero, suc, ◌≡◌, refl, true, false, [], ◌∷◌, map}
+use Rattle.std.specs.Prelude.{ℕ, zero, suc, ◌≡◌, refl, true, false, [], ◌∷◌, map, Some, None}
 use Rattle.position.specs.Board.{Board, nowhere}
 use Rattle.position.specs.Kind.{force, casts_zone}
 use Rattle.field.specs.Scene.{force_in}
 use Rattle.field.specs.Zone.{holds, supply_unit_on}
-use Rattle.routes.specs.declared.Found.TheVariants.{Route, Nothing}
 use Rattle.routes.specs.Bears.{bears, refuge}
 use Rattle.routes.specs.Search.{entered, step_of, first_of, go_on, first_route}
 use Rattle.routes.specs.Part.{is_run, no_longer, part_route}
@@ -55,15 +54,15 @@ unfolding searching
 who_is_near = (refl, refl, refl)
 
 -- the first route on the plain board, one past the zones, and none out of the corner that they close
-pub northward : first_route plain 0 12 2 ≡ Route 7 2 nowhere
+pub northward : first_route plain 0 12 2 ≡ Some (7, 2, nowhere)
 unfolding searching
 northward = refl
 
-pub past_zones : first_route watched 0 12 3 ≡ Route 8 3 4
+pub past_zones : first_route watched 0 12 3 ≡ Some (8, 3, 4)
 unfolding searching
 past_zones = refl
 
-pub cornered : first_route watched 0 0 1 ≡ Nothing
+pub cornered : first_route watched 0 0 1 ≡ None
 unfolding searching
 cornered = refl
 

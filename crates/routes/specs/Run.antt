@@ -1,7 +1,6 @@
 -- Runs: routes whose every hex lies one step further from the start than the one before.
 -- Assumes nothing.
-use Rattle.std.specs.Prelude.{ℕ, suc, ◌+◌, ◌≡◌, List, [], ◌∷◌, true, length}
-use Rattle.grid.specs.declared.Beside.TheVariants.{At}
+use Rattle.std.specs.Prelude.{ℕ, suc, ◌+◌, ◌≡◌, List, [], ◌∷◌, true, length, Some}
 use Rattle.grid.specs.Walk.{distance_of}
 use Rattle.position.specs.Board.{Board}
 use Rattle.position.specs.Ground.{next}
@@ -10,7 +9,7 @@ use Rattle.routes.specs.Bears.{refuge}
 -- "steps over unblocked sides, into vacant unprohibited land or coast outside Enemy zones": after i steps from the start a group of force f
 -- goes on from hex a in direction d into hex x, at distance i + 1
 pub record Step (b : Board) (f start i a d x : ℕ) : Type 0 where
-  pub leads : next b.map a d ≡ At x
+  pub leads : next b.map a d ≡ Some x
   pub into : refuge b f x ≡ true
   pub away : distance_of b.map.width start x ≡ i + 1
 

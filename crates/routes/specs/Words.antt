@@ -1,7 +1,6 @@
 -- A legal route in the document's words.
 -- Assumes nothing.
-use Rattle.std.specs.Prelude.{ℕ, ◌≡◌, List, [], ◌∷◌, true, ◌↔◌, length}
-use Rattle.grid.specs.declared.Beside.TheVariants.{At}
+use Rattle.std.specs.Prelude.{ℕ, ◌≡◌, List, [], ◌∷◌, true, ◌↔◌, length, Some}
 use Rattle.grid.specs.Map.{On}
 use Rattle.grid.specs.Walk.{Distance}
 use Rattle.position.specs.Board.{Board}
@@ -13,7 +12,7 @@ use Rattle.routes.specs.Run.{LegalRoute}
 pub data Steps (b : Board) (f : ℕ) : ℕ → List ℕ → ℕ → Type 0 where
   stop : {a : ℕ} → Steps b f a [] a
   enter :
-      {a x last : ℕ} {route : List ℕ} (d : ℕ) → next b.map a d ≡ At x → refuge b f x ≡ true → Steps b f x route last
+      {a x last : ℕ} {route : List ℕ} (d : ℕ) → next b.map a d ≡ Some x → refuge b f x ≡ true → Steps b f x route last
       → Steps b f a (x ∷ route) last
 
 -- "Legal: n steps .., ending at distance n."

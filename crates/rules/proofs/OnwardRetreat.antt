@@ -1,6 +1,7 @@
 -- A retreat goes on: the first group that owes is sent a legal route or series of pushes, or its part route where it is destroyed, and
 -- fewer units owe afterwards.
 -- Assumes nothing.
+use Rattle.std.specs.Prelude.{Option, Some, None}
 use Prim.Native.Nat.{ℕ, ◌≤◌, ◌<◌}
 use mathlib.Core.Path.{◌≡◌, refl, sym, ap, subst, ◌∙◌}
 use mathlib.Core.Bool.{true, false}
@@ -26,8 +27,6 @@ use Rattle.field.proofs.Lists.{sieve_at, sieve_long}
 use Rattle.routes.specs.Run.{LegalRoute, Run, stay}
 use Rattle.routes.specs.Part.{PartRoute, farthest}
 use Rattle.routes.specs.Search.{Searched, first_route, found, route_of}
-use Rattle.routes.specs.declared.Found.{Found}
-use Rattle.routes.specs.declared.Found.TheVariants.{Nothing, Route}
 use Rattle.routes.proofs.First.{first_right, found_right}
 use Rattle.routes.proofs.Legal.{legal_right}
 use Rattle.routes.proofs.Part.{none_shorter, part_right, farthest_here, farthest_right}
@@ -104,13 +103,13 @@ sent_same n (x ∷ y ∷ z ∷ []) e l = ap (λ (k : ℕ). take k (x ∷ y ∷ z
 sent_same n (x ∷ y ∷ z ∷ w ∷ route) e l = absurd (omega arith)
 
 -- the route that was found, as it is sent
-sent_legally : (b : Board) (f h n : ℕ) → n ≤ 3 → (y : Found) → found y ≡ true → Searched b f h n y → LegalRoute b f h n (sent_route n y)
+sent_legally : (b : Board) (f h n : ℕ) → n ≤ 3 → (y : Option (ℕ × ℕ × ℕ)) → found y ≡ true → Searched b f h n y → LegalRoute b f h n (sent_route n y)
 unfolding sent_route
-sent_legally b f h n l (Route x y z) t s =
+sent_legally b f h n l (Some (x, y, z)) t s =
     let k = s.1.legal in
-    let e : s.0 ≡ sent_route n (Route x y z) = sym (sent_same n s.0 k.long l) ∙ ap (sent_route n) s.2 in
+    let e : s.0 ≡ sent_route n (Some (x, y, z)) = sym (sent_same n s.0 k.long l) ∙ ap (sent_route n) s.2 in
     subst (λ (r : List ℕ). LegalRoute b f h n r) e k
-sent_legally b f h n l Nothing t s = not_both false t refl
+sent_legally b f h n l None t s = not_both false t refl
 
 -- the run of as many steps as the group makes is legal where a legal route exists, and else a part route
 module _ (b : Board) (h : ℕ) (l : b.desk.battle.owed ≤ 3) where

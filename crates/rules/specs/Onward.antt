@@ -1,7 +1,7 @@
 -- Never stuck: in every accepted position that is not the end of the game a call is accepted, and calls so chosen come to the end.
 -- Proved in proofs/Onward.antt.
 -- Assumes nothing.
-use Rattle.std.specs.Prelude.{ℕ, ◌+◌, ◌≤◌, ◌<◌, ◌≡◌, Bool, true, false, cond, ◌&&◌, List, [], ◌∷◌, get_or, length, replicate, take, eqb}
+use Rattle.std.specs.Prelude.{ℕ, ◌+◌, ◌≤◌, ◌<◌, ◌≡◌, Bool, true, false, cond, ◌&&◌, List, [], ◌∷◌, get_or, length, replicate, take, eqb, Option, Some, None}
 use Rattle.position.specs.Role as Role
 use Rattle.position.specs.Stage as Stage
 use Rattle.position.specs.Board.{Board, board}
@@ -11,8 +11,6 @@ use Rattle.acceptance.specs.Accepted.{Accepted}
 use Rattle.ruling.specs.Answers.{IsAccepted}
 use Rattle.ruling.specs.Secret.{Sent}
 use Rattle.field.specs.Listed.{sieve}
-use Rattle.routes.specs.declared.Found.{Found}
-use Rattle.routes.specs.declared.Found.TheVariants.{Route, Nothing}
 use Rattle.routes.specs.Search.{first_route}
 use Rattle.routes.specs.Part.{farthest}
 use Rattle.clock.specs.Clock.{is_last, phases_left}
@@ -36,9 +34,9 @@ unfoldable pub first_owing : Board → ℕ
 first_owing b = b.units.state.hex (get_or (all_owing b) 0 0)
 
 -- "a route of 0..3": the n hexes of a route that was found
-unfoldable pub sent_route : ℕ → Found → List ℕ
-sent_route n (Route x y z) = take n (x ∷ y ∷ z ∷ [])
-sent_route n Nothing = []
+unfoldable pub sent_route : ℕ → Option (ℕ × ℕ × ℕ) → List ℕ
+sent_route n (Some (x, y, z)) = take n (x ∷ y ∷ z ∷ [])
+sent_route n None = []
 
 -- a series of pushes for the group of hex h
 unfoldable pub pushed_for : Board → ℕ → Sought

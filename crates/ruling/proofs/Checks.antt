@@ -1,12 +1,11 @@
 -- What the check's answer settles: a broken position is refused by 1, and on an accepted one whoever meets the rule meets the verdict.
 -- Assumes nothing.
+use Rattle.std.specs.Prelude.{Option, Some, None}
 use Prim.Native.Nat.{ℕ}
 use mathlib.Core.Path.{◌≡◌, subst}
 use mathlib.Core.List.{List}
 use Rattle.position.specs.Laid.{Laid}
 use Rattle.position.specs.declared.View.{View}
-use Rattle.position.specs.declared.Checked.{Checked}
-use Rattle.position.specs.declared.Checked.TheVariants.{Whole, Broken}
 use Rattle.acceptance.specs.Accepted.{Accepted}
 use Rattle.acceptance.specs.Broken.{broken_true, broken_false}
 use Rattle.acceptance.specs.Checked.{CheckedOf}
@@ -20,10 +19,10 @@ unfolding after_check
 checked y g = pass (broken_false y) g
 
 -- at the check
-pub unchecked : {p l : List ℕ} {r : Checked} (v : Verdict) → CheckedOf p r → r ≡ Broken → Met p l (after_check p v) (refused 1 0) p l
+pub unchecked : {p l : List ℕ} {r : Option View} (v : Verdict) → CheckedOf p r → r ≡ None → Met p l (after_check p v) (refused 1 0) p l
 unfolding after_check
 unchecked v o e = stop (broken_true (subst (CheckedOf _) e o))
 
 -- the position taken apart is accepted, and laid out as its view says
-pub whole : {p : List ℕ} {r : Checked} {w : View} → CheckedOf p r → r ≡ Whole w → Accepted p × Laid p w
+pub whole : {p : List ℕ} {r : Option View} {w : View} → CheckedOf p r → r ≡ Some w → Accepted p × Laid p w
 whole o e = subst (CheckedOf _) e o

@@ -2,14 +2,15 @@
 -- Assumes nothing.
 use Prim.Native.Nat.{ℕ, ◌+◌, ◌≤◌, ◌<◌}
 use mathlib.Core.List.{List}
+use Rattle.std.specs.Prelude.{Result, Ok, Err}
 use mathlib.Core.Path.{◌≡◌, subst}
 use native.Mathlib.Omega.{arith}
 use lib.ListN.{length, get_or, drop, drop_of_length-le}
 use Rattle.ruling.specs.Verdict.{Verdict, Ruling, Met, along}
 use Rattle.ruling.specs.Verdict.Ruling.{refused}
 use Rattle.ruling.specs.Judged.{Passes, Stops, TestedOf}
-use Rattle.ruling.specs.declared.Tested.{Tested}
-use Rattle.ruling.specs.declared.Tested.TheVariants as T
+use Rattle.ruling.specs.Refused.{refused_as}
+use Rattle.ruling.specs.declared.refusal.Refusal.{Refusal}
 use Rattle.ruling.proofs.Meets.{along_at}
 
 -- The tests along a path whose places are counted from k on are passed before element i, where they have come to s: what meets the tests
@@ -66,6 +67,6 @@ module _ {S : Type 0} {k : ℕ} {p : List ℕ} {test : S → ℕ → ℕ → Ver
 pub tested_through :
     {p : List ℕ} {f g : Verdict → Verdict} {P Q : Type 0}
     → ((l : List ℕ) (v : Verdict) (a : Ruling) (q m : List ℕ) → Met p l (f v) a q m → Met p l (g v) a q m) → (P → Q)
-    → (r : Tested) → TestedOf p f P r → TestedOf p g Q r
-tested_through t h T.Passed o = (λ l v a q m w. t l v a q m (o.0 l v a q m w), h o.1)
-tested_through {p} t h (T.Stopped n k) o = λ l v. t l v (refused n k) p l (o l v)
+    → (r : Result (Unit {0}) Refusal) → TestedOf p f P r → TestedOf p g Q r
+tested_through t h (Ok u) o = (λ l v a q m w. t l v a q m (o.0 l v a q m w), h o.1)
+tested_through {p} t h (Err r) o = λ l v. t l v (refused_as r) p l (o l v)

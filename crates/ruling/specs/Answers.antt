@@ -1,17 +1,17 @@
 -- What an answer says: the code's answers in document 01's numbers, and words for theorems, which a value more leaves as they are.
 -- Assumes nothing.
-use Rattle.std.specs.Prelude.{ℕ, ◌≡◌}
+use Rattle.std.specs.Prelude.{ℕ, ◌≡◌, Result, Ok, Err}
 use Rattle.ruling.specs.Values.{Values, accepting}
 use Rattle.ruling.specs.Values.Manner.{retreated, destroyed}
 use Rattle.ruling.specs.Verdict.{Ruling}
 use Rattle.ruling.specs.Verdict.Ruling.{refused, accepted}
-use Rattle.ruling.specs.declared.Answer.{Answer}
-use Rattle.ruling.specs.declared.Answer.TheVariants as A
+use Rattle.ruling.specs.Refused.{refused_as}
+use Rattle.ruling.specs.declared.refusal.Refusal.{Refusal}
 
 -- "Calls with no answer named above answer accepted."
-abbrev pub answer_as : Answer → Ruling
-answer_as A.Accepted = accepted accepting
-answer_as (A.Refused n k) = refused n k
+abbrev pub answer_as : Result (Unit {0}) Refusal → Ruling
+answer_as (Ok u) = accepted accepting
+answer_as (Err r) = refused_as r
 
 -- it is accepted
 abbrev pub IsAccepted : Ruling → Type 0

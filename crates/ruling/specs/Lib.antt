@@ -1,5 +1,6 @@
 pub mod Values
 pub mod Verdict
+pub mod Refused
 pub mod Answers
 pub mod Packed
 pub mod Judged

@@ -1,16 +1,8 @@
-// The language of rulings stands in specs/, with its laws in proofs/. The code shares two answers.
+// The language of rulings stands in specs/, with its laws in proofs/. The code shares why a call is refused.
 #![tactic(auto)]
 
-// The answer of a call that is accepted or refused, and no more: a refusal has its number and its place, counted from 1, or 0 for none.
-#[derive(Clone, Copy)]
-pub enum Answer {
-    Accepted,
-    Refused(usize, usize),
-}
+ghost use Rattle.std.specs.Prelude.{◌≡◌};
 
-// What a row of tests answers: passed, or a refusal's number and place.
-#[derive(Clone, Copy)]
-pub enum Tested {
-    Passed,
-    Stopped(usize, usize),
-}
+pub mod refusal;
+
+pub use refusal::Refusal;

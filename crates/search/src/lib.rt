@@ -7,7 +7,6 @@ ghost use Rattle.plot.specs.Ends.{Blank};
 ghost use Rattle.plot.specs.Search.{serves_in, over_in, shoves_in};
 
 use chains::Stand;
-use grid::Beside;
 use plot::chain;
 
 // Whether the group goes from place `a` over place `x` as its last step.
@@ -31,7 +30,7 @@ fn last(plot: &[u8; 182], home: usize, i: usize, a: usize) -> bool
     ensures { result ≡ serves_in home plot.now 1 i a }
 {
     for d in 0..6 {
-        let Beside::At(x) = plot::next_in(plot, a, d) else {
+        let Some(x) = plot::next_in(plot, a, d) else {
             continue;
         };
         if last_over(plot, home, i, a, x) {
@@ -132,7 +131,7 @@ fn serves(plot: &mut [u8; 182], home: usize, k: usize, i: usize, a: usize) -> bo
     ensures { (result ≡ serves_in home plot.old k i a) × (plot.new ≡ plot.old) }
 {
     for d in 0..6 {
-        let Beside::At(x) = plot::next_in(plot, a, d) else {
+        let Some(x) = plot::next_in(plot, a, d) else {
             continue;
         };
         if over(plot, home, k - 1, i, a, x) {

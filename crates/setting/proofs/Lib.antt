@@ -1,2 +1,2 @@
+pub mod Spans
 pub mod Rims
-pub mod Hexes

@@ -5,16 +5,13 @@ use mathlib.Core.Path.{◌≡◌, sym, subst, ap₂, ◌∙◌}
 use mathlib.Core.List.{List}
 use native.Mathlib.Omega.{arith}
 use native.Mathlib.Decide.{dec_lt, ℕ_discrete}
-use Rattle.grid.specs.Map.{On}
 use Rattle.grid.specs.Rim.{RimHex, RimNext}
-use Rattle.grid.proofs.Rims.{rim_first}
 use Rattle.position.specs.declared.View.{View}
 use Rattle.position.specs.Layout.{hexes}
 use Rattle.position.specs.Board.{Map, ground}
 use Rattle.position.specs.Ground.{stored}
 use Rattle.position.specs.Laid.{Laid}
-use Rattle.position.proofs.Answers.{Passed, none_yet}
-use Rattle.position.proofs.Shapes.{sizes}
+use Rattle.position.proofs.Answers.{Passed}
 use Rattle.position.proofs.Sides.{beside_view}
 use Rattle.setting.specs.Rim.{EdgesOk}
 
@@ -36,14 +33,6 @@ module _ {p : List ℕ} {v : View} (l : Laid p v) where
   area : v.hexes ≡ v.width * v.height
   unfolding hexes
   area = l.view.hexes ∙ sym (ap₂ ◌*◌ l.view.width l.view.height)
-
-  first : 0 < v.hexes → On v.width v.height 0
-  first k =
-      let s = sizes l in
-      record { wide = s.width.low; wide64 = s.width.high; high = s.height.low; high64 = s.height.high; below = omega (arith, area) }
-
-  pub round_begins : Round p v 0
-  round_begins = record { passed = none_yet; rim = λ k. rim_first (first k) }
 
   pub round_goes_on : {x r : ℕ} → Round p v x → EdgesOk (ground p) x → RimNext v.width v.height x r → Round p v r
   round_goes_on {x} {r} s e n =

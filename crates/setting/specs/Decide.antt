@@ -1,10 +1,8 @@
 -- Decisions, put together from smaller ones.
 -- Assumes nothing.
-use Rattle.std.specs.Prelude.{ℕ, zero, suc, ◌<◌, ◌≡◌, refl, Bool, true, false}
+use Rattle.std.specs.Prelude.{ℕ, zero, suc, ◌<◌, ◌≡◌, refl, Bool, true, false, Option, Some, None}
 use Rattle.std.proofs.Common.{arith}
 use Rattle.std.proofs.Math.Decide.{ℕ_discrete}
-use Rattle.grid.specs.declared.Beside.{Beside}
-use Rattle.grid.specs.declared.Beside.TheVariants.{At, Off}
 
 -- what follows from each other is decided together
 unfoldable pub iff : {A B : Type 0} → (A → B) → (B → A) → Dec A → Dec B
@@ -43,9 +41,9 @@ unfoldable pub holds? : (t : Bool) → Dec (t ≡ true)
 holds? true = yes refl
 holds? false = no (λ e. let z : ◌≡◌ {A = ℕ} 0 1 = cc in omega arith)
 
-unfoldable pub off? : (b : Beside) → Dec (b ≡ Off)
-off? Off = yes refl
-off? (At n) = no (λ e. let z : ◌≡◌ {A = ℕ} 0 1 = cc in omega arith)
+unfoldable pub off? : (b : Option ℕ) → Dec (b ≡ None)
+off? None = yes refl
+off? (Some n) = no (λ e. let z : ◌≡◌ {A = ℕ} 0 1 = cc in omega arith)
 
 -- whether a decision says no
 unfoldable pub answers_no : {A : Type 0} → Dec A → Bool

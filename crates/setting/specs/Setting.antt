@@ -1,7 +1,6 @@
 -- The lines of document 01 on chart, results and map: what no call changes.
 -- Assumes nothing.
-use Rattle.std.specs.Prelude.{ℕ, ◌+◌, ◌*◌, ◌≤◌, ◌<◌, ◌≡◌}
-use Rattle.grid.specs.declared.Beside.TheVariants.{Off}
+use Rattle.std.specs.Prelude.{ℕ, ◌+◌, ◌*◌, ◌≤◌, ◌<◌, ◌≡◌, None}
 use Rattle.position.specs.Board.{Chart, Results, Map}
 use Rattle.position.specs.Ground.{beside, stored}
 use Rattle.position.specs.Shape.{In}
@@ -41,7 +40,7 @@ pub record HexOk (m : Map) (h : ℕ) : Type 0 where
 
 -- "off-map sides 0": a stored side that no hex lies beyond
 pub record EdgeOk (m : Map) (h d : ℕ) : Type 0 where
-  pub plain : beside m h d ≡ Off → stored m h d ≡ 0
+  pub plain : beside m h d ≡ None → stored m h d ≡ 0
 
 -- "Map: width, height; per hex" five numbers: hexes number width x height, and N, NE and SE are the directions 0, 1 and 2
 pub record MapOk (m : Map) : Type 0 where

@@ -12,25 +12,14 @@ fn terrain_ok(p: &[u8], v: View, t: usize) -> bool
     requires { Laid p.now v }
     ensures { Says result (TerrainOk (chart p.now) t) }
 {
-    if 9 < read::cost(p, v, t) {
-        return false;
-    }
-    if !shape::within(1, read::multiple(p, v, t), 4) {
-        return false;
-    }
-    true
+    read::cost(p, v, t) <= 9 && shape::within(1, read::multiple(p, v, t), 4)
 }
 
 pub fn chart_ok(p: &[u8], v: View) -> bool
     requires { Laid p.now v }
     ensures { Says result (ChartOk (chart p.now)) }
 {
-    for t in 0..layout::CHART_ROWS {
-        if !terrain_ok(p, v, t) {
-            return false;
-        }
-    }
-    true
+    (0..layout::CHART_ROWS).all(|t| terrain_ok(p, v, t))
 }
 
 // The six codes of a column.
@@ -38,38 +27,23 @@ fn codes_ok(p: &[u8], v: View, c: usize) -> bool
     requires { Laid p.now v }
     ensures { Says result ((die : ℕ) → die < die_faces → In 1 ((results p.now).code c (die + 1)) 10) }
 {
-    for die in 0..layout::DIE_FACES {
-        if !shape::within(1, read::code(p, v, c, die + 1), 10) {
-            return false;
-        }
-    }
-    true
+    (0..layout::DIE_FACES).all(|die| shape::within(1, read::code(p, v, c, die + 1), 10))
 }
 
 fn column_ok(p: &[u8], v: View, c: usize) -> bool
     requires { Laid p.now v }
     ensures { Says result (ColumnOk (results p.now) c) }
 {
-    if !shape::within(1, read::attack_odds(p, v, c), 20) {
-        return false;
-    }
-    if !shape::within(1, read::defence_odds(p, v, c), 20) {
-        return false;
-    }
-    codes_ok(p, v, c)
+    shape::within(1, read::attack_odds(p, v, c), 20)
+        && shape::within(1, read::defence_odds(p, v, c), 20)
+        && codes_ok(p, v, c)
 }
 
 fn columns_ok(p: &[u8], v: View) -> bool
     requires { Laid p.now v }
     ensures { Says result ((c : ℕ) → c < (results p.now).columns → ColumnOk (results p.now) c) }
 {
-    let columns = v.columns;
-    for c in 0..columns {
-        if !column_ok(p, v, c) {
-            return false;
-        }
-    }
-    true
+    (0..v.columns).all(|c| column_ok(p, v, c))
 }
 
 // The ratio grows from column `c` to the next, by cross product.
@@ -79,36 +53,19 @@ fn rising_ok(p: &[u8], v: View, c: usize) -> bool
 {
     let here = read::attack_odds(p, v, c) * read::defence_odds(p, v, c + 1);
     let there = read::attack_odds(p, v, c + 1) * read::defence_odds(p, v, c);
-    if there <= here {
-        return false;
-    }
-    true
+    here < there
 }
 
 fn risings_ok(p: &[u8], v: View) -> bool
     requires { Laid p.now v }
     ensures { Says result ((c : ℕ) → c + 1 < (results p.now).columns → RisingOk (results p.now) c) }
 {
-    let columns = v.columns;
-    let mut c = 0;
-    while c + 1 < columns {
-        if !rising_ok(p, v, c) {
-            return false;
-        }
-        c += 1;
-    }
-    true
+    (0..v.columns.saturating_sub(1)).all(|c| rising_ok(p, v, c))
 }
 
 pub fn results_ok(p: &[u8], v: View) -> bool
     requires { Laid p.now v }
     ensures { Says result (ResultsOk (results p.now)) }
 {
-    if !columns_ok(p, v) {
-        return false;
-    }
-    if !risings_ok(p, v) {
-        return false;
-    }
-    true
+    columns_ok(p, v) && risings_ok(p, v)
 }

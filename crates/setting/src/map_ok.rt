@@ -5,7 +5,7 @@ ghost use Rattle.setting.specs.Setting.{EdgeOk, HexOk, MapOk};
 ghost use Rattle.setting.specs.Rim.{EdgesOk};
 ghost use Rattle.position.specs.Laid.{Laid, Says};
 
-use grid::{Beside, rim};
+use grid::rim;
 use position::{View, layout, read};
 
 // Each number of a hex is measured, whatever the one before it says: without a branch between them the compiler measures many at once.
@@ -22,6 +22,7 @@ fn hex_ok(p: &[u8], v: View, h: usize) -> bool
 }
 
 // The sixteen hexes from hex `first` on, all of them whatever the first one says, for the same reason.
+// A loop and no fold: that the closure may be asked is not found where its answer changes with each call.
 fn sixteen_ok(p: &[u8], v: View, first: usize) -> bool
     requires { Laid p.now v × (first + 16 ≤ v.hexes) }
     ensures { Says result ((k : ℕ) → k < 16 → HexOk (ground p.now) (first + k)) }
@@ -33,33 +34,13 @@ fn sixteen_ok(p: &[u8], v: View, first: usize) -> bool
     fit
 }
 
-// The hexes from hex `first` on, one by one: all before it are as they should be.
-fn rest_ok(p: &[u8], v: View, first: usize) -> bool
-    requires { Laid p.now v × (first ≤ v.hexes) × ((h : ℕ) → h < first → HexOk (ground p.now) h) }
-    ensures { Says result ((h : ℕ) → h < (ground p.now).hexes → HexOk (ground p.now) h) }
-{
-    let hexes = v.hexes;
-    for h in first..hexes {
-        if !hex_ok(p, v, h) {
-            return false;
-        }
-    }
-    true
-}
-
+// Sixteen hexes at a time, and the last ones one by one.
 fn hexes_ok(p: &[u8], v: View) -> bool
     requires { Laid p.now v }
     ensures { Says result ((h : ℕ) → h < (ground p.now).hexes → HexOk (ground p.now) h) }
 {
-    let hexes = v.hexes;
-    let mut h = 0;
-    while h + 16 <= hexes {
-        if !sixteen_ok(p, v, h) {
-            return false;
-        }
-        h += 16;
-    }
-    rest_ok(p, v, h)
+    let whole = v.hexes / 16;
+    (0..whole).all(|k| sixteen_ok(p, v, 16 * k)) && (16 * whole..v.hexes).all(|h| hex_ok(p, v, h))
 }
 
 // A stored side that no hex lies beyond is 0.
@@ -68,7 +49,7 @@ fn edge_ok(p: &[u8], v: View, h: usize, d: usize) -> bool
     requires { Laid p.now v × (d < 3) }
     ensures { Says result (EdgeOk (ground p.now) h d) }
 {
-    if let Beside::At(_) = grid::neighbour(v.width, v.height, h, d) {
+    if let Some(_) = grid::neighbour(v.width, v.height, h, d) {
         return true;
     }
     if ground::stored(p, v, h, d) != 0 {
@@ -82,15 +63,7 @@ fn edges_ok(p: &[u8], v: View, h: usize) -> bool
     requires { Laid p.now v }
     ensures { Says result (EdgesOk (ground p.now) h) }
 {
-    if read::sides(p, v, h) == 0 {
-        return true;
-    }
-    for d in 0..3 {
-        if !edge_ok(p, v, h, d) {
-            return false;
-        }
-    }
-    true
+    read::sides(p, v, h) == 0 || (0..3).all(|d| edge_ok(p, v, h, d))
 }
 
 // Off-map sides are 0: only hexes of the rim have a side N, NE or SE with no hex beyond it.
@@ -109,15 +82,10 @@ fn rim_ok(p: &[u8], v: View) -> bool
     true
 }
 
+#[tactic(auto, unfolding(position::specs::Layout::hexes))]
 pub fn map_ok(p: &[u8], v: View) -> bool
     requires { Laid p.now v }
     ensures { Says result (MapOk (ground p.now)) }
 {
-    if !hexes_ok(p, v) {
-        return false;
-    }
-    if !rim_ok(p, v) {
-        return false;
-    }
-    true
+    hexes_ok(p, v) && rim_ok(p, v)
 }

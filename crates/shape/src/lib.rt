@@ -6,10 +6,10 @@ ghost use Rattle.position.specs.Layout.{desk_body, chart_at, columns, width, hei
 ghost use Rattle.position.specs.Shape.{In, Entry};
 ghost use Rattle.position.specs.Laid.{LaidOf, SizedOf, Says};
 
-use position::{Checked, View, layout};
+use position::{View, layout};
 
 // The units' count, and the whole: what the columns and the map leave to ask.
-fn with_units(p: &[u8], cols: usize, wide: usize, high: usize) -> Checked
+fn with_units(p: &[u8], cols: usize, wide: usize, high: usize) -> Option<View>
     requires cols_value { (cols ≡ columns p.now) × In 1 cols 12 }
     requires wide_value { (wide ≡ width p.now) × In 1 wide 64 }
     requires high_value { (high ≡ height p.now) × In 1 high 64 }
@@ -22,18 +22,18 @@ fn with_units(p: &[u8], cols: usize, wide: usize, high: usize) -> Checked
         + layout::MAP_HEAD
         + layout::HEX_SIZE * hexes;
     if p.len() < units + layout::UNITS_HEAD {
-        return Checked::Broken;
+        return None;
     }
     let count = layout::word(p, units);
     if layout::MOST_UNITS < count {
-        return Checked::Broken;
+        return None;
     }
     let desk = units + layout::UNITS_HEAD + layout::UNIT_SIZE * count;
     let players = layout::players_named(p);
     if p.len() != desk + layout::PLAYERS + players {
-        return Checked::Broken;
+        return None;
     }
-    Checked::Whole(View {
+    Some(View {
         width: wide,
         height: high,
         hexes,
@@ -46,21 +46,21 @@ fn with_units(p: &[u8], cols: usize, wide: usize, high: usize) -> Checked
 }
 
 // The map's width and height, and what follows them.
-fn with_map(p: &[u8], cols: usize) -> Checked
+fn with_map(p: &[u8], cols: usize) -> Option<View>
     requires { (cols ≡ columns p.now) × In 1 cols 12 }
     ensures { SizedOf p.now result }
 {
     let map = layout::RESULTS + layout::RESULTS_HEAD + layout::COLUMN_SIZE * cols;
     if p.len() < map + layout::MAP_HEAD {
-        return Checked::Broken;
+        return None;
     }
     let wide = layout::wide(p[map + layout::WIDTH]);
     let high = layout::wide(p[map + layout::HEIGHT]);
     if !within(1, wide, 64) {
-        return Checked::Broken;
+        return None;
     }
     if !within(1, high, 64) {
-        return Checked::Broken;
+        return None;
     }
     with_units(p, cols, wide, high)
 }
@@ -79,15 +79,15 @@ pub fn within(lo: usize, n: usize, hi: usize) -> bool
 }
 
 // The counts that the bodies hold, each within its limits; the bodies that they ask for fill the position.
-fn sized(p: &[u8]) -> Checked
+fn sized(p: &[u8]) -> Option<View>
     ensures { SizedOf p.now result }
 {
     if p.len() < layout::RESULTS + layout::RESULTS_HEAD {
-        return Checked::Broken;
+        return None;
     }
     let cols = layout::wide(p[layout::RESULTS]);
     if !within(1, cols, 12) {
-        return Checked::Broken;
+        return None;
     }
     with_map(p, cols)
 }
@@ -107,14 +107,12 @@ fn entry(p: &[u8], k: usize, at: usize, long: usize) -> bool
 }
 
 // The view of a position whose bodies lie as they should.
-pub fn shape(p: &[u8]) -> Checked
+pub fn shape(p: &[u8]) -> Option<View>
     ensures { LaidOf p.now result }
 {
-    let Checked::Whole(v) = sized(p) else {
-        return Checked::Broken;
-    };
+    let v = sized(p)?;
     if !entry(p, layout::CHART_BODY, layout::CHART, layout::CHART_LENGTH) {
-        return Checked::Broken;
+        return None;
     }
     if !entry(
         p,
@@ -122,7 +120,7 @@ pub fn shape(p: &[u8]) -> Checked
         layout::RESULTS,
         layout::RESULTS_HEAD + layout::COLUMN_SIZE * v.columns,
     ) {
-        return Checked::Broken;
+        return None;
     }
     if !entry(
         p,
@@ -130,7 +128,7 @@ pub fn shape(p: &[u8]) -> Checked
         layout::RESULTS + layout::RESULTS_HEAD + layout::COLUMN_SIZE * v.columns,
         layout::MAP_HEAD + layout::HEX_SIZE * v.hexes,
     ) {
-        return Checked::Broken;
+        return None;
     }
     if !entry(
         p,
@@ -138,10 +136,10 @@ pub fn shape(p: &[u8]) -> Checked
         v.units,
         layout::UNITS_HEAD + layout::UNIT_SIZE * v.count,
     ) {
-        return Checked::Broken;
+        return None;
     }
     if !entry(p, layout::DESK_BODY, v.desk, layout::PLAYERS + v.players) {
-        return Checked::Broken;
+        return None;
     }
-    Checked::Whole(v)
+    Some(v)
 }

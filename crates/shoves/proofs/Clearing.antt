@@ -11,6 +11,8 @@ use native.Mathlib.Omega.{arith}
 use borrow.Author.Tests.{le-leb, lt-leb}
 use lib.ListN.{length, get_or, drop, drop_of_length-le}
 use lib.Seq.{drop-cons}
+use Rattle.std.specs.Prelude.{Option, None, Some}
+use Rattle.std.specs.Option.{MatchOption, unwrap_or}
 use Rattle.position.specs.Board.{Board, board}
 use Rattle.position.specs.Change.{makes}
 use Rattle.position.specs.Effect.{changes}
@@ -20,7 +22,7 @@ use Rattle.position.specs.declared.View.{View}
 use Rattle.position.proofs.Changes.{board_makes, laid_makes, makes_then}
 use Rattle.field.specs.Scene.{scene}
 use Rattle.field.specs.Zone.{vacant}
-use Rattle.shoves.specs.Shoves.{Chained, ChainEnds, Cleared, clears, out_of, stack_to}
+use Rattle.shoves.specs.Shoves.{ChainEnds, Cleared, clears, out_of, stack_to}
 
 -- the numbers from k on, of which there is one
 pub drop_next : (xs : List ℕ) (k : ℕ) → k < length xs → drop k xs ≡ get_or xs k 0 ∷ drop (k + 1) xs
@@ -103,16 +105,15 @@ module _ (h : ℕ) (ps : List ℕ) (k : ℕ) where
   out_later j l = simp (lt-leb j k l)
 
 module _ {b : Board} {h : ℕ} {ps : List ℕ} {k : ℕ} where
-  pub chain_none : k ≤ length ps → Chained b h ps k k
-  chain_none l = record { first = omega arith; few = l; held = λ j i m. absurd (omega (arith, i, m)) }
-
-  pub chain_more : {e : ℕ} → Chained b h ps k e → e < length ps → vacant (scene b) (out_of h ps k e) ≡ false → Chained b h ps k (e + 1)
-  chain_more {e} c l x =
-      record { first = omega (arith, c.first); few = omega (arith, l); held = λ j i m. at j i (dec_lt j e) m }
-    where
-      at : (j : ℕ) → k ≤ j → Dec (j < e) → j < e + 1 → vacant (scene b) (out_of h ps k j) ≡ false
-      at j i (yes y) m = c.held j i y
-      at j i (no y) m = subst (λ (n : ℕ). vacant (scene b) (out_of h ps k n) ≡ false) (omega (arith, y, m)) x
+  -- the chain ends before the first push whose hex is vacant, behind all if there is none
+  pub chain_first :
+      (r : Option ℕ) → k ≤ length ps
+      → MatchOption r ((j : ℕ) → k ≤ j → j < length ps → vacant (scene b) (out_of h ps k j) ≡ false)
+      (λ e. (k ≤ e) × (e < length ps) × (vacant (scene b) (out_of h ps k e) ≡ true) × ((j : ℕ) → k ≤ j → j < e → vacant (scene b) (out_of h ps k j) ≡ false))
+      → ChainEnds b h ps k (unwrap_or r (length ps))
+  chain_first None l f = record { chained = record { first = l; few = omega arith; held = f }; ends = λ m. absurd (omega (arith, m)) }
+  chain_first (Some e) l f =
+      record { chained = record { first = f.0; few = omega (arith, f.1); held = f.3 }; ends = λ m. f.2 }
 
 -- the pushes of the chain from number j on are carried out; number e is the first behind it
 pub record DoneFrom (p₀ : List ℕ) (v : View) (h : ℕ) (ps : List ℕ) (k e : ℕ) (p : List ℕ) (j : ℕ) : Type 0 where

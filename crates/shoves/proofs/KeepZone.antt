@@ -1,12 +1,11 @@
 -- Enemy zones stay where they are while only units of one force move: "the retreating force's own do not matter to it".
 -- Assumes nothing.
+use Rattle.std.specs.Prelude.{Option, Some, None}
 use Prim.Native.Nat.{ℕ, ◌<◌}
 use mathlib.Core.Path.{◌≡◌, refl, sym, ap, ap₂, ◌∙◌}
 use mathlib.Core.Bool.{Bool, true, false, not, ◌&&◌}
 use lib.Dec.{eqb, ltb}
 use borrow.Author.Tests.{ne_eqb}
-use Rattle.grid.specs.declared.Beside.{Beside}
-use Rattle.grid.specs.declared.Beside.TheVariants.{At, Off}
 use Rattle.position.specs.Tally.{any}
 use Rattle.position.specs.Board.{Board, Map, enemy, force_of}
 use Rattle.position.specs.Ground.{beside, side}
@@ -46,10 +45,10 @@ module _ {f : ℕ} {s t : Scene} (k : Beyond f s t) where
   unfolding holds_caster
   held g e n = ap (any (caster_on t g n)) k.count ∙ any_same (caster_on t g n) (caster_on s g n) s.count (λ u l. caster g e n u l)
 
-  at_same : (g : ℕ) → (g ≡ f → ⊥) → (x : Beside) → caster_at t g x ≡ caster_at s g x
+  at_same : (g : ℕ) → (g ≡ f → ⊥) → (x : Option ℕ) → caster_at t g x ≡ caster_at s g x
   unfolding caster_at
-  at_same g e (At n) = held g e n
-  at_same g e Off = refl
+  at_same g e (Some n) = held g e n
+  at_same g e None = refl
 
   over : (g : ℕ) → (g ≡ f → ⊥) → (h d : ℕ) → casts_over t g h d ≡ casts_over s g h d
   unfolding casts_over

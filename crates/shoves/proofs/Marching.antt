@@ -45,9 +45,6 @@ pub record March (p₀ : List ℕ) (v : View) (h : ℕ) (route pushes p : List �
       makes p₀ (marches (board p₀) h route pushes) ≡ makes p (marches (board p) a (drop i route) (drop k pushes))
 
 module _ {p₀ : List ℕ} {v : View} {h : ℕ} {route pushes : List ℕ} where
-  pub march_none : Laid p₀ v → March p₀ v h route pushes p₀ h 0 0
-  march_none l = record { most = omega arith; used = omega arith; laid = l; ahead = refl }
-
   module _ {p : List ℕ} {a k i : ℕ} (o : March p₀ v h route pushes p a k i) where
     -- one step more
     pub march_more :

@@ -1,11 +1,10 @@
 -- A chain told on the board is a chain over what each hex is to the group.
 -- Assumes nothing.
+use Rattle.std.specs.Prelude.{Option, Some, None}
 use Prim.Native.Nat.{ℕ, ◌<◌}
 use mathlib.Core.Path.{◌≡◌, refl, sym, ap, ◌∙◌}
 use mathlib.Core.Bool.{Bool, true, false}
 use mathlib.Core.List.{List, ◌∷◌}
-use Rattle.grid.specs.declared.Beside.{Beside}
-use Rattle.grid.specs.declared.Beside.TheVariants.{At, Off}
 use Rattle.position.specs.Board.{Board}
 use Rattle.position.specs.Ground.{next}
 use Rattle.position.proofs.Tallies.{any_false, any_never, both_yes, either, not_both, same_or}
@@ -99,13 +98,13 @@ held_more b h used k v w e =
     same_or h w (λ q. ap (vacant (scene b)) (sym q) ∙ v) (λ n. k w (sym (named_past h used w n) ∙ e))
 
 -- where a step leads to no hex that passes the test
-leads_not : (t : ℕ → Bool) (x : Beside) → ((z : ℕ) → x ≡ At z → t z ≡ true → ⊥) → leads_to t x ≡ false
+leads_not : (t : ℕ → Bool) (x : Option ℕ) → ((z : ℕ) → x ≡ Some z → t z ≡ true → ⊥) → leads_to t x ≡ false
 unfolding leads_to
-leads_not t (At z) n = either (t z) (λ e. absurd (n z refl e)) (λ e. e)
-leads_not t Off n = refl
+leads_not t (Some z) n = either (t z) (λ e. absurd (n z refl e)) (λ e. e)
+leads_not t None n = refl
 
 -- and where it leads to one hex
-leads_at : (t : ℕ → Bool) (x : Beside) (z : ℕ) → x ≡ At z → leads_to t x ≡ t z
+leads_at : (t : ℕ → Bool) (x : Option ℕ) (z : ℕ) → x ≡ Some z → leads_to t x ≡ t z
 unfolding leads_to
 leads_at t x z e = simp e
 

@@ -1,8 +1,7 @@
 -- A legal series of pushes, told on the board: each step's chain is carried out, and the group's step too, before the next step looks at
 -- the map. What chains/specs/Series.antt says by an overlay of the first board is the same.
 -- Assumes nothing.
-use Rattle.std.specs.Prelude.{ℕ, suc, ◌≤◌, ◌<◌, ◌≡◌, true, false, List, [], ◌∷◌, ◌++◌, ◌↔◌, length}
-use Rattle.grid.specs.declared.Beside.TheVariants.{At}
+use Rattle.std.specs.Prelude.{ℕ, suc, ◌≤◌, ◌<◌, ◌≡◌, true, false, List, [], ◌∷◌, ◌++◌, ◌↔◌, length, Some}
 use Rattle.position.specs.Role as Role
 use Rattle.position.specs.Kind.{supply_kind}
 use Rattle.position.specs.Board.{Board, force_of, nowhere}
@@ -30,7 +29,7 @@ pub record CanBePushed (b : Board) (f z : ℕ) : Type 0 where
 
 -- "if any bearing vacant hex lies beside it over an unblocked side": none does beside hex h
 abbrev pub NoRefuge : Board → ℕ → ℕ → Type 0
-NoRefuge b f h = (d z : ℕ) → d < 6 → next b.map h d ≡ At z → refuge b f z ≡ true → ⊥
+NoRefuge b f h = (d z : ℕ) → d < 6 → next b.map h d ≡ Some z → refuge b f z ≡ true → ⊥
 
 -- the hexes that pushed stacks go to, from the stack in hex h on, and the last of them; `used` are the hexes of the chain before h: "the
 -- hex in which the group stands before the step, the hex that it enters, and the hexes that pushed stacks go to; no hex comes twice; at
@@ -38,11 +37,11 @@ NoRefuge b f h = (d z : ℕ) → d < 6 → next b.map h d ≡ At z → refuge b 
 pub data ChainOn (b : Board) (f : ℕ) : List ℕ → ℕ → ℕ → List ℕ → ℕ → Type 0 where
   -- "it goes into one of these, whichever the owner names"
   settles :
-      {used : List ℕ} {left h z : ℕ} (d : ℕ) → d < 6 → next b.map h d ≡ At z → refuge b f z ≡ true → named (h ∷ used) z ≡ false
+      {used : List ℕ} {left h z : ℕ} (d : ℕ) → d < 6 → next b.map h d ≡ Some z → refuge b f z ≡ true → named (h ∷ used) z ≡ false
       → ChainOn b f used (suc left) h (z ∷ []) z
   -- "only if none does may it push, and then any stack that can be pushed"
   displaces :
-      {used : List ℕ} {left h z last : ℕ} {zs : List ℕ} (d : ℕ) → d < 6 → next b.map h d ≡ At z → NoRefuge b f h
+      {used : List ℕ} {left h z last : ℕ} {zs : List ℕ} (d : ℕ) → d < 6 → next b.map h d ≡ Some z → NoRefuge b f h
       → CanBePushed b f z → named (h ∷ used) z ≡ false → ChainOn b f (h ∷ used) left z zs last
       → ChainOn b f used (suc left) h (z ∷ zs) last
 

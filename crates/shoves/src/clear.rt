@@ -14,15 +14,7 @@ fn is_vacant(p: &[u8], v: View, h: usize) -> bool
     requires { Laid p.now v }
     ensures { result ≡ vacant (scene (board p.now)) h }
 {
-    let count = v.count;
-    let mut u = 0;
-    while u < count {
-        if read::hex(p, v, u) == h {
-            return false;
-        }
-        u += 1;
-    }
-    true
+    !(0..v.count).any(|u| read::hex(p, v, u) == h)
 }
 
 // Unit `u` goes to hex `z` if it stands on hex `h`.
@@ -41,8 +33,7 @@ fn move_stack(p: &mut [u8], v: View, h: usize, z: usize)
     requires { Laid p.old v }
     ensures { p.new ≡ makes p.old (stack_to (board p.old) h z) }
 {
-    let count = v.count;
-    for u in 0..count {
+    for u in 0..v.count {
         move_one(p, v, h, z, u);
     }
 }
@@ -63,14 +54,9 @@ fn chain_end(p: &[u8], v: View, h: usize, pushes: &[u16], k: usize) -> usize
     requires { Laid p.now v × (k ≤ length pushes.now) }
     ensures { ChainEnds (board p.now) h pushes.now k result }
 {
-    let mut e = k;
-    while e < pushes.len() {
-        if is_vacant(p, v, out_of(h, pushes, k, e)) {
-            return e;
-        }
-        e += 1;
-    }
-    e
+    (k..pushes.len())
+        .find(|e| is_vacant(p, v, out_of(h, pushes, k, *e)))
+        .unwrap_or(pushes.len())
 }
 
 // Hex `h` is cleared by the pushes from number `k` on; the answer is the number of the first that is left over.
@@ -79,9 +65,7 @@ pub fn clear(p: &mut [u8], v: View, h: usize, pushes: &[u16], k: usize) -> usize
     ensures { (result ≤ length pushes.now) × (drop result pushes.now ≡ (clears (board p.old) h (drop k pushes.now)).left) × (p.new ≡ makes p.old (clears (board p.old) h (drop k pushes.now)).done) }
 {
     let end = chain_end(p, v, h, pushes, k);
-    let mut j = end;
-    while k < j {
-        j -= 1;
+    for j in (k..end).rev() {
         let from = out_of(h, pushes, k, j);
         let to = pushes[j] as usize;
         move_stack(p, v, from, to);

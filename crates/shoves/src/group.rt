@@ -49,8 +49,7 @@ pub fn step_all(p: &mut [u8], v: View, a: usize, x: usize)
     requires { Laid p.old v }
     ensures { p.new ≡ makes p.old (group_to (board p.old) a x) }
 {
-    let count = v.count;
-    for u in 0..count {
+    for u in 0..v.count {
         step_one(p, v, a, x, u);
     }
 }
@@ -71,8 +70,7 @@ pub fn free_all(p: &mut [u8], v: View, a: usize)
     requires { Laid p.old v }
     ensures { p.new ≡ makes p.old (gather frees (group (board p.old) a)) }
 {
-    let count = v.count;
-    for u in 0..count {
+    for u in 0..v.count {
         free_one(p, v, a, u);
     }
 }

@@ -19,8 +19,8 @@ pub fn march_off(p: &mut [u8], v: View, h: usize, route: &[u16], pushes: &[u16])
 {
     let mut a = h;
     let mut k = 0;
-    for i in 0..route.len() {
-        let x = route[i] as usize;
+    for &to in route {
+        let x = to as usize;
         k = clear::clear(p, v, x, pushes, k);
         group::step_all(p, v, a, x);
         a = x;

@@ -64,8 +64,7 @@ fn seat_all(p: &[u8], v: View, seats: &mut [u8], base: usize) -> bool
     requires { Laid p.now v × ((u : ℕ) → u < count p.now → force_of (board p.now) u < forces) × Empty seats.old }
     ensures { Says result (StacksIn (board p.now) base (base + block)) }
 {
-    let count = v.count;
-    for u in 0..count {
+    for u in 0..v.count {
         if !seat(p, v, seats, base, u) {
             return false;
         }
@@ -78,7 +77,7 @@ fn block_ok(p: &[u8], v: View, base: usize) -> bool
     requires { Laid p.now v × ((u : ℕ) → u < count p.now → force_of (board p.now) u < forces) }
     ensures { Says result (StacksIn (board p.now) base (base + block)) }
 {
-    let mut seats = [0u8; 256];
+    let mut seats = [0u8; TABLE];
     seat_all(p, v, &mut seats, base)
 }
 
@@ -87,13 +86,5 @@ pub fn stacks_ok(p: &[u8], v: View) -> bool
     requires { Laid p.now v × ((u : ℕ) → u < count p.now → AloneOk (board p.now) u) }
     ensures { Says result (StacksOk (board p.now)) }
 {
-    let hexes = v.hexes;
-    let mut base = 0;
-    while base < hexes {
-        if !block_ok(p, v, base) {
-            return false;
-        }
-        base += BLOCK;
-    }
-    true
+    (0..v.hexes.div_ceil(BLOCK)).all(|k| block_ok(p, v, BLOCK * k))
 }

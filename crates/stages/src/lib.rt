@@ -1,7 +1,7 @@
 // Whether the stage keeps its lines of the documents, and what it asks of roles and routes.
 #![tactic(auto)]
 
-ghost use Rattle.std.specs.Prelude.{◌≡◌, ◌<◌};
+ghost use Rattle.std.specs.Prelude.{◌≡◌};
 ghost use Rattle.position.specs.Stage as Stage;
 ghost use Rattle.position.specs.Board.{board, desk};
 ghost use Rattle.acceptance.specs.Accepted.{QuietOk, RetreatsOk, LossesOk, AdvancesOk, DuringOk, StageOk};
@@ -15,16 +15,9 @@ fn quiet_ok(p: &[u8], v: View) -> bool
     requires { Laid p.now v }
     ensures { Says result (QuietOk (board p.now)) }
 {
-    if crowd::holders(p, v, role::OWES) != 0 {
-        return false;
-    }
-    if crowd::holders(p, v, role::ADVANCES) != 0 {
-        return false;
-    }
-    if crowd::routes(p, v) != 0 {
-        return false;
-    }
-    true
+    crowd::holders(p, v, role::OWES) == 0
+        && crowd::holders(p, v, role::ADVANCES) == 0
+        && crowd::routes(p, v) == 0
 }
 
 fn retreats_ok(p: &[u8], v: View) -> bool
@@ -35,42 +28,23 @@ fn retreats_ok(p: &[u8], v: View) -> bool
         return false;
     }
     let k = owing::owing_hexes(p, v);
-    if k == 0 {
-        return false;
-    }
-    if layout::ROUTE_COUNT < k + crowd::routes(p, v) {
-        return false;
-    }
-    true
+    0 < k && k + crowd::routes(p, v) <= layout::ROUTE_COUNT
 }
 
 fn losses_ok(p: &[u8], v: View) -> bool
     requires { Laid p.now v }
     ensures { Says result (LossesOk (board p.now)) }
 {
-    if !shape::within(1, read::need(p, v), 1080) {
-        return false;
-    }
-    if !shape::within(1, crowd::holders(p, v, role::OWES), 18) {
-        return false;
-    }
-    if crowd::holders(p, v, role::ADVANCES) != 0 {
-        return false;
-    }
-    true
+    shape::within(1, read::need(p, v), 1080)
+        && shape::within(1, crowd::holders(p, v, role::OWES), 18)
+        && crowd::holders(p, v, role::ADVANCES) == 0
 }
 
 fn advances_ok(p: &[u8], v: View) -> bool
     requires { Laid p.now v }
     ensures { Says result (AdvancesOk (board p.now)) }
 {
-    if crowd::holders(p, v, role::ADVANCES) == 0 {
-        return false;
-    }
-    if crowd::holders(p, v, role::OWES) != 0 {
-        return false;
-    }
-    true
+    crowd::holders(p, v, role::ADVANCES) != 0 && crowd::holders(p, v, role::OWES) == 0
 }
 
 // What the stage asks of n: 0 everywhere but in stage 1.
@@ -78,13 +52,7 @@ fn owed_ok(p: &[u8], v: View) -> bool
     requires { Laid p.now v }
     ensures { Says result (((desk p.now).battle.stage ≡ Stage.retreats → ⊥) → (desk p.now).battle.owed ≡ 0) }
 {
-    if read::stage(p, v) == stage::RETREATS {
-        return true;
-    }
-    if read::owed(p, v) != 0 {
-        return false;
-    }
-    true
+    read::stage(p, v) == stage::RETREATS || read::owed(p, v) == 0
 }
 
 // What the stage asks of need: 0 everywhere but in stage 2.
@@ -92,13 +60,7 @@ fn need_ok(p: &[u8], v: View) -> bool
     requires { Laid p.now v }
     ensures { Says result (((desk p.now).battle.stage ≡ Stage.losses → ⊥) → (desk p.now).battle.need ≡ 0) }
 {
-    if read::stage(p, v) == stage::LOSSES {
-        return true;
-    }
-    if read::need(p, v) != 0 {
-        return false;
-    }
-    true
+    read::stage(p, v) == stage::LOSSES || read::need(p, v) == 0
 }
 
 // What the stage asks of roles and routes.
@@ -106,34 +68,18 @@ fn during_ok(p: &[u8], v: View) -> bool
     requires { Laid p.now v }
     ensures { Says result (DuringOk (board p.now)) }
 {
-    let stage = read::stage(p, v);
-    if stage == stage::QUIET {
-        return quiet_ok(p, v);
+    match read::stage(p, v) {
+        stage::QUIET => quiet_ok(p, v),
+        stage::RETREATS => retreats_ok(p, v),
+        stage::LOSSES => losses_ok(p, v),
+        stage::ADVANCES => advances_ok(p, v),
+        _ => true,
     }
-    if stage == stage::RETREATS {
-        return retreats_ok(p, v);
-    }
-    if stage == stage::LOSSES {
-        return losses_ok(p, v);
-    }
-    if stage == stage::ADVANCES {
-        return advances_ok(p, v);
-    }
-    true
 }
 
 pub fn stage_ok(p: &[u8], v: View) -> bool
     requires { Laid p.now v }
     ensures { Says result (StageOk (board p.now)) }
 {
-    if !owed_ok(p, v) {
-        return false;
-    }
-    if !need_ok(p, v) {
-        return false;
-    }
-    if !during_ok(p, v) {
-        return false;
-    }
-    true
+    owed_ok(p, v) && need_ok(p, v) && during_ok(p, v)
 }

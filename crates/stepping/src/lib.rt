@@ -13,8 +13,8 @@ ghost use Rattle.march.specs.Move.{allowed, leaves_zone, step, after_step, leg};
 ghost use Rattle.march.specs.Judged.{WayOf};
 
 use field::{unit, zone};
-use march::Way;
 use position::{View, bits, layout, read};
+use ruling::Refusal;
 
 // The allowance that unit `u` may spend: halved without the supplied mark.
 pub fn allowed(p: &[u8], v: View, u: usize) -> usize
@@ -69,31 +69,30 @@ pub fn one_step(
     leaves: bool,
     x: usize,
     k: usize,
-) -> Way
+) -> Result<(usize, bool), Refusal>
     requires { Laid p.now v × (spent < 256) × (leaves ≡ leaves_zone (board p.now) u (leg at spent) k) }
     ensures { WayOf p.now (step (board p.now) u (leg at spent) x k) (after_step (board p.now) (leg at spent) x).spent (enemy_zone (scene (board p.now)) (force_of (board p.now) u) x) result }
 {
     if leaves {
-        return Way::Stop(9, k);
+        return Err(Refusal::AfterZone(k));
     }
-    let d = ground::bearing(p, v, at, x);
-    if 6 <= d {
-        return Way::Stop(7, k);
-    }
+    let Some(d) = ground::bearing(p, v, at, x) else {
+        return Err(Refusal::NoWay(k));
+    };
     if !ground::standable(p, v, x) {
-        return Way::Stop(7, k);
+        return Err(Refusal::NoWay(k));
     }
     let f = forces::force_of(p, v, u);
     let marks = paint::look(p, v, f, x);
     if bits::has(paint::ENEMY, marks) {
-        return Way::Stop(8, k);
+        return Err(Refusal::EnemyThere(k));
     }
     if neutral_there(p, v, f, x, marks) {
-        return Way::Stop(18, k);
+        return Err(Refusal::NeutralThere(k));
     }
     let total = spent + step_cost(p, v, at, x, d);
     if allowed(p, v, u) < total {
-        return Way::Stop(10, k);
+        return Err(Refusal::OverAllowance(k));
     }
-    Way::On(total, bits::has(paint::ZONE, marks))
+    Ok((total, bits::has(paint::ZONE, marks)))
 }

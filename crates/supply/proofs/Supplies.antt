@@ -1,5 +1,6 @@
 -- The test for supply is right: it is true exactly if a chain leads to a source; and what the walk leaves is its answers.
 -- Assumes nothing.
+use Rattle.std.specs.Prelude.{Option}
 use Prim.Native.Nat.{ℕ, ◌≤◌, ◌<◌}
 use mathlib.Core.Path.{◌≡◌, refl, sym, ap, ◌∙◌}
 use mathlib.Core.Bool.{Bool, true, false, not, cond, ◌&&◌}
@@ -8,7 +9,6 @@ use mathlib.Core.Logic.{◌↔◌, ◌⊎◌, inl, inr}
 use native.Mathlib.Omega.{arith}
 use lib.Dec.{leb, ltb, eqb}
 use borrow.Author.Tests.{ltb-true, lt-ltb, le-leb, lt-leb, eq-eqb, ne_eqb}
-use Rattle.grid.specs.declared.Beside.{Beside}
 use Rattle.position.specs.declared.View.{View}
 use Rattle.position.specs.Ground.{next}
 use Rattle.position.proofs.Tallies.{either}
@@ -85,7 +85,7 @@ open_grade true true = refl
 open_grade true false = refl
 open_grade false u = refl
 
-chain_open : {next : ℕ → ℕ → Beside} {f : ℕ → ℕ} {a : ℕ} → Chain next f a → 0 < f a
+chain_open : {next : ℕ → ℕ → Option ℕ} {f : ℕ → ℕ} {a : ℕ} → Chain next f a → 0 < f a
 chain_open (ends e) = omega arith
 chain_open (goes d o x c) = o
 

@@ -112,10 +112,8 @@ pub fn grade(p: &[u8], v: View, buf: &mut [u8], n: usize)
     requires { Laid p.now v × MapShows (scene (board p.now)) (force n) buf.old }
     ensures { Grades (scene (board p.now)) n buf.new }
 {
-    let hexes = v.hexes;
-    for h in 0..hexes {
-        let m = layout::wide(buf[h]);
-        buf[h] = grade_by(p, v, n, h, m) as u8;
+    for (h, m) in buf.iter_mut().enumerate() {
+        *m = grade_by(p, v, n, h, layout::wide(*m)) as u8;
     }
 }
 
@@ -138,9 +136,7 @@ pub fn regrade(p: &[u8], v: View, buf: &mut [u8])
     requires { Laid p.now v × Traced (scene (board p.now)) us buf.old }
     ensures { Grades (scene (board p.now)) canada buf.new }
 {
-    let hexes = v.hexes;
-    for h in 0..hexes {
-        let m = layout::wide(buf[h]);
-        buf[h] = regrade_by(p, v, h, m) as u8;
+    for (h, m) in buf.iter_mut().enumerate() {
+        *m = regrade_by(p, v, h, layout::wide(*m)) as u8;
     }
 }

@@ -16,7 +16,7 @@ ghost use Rattle.supply.specs.Supply.{supply_map, supply_rule};
 
 use grid::region;
 use position::{View, kind};
-use ruling::Answer;
+use ruling::Refusal;
 
 // The grades of the hexes for nationality `n`, whatever the buffer held.
 fn grades(p: &[u8], v: View, n: usize, out: &mut [u8])
@@ -56,17 +56,17 @@ pub fn retrace(p: &[u8], v: View, out: &mut [u8])
 }
 
 // The supply call on a checked position: 1 or 0 per hex for a nationality, into a buffer of exactly width x height bytes.
-pub fn supply(p: &[u8], v: View, nationality: usize, out: &mut [u8]) -> Answer
+pub fn supply(p: &[u8], v: View, nationality: usize, out: &mut [u8]) -> Result<(), Refusal>
     requires { Laid p.now v }
     ensures { Met p.now out.old (supply_rule (board p.now) nationality (length out.old)) (answer_as result) p.now out.new }
 {
     let hexes = v.hexes;
     if out.len() != hexes {
-        return Answer::Refused(3, 0);
+        return Err(Refusal::OutOfRange(0));
     }
     if kind::CANADA < nationality {
-        return Answer::Refused(3, 0);
+        return Err(Refusal::OutOfRange(0));
     }
     fill(p, v, nationality, out);
-    Answer::Accepted
+    Ok(())
 }

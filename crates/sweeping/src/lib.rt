@@ -22,15 +22,15 @@ fn from_west(p: &[u8], v: View, buf: &[u8], s: Spot) -> bool
     ensures { result ≡ true → Joined (next (ground p.now)) (mark buf.now) s.hex }
 {
     if grid::row::low(s) {
-        if looking::leads(p, v, buf, s, 5, near::north_west(v.width, v.height, s), 2) {
+        if looking::leads(p, v, buf, s, 5, near::near(v.width, v.height, s, 5), 2) {
             return true;
         }
-        return looking::leads(p, v, buf, s, 4, near::south_west(v.width, v.height, s), 2);
+        return looking::leads(p, v, buf, s, 4, near::near(v.width, v.height, s, 4), 2);
     }
-    if looking::leads(p, v, buf, s, 4, near::south_west(v.width, v.height, s), 2) {
+    if looking::leads(p, v, buf, s, 4, near::near(v.width, v.height, s, 4), 2) {
         return true;
     }
-    looking::leads(p, v, buf, s, 5, near::north_west(v.width, v.height, s), 2)
+    looking::leads(p, v, buf, s, 5, near::near(v.width, v.height, s, 5), 2)
 }
 
 // The same to the east.
@@ -40,15 +40,15 @@ fn from_east(p: &[u8], v: View, buf: &[u8], s: Spot) -> bool
     ensures { result ≡ true → Joined (next (ground p.now)) (mark buf.now) s.hex }
 {
     if grid::row::low(s) {
-        if looking::leads(p, v, buf, s, 1, near::north_east(v.width, v.height, s), 2) {
+        if looking::leads(p, v, buf, s, 1, near::near(v.width, v.height, s, 1), 2) {
             return true;
         }
-        return looking::leads(p, v, buf, s, 2, near::south_east(v.width, v.height, s), 2);
+        return looking::leads(p, v, buf, s, 2, near::near(v.width, v.height, s, 2), 2);
     }
-    if looking::leads(p, v, buf, s, 2, near::south_east(v.width, v.height, s), 2) {
+    if looking::leads(p, v, buf, s, 2, near::near(v.width, v.height, s, 2), 2) {
         return true;
     }
-    looking::leads(p, v, buf, s, 1, near::north_east(v.width, v.height, s), 2)
+    looking::leads(p, v, buf, s, 1, near::near(v.width, v.height, s, 1), 2)
 }
 
 // Whether a source lies to the north of spot `s`, where the sweep goes down, or to the south, where it goes up.
@@ -58,9 +58,9 @@ fn from_behind(p: &[u8], v: View, buf: &[u8], s: Spot, up: bool) -> bool
     ensures { result ≡ true → Joined (next (ground p.now)) (mark buf.now) s.hex }
 {
     if up {
-        return looking::leads(p, v, buf, s, 3, near::south(v.width, v.height, s), 2);
+        return looking::leads(p, v, buf, s, 3, near::near(v.width, v.height, s, 3), 2);
     }
-    looking::leads(p, v, buf, s, 0, near::north(v.width, v.height, s), 2)
+    looking::leads(p, v, buf, s, 0, near::near(v.width, v.height, s, 0), 2)
 }
 
 // Spot `s` on the way east: a source now, if it is open and one lies to the west or behind. Whether it is left open and no source.
@@ -121,9 +121,7 @@ fn westward(p: &[u8], v: View, buf: &mut [u8], row: usize)
     ensures { Swept (next (ground p.now)) buf.old buf.new }
 {
     let w = v.width;
-    let mut c = w;
-    while 0 < c {
-        c -= 1;
+    for c in (0..w).rev() {
         join_east(p, v, buf, grid::row::spot(w, v.height, row, c));
     }
 }
@@ -185,10 +183,9 @@ pub fn up(p: &[u8], v: View, buf: &mut [u8])
     requires { Laid p.now v × (length buf.old ≡ v.hexes) }
     ensures { Swept (next (ground p.now)) buf.old buf.new }
 {
-    let mut row = v.height;
+    let h = v.height;
     let mut reached = true;
-    while 0 < row {
-        row -= 1;
+    for row in (0..h).rev() {
         reached = pass_up(p, v, buf, row, reached);
     }
 }

@@ -4,7 +4,7 @@ ghost use Rattle.grid.specs.Map.{On};
 ghost use Rattle.walk.specs.Chain.{mark};
 ghost use Rattle.walk.specs.Swept.{None, RowApart};
 
-use position::{View, layout};
+use position::View;
 
 // Whether one of the hexes from `from` up to `to` is marked `m`. It looks at all of them, whatever it has found, and so
 // at many at a time.
@@ -30,26 +30,16 @@ pub fn has(v: View, buf: &[u8], row: usize, m: u8) -> bool
     some(buf, first, first + v.width, m)
 }
 
-// How many of the hexes from `from` up to `to` are marked `m`.
-fn count(buf: &[u8], from: usize, to: usize, m: u8) -> u8
-    requires { (to ≤ length buf.now) × (to ≤ from + 64) }
-    ensures { result ≤ 64 }
-{
-    let mut many = 0u8;
-    for i in from..to {
-        if buf[i] == m {
-            many += 1;
-        }
-    }
-    many
-}
-
 // Whether more than half of the hexes of row `row` are marked `m`.
 pub fn mostly(v: View, buf: &[u8], row: usize, m: u8) -> bool
     requires { On v.width v.height 0 × (length buf.now ≡ v.width * v.height) × (row < v.height) }
 {
     let first = grid::row::first(v.width, v.height, row);
-    v.width < 2 * layout::wide(count(buf, first, first + v.width, m))
+    let many = buf[first..first + v.width]
+        .iter()
+        .filter(|x| **x == m)
+        .count();
+    v.width < 2 * many
 }
 
 // Whether the row before row `row` has a source.

@@ -1,16 +1,16 @@
 -- Laws of sweeps: a hex with a source beside it becomes one, and which hexes a chain joins to a source stays as it was. And laws of rows:
 -- where the neighbours of a row's hexes lie.
 -- Assumes nothing.
+use Rattle.std.specs.Prelude.{Option}
+use Rattle.std.specs.declared.option.Option.TheVariants as O
 use Prim.Native.Nat.{ℕ, suc, ◌+◌, ◌-◌, ◌*◌, ◌/◌, ◌%◌, ◌≤◌, ◌<◌}
 use mathlib.Core.Path.{◌≡◌, refl, sym, ◌∙◌, ap, subst}
 use mathlib.Core.Bool.{Bool, true, false}
 use mathlib.Core.List.{List}
-use mathlib.Core.Logic.{◌⊎◌, inl, inr, ⊎_elim}
+use mathlib.Core.Logic.{inl, inr, ⊎_elim}
 use native.Mathlib.Nat.{mul-le-mul, mul-le-mul_right, suc-mul, mul_comm}
 use native.Mathlib.Omega.{arith}
 use lib.ListN.{length, set, length-set}
-use Rattle.grid.specs.declared.Beside.{Beside}
-use Rattle.grid.specs.declared.Beside.TheVariants.{At}
 use Rattle.grid.specs.declared.Spot.{Spot}
 use Rattle.grid.specs.Map.{On, neighbour_of}
 use Rattle.grid.specs.Spot.{SpotOf}
@@ -32,7 +32,7 @@ use Rattle.walk.specs.Swept.{None, RowApart, Joined, Swept}
 use Rattle.walk.proofs.Marks.{le_or, mark_set, mark_in_lem}
 use Rattle.walk.proofs.Sweeps.{chain_by}
 
-module _ {next : ℕ → ℕ → Beside} where
+module _ {next : ℕ → ℕ → Option ℕ} where
   -- what a look tells
   pub joined : {f : ℕ → ℕ} {a d : ℕ} → Opens next f 2 a d → Joined next f a
   joined {d = d} o = record { dir = d; opens = o }
@@ -118,12 +118,6 @@ spot_in l o s e = omega (arith, s.on.below, area_view o)
 pub row_next : (r w : ℕ) → (r + 1) * w ≡ r * w + w
 row_next r w = ap (λ (n : ℕ). n * w) (omega arith) ∙ suc-mul r w
 
-pub row_back : (r w : ℕ) → 1 ≤ r → (r - 1) * w + w ≡ r * w
-row_back r w p = sym (row_next (r - 1) w) ∙ ap (λ (n : ℕ). n * w) (omega arith)
-
-pub row_none : (r w : ℕ) → r < 1 → r * w ≡ 0
-row_none r w p = let z : r ≡ 0 = omega arith in omega (arith, ap (λ (n : ℕ). n * w) z)
-
 pub row_past : {h r : ℕ} (w : ℕ) → h ≤ r → w * h ≤ r * w
 row_past {h} {r} w p = omega (arith, mul-le-mul_right w p, mul_comm w h)
 
@@ -137,7 +131,7 @@ module _ {w h : ℕ} (o : On w h 0) (r : ℕ) where
     low : r * w ≤ b + w
     high : b < r * w + w + w
 
-  around : (k d b : ℕ) → r * w ≤ k → k < r * w + w → neighbour_of w h k d ≡ At b → Around b
+  around : (k d b : ℕ) → r * w ≤ k → k < r * w + w → neighbour_of w h k d ≡ O.Some b → Around b
   around k d b p q e =
       let c = beside_close w h k d b e in
       let z : r * w + (k - r * w) ≡ k = omega arith in
@@ -150,9 +144,6 @@ module _ {w h : ℕ} (o : On w h 0) (r : ℕ) where
         low = omega (arith, mul-le-mul_right w up, suc-mul (b / w) w);
         high = omega (arith, mul-le-mul_right w down, suc-mul r w);
       }
-
-  pub row_closed : {f : ℕ → ℕ} → None f (r * w) (r * w + w) 1 → RowApart w h f r
-  row_closed n k p q e = absurd (n k p q e)
 
   pub row_apart :
       {f : ℕ → ℕ}

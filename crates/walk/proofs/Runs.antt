@@ -1,6 +1,8 @@
 -- Laws of the functions of the walk, over the list of the marks: what a step keeps and that it leaves less to do, the walk from one hex,
 -- the walks from all, the last pass, and the whole.
 -- Assumes nothing.
+use Rattle.std.specs.Prelude.{Option}
+use Rattle.std.specs.declared.option.Option.TheVariants as O
 use Prim.Native.Nat.{ℕ, ◌+◌, ◌-◌, ◌%◌, ◌≤◌, ◌<◌}
 use mathlib.Core.Path.{◌≡◌, refl, sym, ◌∙◌, ap, subst}
 use mathlib.Core.Bool.{cond}
@@ -10,8 +12,6 @@ use native.Mathlib.Omega.{arith}
 use lib.ListN.{length, set, length-set}
 use lib.Dec.{ltb}
 use borrow.Author.Tests.{lt-ltb, le-ltb}
-use Rattle.grid.specs.declared.Beside.{Beside}
-use Rattle.grid.specs.declared.Beside.TheVariants.{At}
 use Rattle.position.proofs.Tallies.{same_or}
 use Rattle.walk.specs.Chain.{mark, Chain, OneIf, Reached}
 use Rattle.walk.specs.Chain.Chain.{source, beside}
@@ -37,7 +37,7 @@ unfolding work
 work_entered m p = simp (le-ltb m 8 p)
 
 -- what is kept where nothing is done, where two runs of steps follow on each other, and where a hex is entered or a mark of one changed
-module _ {next : ℕ → ℕ → Beside} where
+module _ {next : ℕ → ℕ → Option ℕ} where
   pub kept_refl : (l : List ℕ) → Kept next l l
   kept_refl l = record { same = refl; grown = λ k q. refl; faith = λ f₀ t. t }
 
@@ -65,7 +65,7 @@ module _ {next : ℕ → ℕ → Beside} where
       }
 
 -- a step, over the list of the marks
-module _ {next home : ℕ → ℕ → Beside} (g : TwoWay next home) (l : List ℕ) (a c : ℕ) (y : Way next home (mark l) a c) where
+module _ {next home : ℕ → ℕ → Option ℕ} (g : TwoWay next home) (l : List ℕ) (a c : ℕ) (y : Way next home (mark l) a c) where
   way_in : a < length l
   way_in = let e : 8 ≤ mark l a = y.entered in mark_in_lem l a (omega arith)
 
@@ -91,7 +91,7 @@ module _ {next home : ℕ → ℕ → Beside} (g : TwoWay next home) (l : List �
       (way_down next home d y (mark_set l b (entered_by d) e (mark_in_lem l b (omega arith))) p w.there (under_six b d w.there) w.marked
       (g.over b ((d + 3) % 6) a (g.turn a d b w.there)))
     where
-      under_six : (b d : ℕ) → next a d ≡ At b → d < 6
+      under_six : (b d : ℕ) → next a d ≡ O.Some b → d < 6
       under_six b d e = le_or 6 d (λ q. off_at (g.six a d q) e) (λ q. q)
   step_way {out} {b} (back p h z e) =
       subst (Way next home (mark out) b) (sym z)
@@ -115,7 +115,7 @@ module _ {next home : ℕ → ℕ → Beside} (g : TwoWay next home) (l : List �
       (omega (arith, work_entered (mark l a) o, work_entered (mark l a + 7) (omega arith)))
 
 -- a walk from an open hex that has a source beside it
-module _ {next home : ℕ → ℕ → Beside} (g : TwoWay next home) (l : List ℕ) (i : ℕ) (one : mark l i ≡ 1) where
+module _ {next home : ℕ → ℕ → Option ℕ} (g : TwoWay next home) (l : List ℕ) (i : ℕ) (one : mark l i ≡ 1) where
   pub start_in : i < length l
   start_in = mark_in_lem l i (omega arith)
 
@@ -148,7 +148,7 @@ module _ {next home : ℕ → ℕ → Beside} (g : TwoWay next home) (l : List �
       }
 
 -- the walks from the hexes from a up to b
-module _ {next : ℕ → ℕ → Beside} where
+module _ {next : ℕ → ℕ → Option ℕ} where
   -- marks that a run of steps leaves below 8 are those that were
   apart_kept : {l out : List ℕ} → Kept next l out → (k : ℕ) → Apart next (mark l) k → Apart next (mark out) k
   apart_kept {l} {out} t k n e d b x y = n (sym (t.grown k (omega arith)) ∙ e) d b x (sym (t.grown b (omega arith)) ∙ y)
@@ -216,9 +216,6 @@ pub record Settling (l : List ℕ) (i : ℕ) (out : List ℕ) : Type 0 where
   pub left : (k : ℕ) → i ≤ k → mark out k ≡ mark l k
   pub most : i ≤ length out
 
-pub settle_none : (l : List ℕ) → Settling l 0 l
-settle_none l = record { same = refl; done = λ k p. absurd (omega arith); left = λ k p. refl; most = omega arith }
-
 pub settle_turn :
     {l out out' : List ℕ} {i : ℕ} (v : ℕ)
     → out' ≡ set out i v
@@ -238,18 +235,15 @@ settle_turn {l} {out} {out'} {i} v e p s d =
       most = omega arith;
     }
 
-pub settle_all : {l out : List ℕ} {i : ℕ} → length out ≤ i → Settling l i out → Settled l out
-settle_all p s = record { same = s.same; each = λ k q. s.done k (omega (arith, s.same)) }
-
 -- the whole, from grades
-pub graded_rest : {next : ℕ → ℕ → Beside} (l : List ℕ) → ((k : ℕ) → mark l k ≤ 2) → Rest next (mark l)
+pub graded_rest : {next : ℕ → ℕ → Option ℕ} (l : List ℕ) → ((k : ℕ) → mark l k ≤ 2) → Rest next (mark l)
 graded_rest l grades =
     record {
       looked = λ k d p q. absurd (omega (arith, grades k));
       over = λ k p. absurd (omega (arith, grades k));
     }
 
-module _ {next home : ℕ → ℕ → Beside} (g : TwoWay next home) {l mid : List ℕ} (grades : (k : ℕ) → mark l k ≤ 2) (w : Swept next l mid) where
+module _ {next home : ℕ → ℕ → Option ℕ} (g : TwoWay next home) {l mid : List ℕ} (grades : (k : ℕ) → mark l k ≤ 2) (w : Swept next l mid) where
   -- sweeps, and then walks
   pub walked : {out : List ℕ} → Seeded next mid out → Walked next l out
   walked {out} s =
@@ -273,7 +267,7 @@ module _ {next home : ℕ → ℕ → Beside} (g : TwoWay next home) {l mid : Li
           (λ q. w.sound k (omega (arith, faith.kept k q, swept_grades w grades k)))
 
 -- and the marks settled
-pub reached : {next : ℕ → ℕ → Beside} {l mid out : List ℕ} → Walked next l mid → Settled mid out → Reached next l out
+pub reached : {next : ℕ → ℕ → Option ℕ} {l mid out : List ℕ} → Walked next l mid → Settled mid out → Reached next l out
 reached {next} {l} {mid} {out} w t =
     record { same = t.same ∙ w.same; each = λ k p. each k (w.each k) (t.each k (omega (arith, w.same))) }
   where

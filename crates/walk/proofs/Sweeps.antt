@@ -1,6 +1,7 @@
 -- The test `chained` is true exactly of the hexes from which a chain leads to a source; so supply is decided, and what the walk leaves in a
 -- buffer is known.
 -- Assumes nothing.
+use Rattle.std.specs.Prelude.{Option, Some, None}
 use Prim.Native.Nat.{ℕ, zero, suc, ◌-◌, ◌+◌, ◌≤◌, ◌<◌}
 use mathlib.Core.Path.{◌≡◌, refl, sym, ◌∙◌, ap, subst}
 use mathlib.Core.Bool.{Bool, true, false, cond}
@@ -9,8 +10,6 @@ use mathlib.Core.Logic.{inl, inr, ◌↔◌}
 use native.Mathlib.Omega.{arith}
 use lib.ListN.{length, set, length-set}
 use borrow.Author.Tests.{ltb-true, lt-ltb, eq-eqb, ne_eqb, eqb-true, eqb-false, not-true}
-use Rattle.grid.specs.declared.Beside.{Beside}
-use Rattle.grid.specs.declared.Beside.TheVariants.{At, Off}
 use Rattle.position.proofs.Tallies.{both_yes, same_or, either, not_both, any_some, any_true}
 use Rattle.walk.specs.Chain.{mark, Chain, OneIf, Reached}
 use Rattle.walk.specs.Chain.Chain.{source, beside}
@@ -18,26 +17,26 @@ use Rattle.walk.specs.Sweep.{source_at, joins, touch, sweep, sweeps, chained, ta
 use Rattle.position.proofs.Sides.{off_at}
 use Rattle.walk.proofs.Marks.{le_or, mark_set, mark_in_lem, tab_mark, tab_only, weigh, weigh_less, weigh_most}
 
-record Found (l : List ℕ) (r : Beside) : Type 0 where
+record Found (l : List ℕ) (r : Option ℕ) : Type 0 where
   hex : ℕ
-  there : r ≡ At hex
+  there : r ≡ Some hex
   from : mark l hex ≡ 2
 
-found : (l : List ℕ) (r : Beside) → source_at l r ≡ true → Found l r
+found : (l : List ℕ) (r : Option ℕ) → source_at l r ≡ true → Found l r
 unfolding source_at
-found l (At b) e = record { hex = b; there = refl; from = eqb-true (mark l b) 2 e }
-found l Off e = not_both false e refl
+found l (Some b) e = record { hex = b; there = refl; from = eqb-true (mark l b) 2 e }
+found l None e = not_both false e refl
 
 -- chains under other grades
 pub chain_by :
-    {next : ℕ → ℕ → Beside} {f g : ℕ → ℕ}
+    {next : ℕ → ℕ → Option ℕ} {f g : ℕ → ℕ}
     → ((k : ℕ) → 0 < f k → 0 < g k)
     → ((k : ℕ) → f k ≡ 2 → Chain next g k)
     → {a : ℕ} → Chain next f a → Chain next g a
 chain_by p q (source {a = a} e) = q a e
 chain_by p q (beside {a = a} d o n s) = beside d (p a o) n (chain_by p q s)
 
-pub chain_same : {next : ℕ → ℕ → Beside} {f g : ℕ → ℕ} → ((k : ℕ) → f k ≡ g k) → {a : ℕ} → Chain next f a → Chain next g a
+pub chain_same : {next : ℕ → ℕ → Option ℕ} {f g : ℕ → ℕ} → ((k : ℕ) → f k ≡ g k) → {a : ℕ} → Chain next f a → Chain next g a
 chain_same e = chain_by (λ k p. omega (arith, e k)) (λ k p. source (sym (e k) ∙ p))
 
 -- 1 for a hex that is no source
@@ -52,7 +51,7 @@ dull_less : (m : ℕ) → (m ≡ 2 → ⊥) → dull 2 < dull m
 unfolding dull
 dull_less m n = omega arith
 
-module _ (next : ℕ → ℕ → Beside) where
+module _ (next : ℕ → ℕ → Option ℕ) where
   -- hex a is to be made a source; no hex below n is
   record Joins (l : List ℕ) (a : ℕ) : Type 0 where
     some : 0 < mark l a
@@ -60,7 +59,7 @@ module _ (next : ℕ → ℕ → Beside) where
     dir : ℕ
     six : dir < 6
     hex : ℕ
-    there : next a dir ≡ At hex
+    there : next a dir ≡ Some hex
     from : mark l hex ≡ 2
 
   abbrev Still : List ℕ → ℕ → Type 0
@@ -187,7 +186,7 @@ module _ (next : ℕ → ℕ → Beside) where
   unfolding chained
   true_chain l a e = (sweeps_alike (suc (length l)) l).back (source (eqb-true (mark (sweeps next (suc (length l)) l) a) 2 e))
 
-  module _ (six : (a d : ℕ) → 6 ≤ d → next a d ≡ Off) where
+  module _ (six : (a d : ℕ) → 6 ≤ d → next a d ≡ None) where
     -- where nothing is left to change, the sources are what is supplied
     still_source : (l : List ℕ) → Ended l → {a : ℕ} → Chain next (mark l) a → mark l a ≡ 2
     still_source l t (source e) = e

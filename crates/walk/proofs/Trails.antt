@@ -1,12 +1,11 @@
 -- Laws of a walk under way, over marks as a function of the hex and any rules of steps that go together: what each step makes of the way
 -- home, and that at the end every supplied hex was entered.
 -- Assumes nothing.
+use Rattle.std.specs.Prelude.{Option, Some, None}
 use Prim.Native.Nat.{ℕ, ◌+◌, ◌-◌, ◌/◌, ◌%◌, ◌≤◌, ◌<◌}
 use mathlib.Core.Path.{◌≡◌, refl, sym, ◌∙◌, ap, subst}
 use mathlib.Core.List.{List, [], ◌∷◌}
 use native.Mathlib.Omega.{arith}
-use Rattle.grid.specs.declared.Beside.{Beside}
-use Rattle.grid.specs.declared.Beside.TheVariants.{At, Off}
 use Rattle.position.proofs.Tallies.{same_or}
 use Rattle.walk.specs.Chain.{Chain}
 use Rattle.walk.specs.Chain.Chain.{source, beside}
@@ -24,12 +23,12 @@ none : {A : Type 0} {a : ℕ} → Mem a [] → A
 none m = elim m [ ]
 
 -- the walk is done with the directions of hex a that are below c: no step in one of them enters a hex
-abbrev pub Below : (ℕ → ℕ → Beside) → (ℕ → ℕ) → ℕ → ℕ → Type 0
+abbrev pub Below : (ℕ → ℕ → Option ℕ) → (ℕ → ℕ) → ℕ → ℕ → Type 0
 Below next f a c = (d : ℕ) → d < c → Shut next f 1 a d
 
 -- with those below c and with those from c on it is done with all of them
 pub all_shut :
-    {next home : ℕ → ℕ → Beside} {f : ℕ → ℕ} {m a c : ℕ}
+    {next home : ℕ → ℕ → Option ℕ} {f : ℕ → ℕ} {m a c : ℕ}
     → TwoWay next home
     → ((d : ℕ) → d < c → Shut next f m a d)
     → First next f m a c 0 6
@@ -40,7 +39,7 @@ all_shut {a = a} {c = c} g y o d =
     (λ p. le_or 6 d (λ q n e. off_at (g.six a d q) e) (λ q. o.past d (omega arith) (omega arith) q))
 
 -- one mark is written, which is then that of an entered hex
-module _ (next : ℕ → ℕ → Beside) {f f' : ℕ → ℕ} {i v : ℕ} (u : Upd f i v f') (big : 8 ≤ v) where
+module _ (next : ℕ → ℕ → Option ℕ) {f f' : ℕ → ℕ} {i v : ℕ} (u : Upd f i v f') (big : 8 ≤ v) where
   shut_upd : (a d : ℕ) → Shut next f 1 a d → Shut next f' 1 a d
   shut_upd a d s n e p =
       same_or n i
@@ -65,14 +64,14 @@ module _ (next : ℕ → ℕ → Beside) {f f' : ℕ → ℕ} {i v : ℕ} (u : U
       (λ c. let z = ap f' c ∙ u.at in subst (λ (n : ℕ). Shut next f 1 n d) (sym c) (new (omega arith) d))
       (λ n. let z = u.off k n in l k d (omega arith) (omega arith)))
 
-module _ (next home : ℕ → ℕ → Beside) where
+module _ (next home : ℕ → ℕ → Option ℕ) where
   -- s is the way home from hex a, from hex to hex: no hex is on it twice, and each is one that the walk will come back to, done with the
   -- directions up to the one in which it went on
   pub data Trail (f : ℕ → ℕ) : ℕ → List ℕ → Type 0 where
-    first : {a : ℕ} → home a (f a / 8 - 1) ≡ Off → Trail f a []
+    first : {a : ℕ} → home a (f a / 8 - 1) ≡ None → Trail f a []
     from :
         {a b : ℕ} {s : List ℕ}
-        → home a (f a / 8 - 1) ≡ At b
+        → home a (f a / 8 - 1) ≡ Some b
         → (Mem a (b ∷ s) → ⊥)
         → 8 ≤ f b
         → f b % 8 ≡ 0
@@ -137,7 +136,7 @@ module _ (next home : ℕ → ℕ → Beside) where
         other n (there m) = m
 
     -- it goes home to hex b
-    pub way_back : (b : ℕ) → home a (f a / 8 - 1) ≡ At b → Way f' b (after_home (f a / 8 - 1))
+    pub way_back : (b : ℕ) → home a (f a / 8 - 1) ≡ Some b → Way f' b (after_home (f a / 8 - 1))
     way_back b e = go y.trail left
       where
         go : {s : List ℕ} → Trail f a s → ((k : ℕ) → 8 ≤ f' k → f' k % 8 < 7 → Mem k s) → Way f' b (after_home (f a / 8 - 1))
@@ -157,7 +156,7 @@ module _ (next home : ℕ → ℕ → Beside) where
             })
 
     -- it is over
-    pub way_over : home a (f a / 8 - 1) ≡ Off → Rest next f'
+    pub way_over : home a (f a / 8 - 1) ≡ None → Rest next f'
     way_over e = go y.trail left
       where
         go : {s : List ℕ} → Trail f a s → ((k : ℕ) → 8 ≤ f' k → f' k % 8 < 7 → Mem k s) → Rest next f'
@@ -170,10 +169,10 @@ module _ (next home : ℕ → ℕ → Beside) where
       → Way f a c
       → Upd f v (entered_by d) f'
       → First next f 1 a c 0 d
-      → next a d ≡ At v
+      → next a d ≡ Some v
       → d < 6
       → f v ≡ 1
-      → home v ((d + 3) % 6) ≡ At a
+      → home v ((d + 3) % 6) ≡ Some a
       → Way f' v 0
   way_down {f} {f'} {a} {c} {v} d y u p x six q e =
       let i : f' v ≡ entered_by d = u.at in
@@ -212,7 +211,7 @@ module _ (next home : ℕ → ℕ → Beside) where
       here_seen : (j : ℕ) → j ≡ d → f' v ≡ entered_by d → Shut next f' 1 a j
       here_seen j r i k z s = let g = ap f' (at_at x (ap (next a) (sym r) ∙ z)) in absurd (omega arith)
 
-module _ {next home : ℕ → ℕ → Beside} (g : TwoWay next home) where
+module _ {next home : ℕ → ℕ → Option ℕ} (g : TwoWay next home) where
   -- a walk starts at hex a
   pub way_start : {f f' : ℕ → ℕ} {a : ℕ} → Rest next f → Upd f a 56 f' → Way next home f' a 0
   way_start {f} {f'} {a} y u =

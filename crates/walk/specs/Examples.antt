@@ -1,9 +1,7 @@
 -- Beside what is certain: examples.
 -- Small maps on which the test is computed.
 -- Assumes nothing.
-use Rattle.std.specs.Prelude.{ℕ, ◌≡◌, refl, true, ◌&&◌, cond, List, [], ◌∷◌, map, eqb}
-use Rattle.grid.specs.declared.Beside.{Beside}
-use Rattle.grid.specs.declared.Beside.TheVariants.{Off}
+use Rattle.std.specs.Prelude.{ℕ, ◌≡◌, refl, true, ◌&&◌, cond, List, [], ◌∷◌, map, eqb, Option, None}
 use Rattle.grid.specs.Map.{neighbour_of}
 use Rattle.grid.specs.Rulings.{grid_open}
 use Rattle.position.specs.Tally.{any}
@@ -30,8 +28,8 @@ unfolding sweeping
 closed = refl
 
 -- the steps on a map of w by h hexes, but for one from hex a in direction d and one from hex b in direction e: a side seen from either hex
-abbrev pub but : ℕ → ℕ → ℕ → ℕ → ℕ → ℕ → ℕ → ℕ → Beside
-but w h a d b e k c = cond (eqb k a && eqb c d) Off (cond (eqb k b && eqb c e) Off (neighbour_of w h k c))
+abbrev pub but : ℕ → ℕ → ℕ → ℕ → ℕ → ℕ → ℕ → ℕ → Option ℕ
+but w h a d b e k c = cond (eqb k a && eqb c d) None (cond (eqb k b && eqb c e) None (neighbour_of w h k c))
 
 pub blocked : reach (but 3 1 1 1 2 4) (2 ∷ 1 ∷ 1 ∷ []) ≡ 1 ∷ 1 ∷ 0 ∷ []
 unfolding sweeping

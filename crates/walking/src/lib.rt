@@ -18,7 +18,6 @@ ghost use Rattle.walk.specs.Swept.{Joined, Walked};
 use grid::Spot;
 use position::View;
 use sweeping::row;
-use walk::Going;
 
 // The walk from spot `start`, which is open and has a source beside it: it enters every hex that open hexes join to it, but for sources and
 // what lies beyond them.
@@ -34,7 +33,7 @@ fn flood(p: &[u8], v: View, buf: &mut [u8], start: Spot)
     let mut s = start;
     let mut from = 0;
     loop {
-        let Going::To(t, f) = step::step(p, v, buf, s, from) else {
+        let Some((t, f)) = step::step(p, v, buf, s, from) else {
             return;
         };
         s = t;
@@ -53,7 +52,7 @@ fn seed(p: &[u8], v: View, buf: &mut [u8], s: Spot)
     if buf[at] != 1 {
         return;
     }
-    if 6 <= looking::look_0(p, v, buf, s, 0, 2) {
+    if looking::look(p, v, buf, s, 0, 2).is_none() {
         return;
     }
     flood(p, v, buf, s);
@@ -109,15 +108,8 @@ pub fn reach(p: &[u8], v: View, buf: &mut [u8])
 fn settle(buf: &mut [u8])
     ensures { Settled buf.old buf.new }
 {
-    let mut i = 0;
-    while i < buf.len() {
-        let m = buf[i];
-        if 2 <= m {
-            buf[i] = 1;
-        } else {
-            buf[i] = 0;
-        }
-        i += 1;
+    for m in buf.iter_mut() {
+        *m = u8::from(2 <= *m);
     }
 }
 

@@ -16,11 +16,11 @@ ghost use Rattle.routes.specs.Window.{free, Window};
 pub mod sent;
 
 use grid::region::Region;
-use grid::{Beside, near, region};
+use grid::{near, region};
 use position::{View, bits, layout};
-use routes::Found;
 
 // Whether a hex with the marks `m` is vacant and outside Enemy zones. Friends lift no zone.
+#[tactic(auto, unfolding(routes::specs::Window::free))]
 pub fn free(m: usize) -> bool
     ensures { result ≡ free m }
 {
@@ -30,119 +30,107 @@ pub fn free(m: usize) -> bool
     !bits::has(paint::ZONE, m)
 }
 
-// Whether hex `x` is at distance i + 1 from the start.
-pub fn as_far(p: &[u8], v: View, start: usize, i: usize, x: usize) -> bool
-    requires { Laid p.now v × (start < v.hexes) × (x < v.hexes) × (i < 3) }
-    ensures { result ≡ eqb (distance_of (width p.now) start x) (i + 1) }
-{
-    grid::distance(v.width, v.height, start, x) == i + 1
+// The hexes round hex `start`, where a group of force `f` begins its retreat: a position, and the marks of a region of its map.
+#[derive(Clone, Copy)]
+pub struct Painted<'a> {
+    pub p: &'a [u8],
+    pub v: View,
+    pub at: Region,
+    pub marks: &'a [u8],
+    pub f: usize,
+    pub start: usize,
+    pub ghost laid: { Laid p.now v },
+    pub ghost window: { Window p.now v f start at marks.now },
+    pub ghost starts: { start < v.hexes },
 }
 
-// Whether a retreating group of force `f` may enter hex `x` of the window.
-fn refuge(p: &[u8], v: View, at: Region, painted: &[u8], f: usize, start: usize, x: usize) -> bool
-    requires { Laid p.now v × Window p.now v f start at painted.now × (x < v.hexes) × Inside v.width v.height at x }
-    ensures { result ≡ refuge (board p.now) f x }
-{
-    if ground::standable(p, v, x) {
-        let s = near::spot(v.width, v.height, x);
-        let i = region::place(v.width, v.height, at, s);
-        return free(layout::wide(painted[i]));
+impl Painted<'_> {
+    // Whether hex `x` is at distance i + 1 from the start.
+    #[tactic(auto, using(position::proofs::Sides::on_view, routes::proofs::Steps::far_view))]
+    fn as_far(&self, i: usize, x: usize) -> bool
+        requires { (x < self.now.v.hexes) × (i < 3) }
+        ensures { result ≡ eqb (distance_of (width self.now.p.now) self.now.start x) (i + 1) }
+    {
+        grid::distance(self.v.width, self.v.height, self.start, x) == i + 1
     }
-    false
-}
 
-// Whether a run may enter hex `x` after `i` steps.
-pub fn enters(
-    p: &[u8],
-    v: View,
-    at: Region,
-    painted: &[u8],
-    f: usize,
-    start: usize,
-    i: usize,
-    x: usize,
-) -> bool
-    requires { Laid p.now v × Window p.now v f start at painted.now × (start < v.hexes) × (x < v.hexes) × (i < 3) }
-    ensures { result ≡ enters (board p.now) f start i x }
-{
-    if as_far(p, v, start, i, x) {
-        return refuge(p, v, at, painted, f, start, x);
-    }
-    false
-}
-
-// The hex that a run goes on to from hex `a` in direction `d` after `i` steps.
-fn step(
-    p: &[u8],
-    v: View,
-    at: Region,
-    painted: &[u8],
-    f: usize,
-    start: usize,
-    i: usize,
-    a: usize,
-    d: usize,
-) -> Beside
-    requires { Laid p.now v × (start < v.hexes) × (i < 3) × (d < 6) × Window p.now v f start at painted.now }
-    ensures { result ≡ step_of (board p.now) f start i a d }
-{
-    let Beside::At(x) = ground::next(p, v, a, d) else {
-        return Beside::Off;
-    };
-    if enters(p, v, at, painted, f, start, i, x) {
-        return Beside::At(x);
-    }
-    Beside::Off
-}
-
-// The first legal route of n hexes, directions tried clockwise: three nested loops left by a label.
-fn search(p: &[u8], v: View, at: Region, painted: &[u8], f: usize, start: usize, n: usize) -> Found
-    requires { Laid p.now v × (start < v.hexes) × (1 ≤ n) × (n ≤ 3) × Window p.now v f start at painted.now }
-    ensures { result ≡ first_route (board p.now) f start n }
-{
-    let mut found = Found::Nothing;
-    'search: for d1 in 0..6 {
-        let Beside::At(a) = step(p, v, at, painted, f, start, 0, start, d1) else {
-            continue;
-        };
-        if n == 1 {
-            found = Found::Route(a, layout::NOWHERE, layout::NOWHERE);
-            break 'search;
+    // Whether the group may enter hex `x` of the region.
+    #[tactic(auto, using(routes::proofs::Windows::refuge_free, routes::proofs::Windows::refuge_barred, routes::proofs::Windows::window_marked))]
+    fn refuge(&self, x: usize) -> bool
+        requires { (x < self.now.v.hexes) × Inside self.now.v.width self.now.v.height self.now.at x }
+        ensures { result ≡ refuge (board self.now.p.now) self.now.f x }
+    {
+        if ground::standable(self.p, self.v, x) {
+            let s = near::spot(self.v.width, self.v.height, x);
+            let i = region::place(self.v.width, self.v.height, self.at, s);
+            return free(layout::wide(self.marks[i]));
         }
-        for d2 in 0..6 {
-            let Beside::At(b) = step(p, v, at, painted, f, start, 1, a, d2) else {
+        false
+    }
+
+    // Whether a run may enter hex `x` after `i` steps.
+    #[tactic(auto, using(position::proofs::Sides::on_view, routes::proofs::Steps::far_view), unfolding(routes::specs::Legal::enters))]
+    fn enters(&self, i: usize, x: usize) -> bool
+        requires { (x < self.now.v.hexes) × (i < 3) }
+        ensures { result ≡ enters (board self.now.p.now) self.now.f self.now.start i x }
+    {
+        if self.as_far(i, x) {
+            return self.refuge(x);
+        }
+        false
+    }
+
+    // The hex that a run goes on to from hex `a` in direction `d` after `i` steps.
+    #[tactic(auto, unfolding(routes::specs::Search::step_of, routes::specs::Search::entered))]
+    fn step(&self, i: usize, a: usize, d: usize) -> Option<usize>
+        requires { (i < 3) × (d < 6) }
+        ensures { result ≡ step_of (board self.now.p.now) self.now.f self.now.start i a d }
+    {
+        let x = ground::next(self.p, self.v, a, d)?;
+        if self.enters(i, x) {
+            return Some(x);
+        }
+        None
+    }
+
+    // The first legal route of n hexes, NOWHERE where it has no more, directions tried clockwise: three nested loops left by a label.
+    fn search(&self, n: usize) -> Option<(usize, usize, usize)>
+        requires { (1 ≤ n) × (n ≤ 3) }
+        ensures { result ≡ first_route (board self.now.p.now) self.now.f self.now.start n }
+    {
+        let mut found = None;
+        'search: for d1 in 0..6 {
+            let Some(a) = self.step(0, self.start, d1) else {
                 continue;
             };
-            if n == 2 {
-                found = Found::Route(a, b, layout::NOWHERE);
+            if n == 1 {
+                found = Some((a, layout::NOWHERE, layout::NOWHERE));
                 break 'search;
             }
-            for d3 in 0..6 {
-                if let Beside::At(c) = step(p, v, at, painted, f, start, 2, b, d3) {
-                    found = Found::Route(a, b, c);
+            for d2 in 0..6 {
+                let Some(b) = self.step(1, a, d2) else {
+                    continue;
+                };
+                if n == 2 {
+                    found = Some((a, b, layout::NOWHERE));
                     break 'search;
+                }
+                for d3 in 0..6 {
+                    if let Some(c) = self.step(2, b, d3) {
+                        found = Some((a, b, c));
+                        break 'search;
+                    }
                 }
             }
         }
+        found
     }
-    found
-}
 
-// Whether it finds one.
-pub fn finds(
-    p: &[u8],
-    v: View,
-    at: Region,
-    painted: &[u8],
-    f: usize,
-    start: usize,
-    n: usize,
-) -> bool
-    requires { Laid p.now v × (start < v.hexes) × (1 ≤ n) × (n ≤ 3) × Window p.now v f start at painted.now }
-    ensures { result ≡ found (first_route (board p.now) f start n) }
-{
-    if let Found::Nothing = search(p, v, at, painted, f, start, n) {
-        return false;
+    // Whether it finds one.
+    pub fn finds(&self, n: usize) -> bool
+        requires { (1 ≤ n) × (n ≤ 3) }
+        ensures { result ≡ found (first_route (board self.now.p.now) self.now.f self.now.start n) }
+    {
+        self.search(n).is_some()
     }
-    true
 }

@@ -2,18 +2,11 @@
 -- Assumes nothing.
 use mathlib.Core.Bool.{not}
 use mathlib.Core.Path.{ap, sym, ◌∙◌}
-use native.Mathlib.Omega.{arith}
 use Rattle.aftermath.proofs.Advancing.{clear_other, clear_there}
 use Rattle.advance.proofs.clear_to.Goals as goal
 
-pub route-requires : goal.route-requires
-route-requires c = c.requires.0
-
 pub returns-then-route-hex : goal.returns-then-route-hex
 returns-then-route-hex c = sym (clear_other _ _ _ _ _ (λ e. c.if-route-hex.true (c.route.ensures.is ∙ e)))
-
-pub held_along-requires : goal.held_along-requires
-held_along-requires c = (c.requires.0, omega arith)
 
 pub returns : goal.returns
 returns c =

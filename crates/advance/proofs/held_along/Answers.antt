@@ -1,22 +1,12 @@
--- `advance::held_along` meets its contract. The loop's invariant: no Enemy stands on the numbers passed. The measure is how many are left.
+-- `advance::held_along` meets its contract: what the library's `any` says over the numbers of the route.
 -- Assumes nothing.
-use mathlib.Core.Path.{◌∙◌, sym}
-use native.Mathlib.Omega.{arith}
-use Rattle.position.proofs.Tallies.{any_true}
-use Rattle.field.proofs.Zones.{none_at_all, none_yet, one_more}
+use mathlib.Core.Path.{refl}
+use borrow.Author.Tests.{tests}
+use Rattle.std.proofs.Common.{rules}
+use Rattle.position.specs.Board.{board}
+use Rattle.position.proofs.Ranges.{any_over}
+use Rattle.aftermath.specs.Advance.{held_at}
 use Rattle.advance.proofs.held_along.Goals as goal
 
-pub loop-i-init : goal.loop-i-init
-loop-i-init c = none_yet
-
-pub held_at-requires : goal.held_at-requires
-held_at-requires c = c.requires.0
-
-pub returns-then-held_at : goal.returns-then-held_at
-returns-then-held_at c = sym (any_true _ _ c.loop-i.i (omega arith) (sym c.held_at.ensures ∙ c.if-held_at.true))
-
-pub loop-i-preserved : goal.loop-i-preserved
-loop-i-preserved c = one_more c.loop-i.invariant (omega arith) (sym c.held_at.ensures ∙ c.if-held_at.false)
-
 pub returns : goal.returns
-returns c = sym (none_at_all c.loop-i.invariant (omega arith))
+returns c = any_over (held_at (board c.args.p.now) c.args.u c.args.r) c.args.n refl c.any.ensures.ran (λ x b q k. search (rules, tests))

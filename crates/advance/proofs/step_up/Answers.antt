@@ -10,9 +10,6 @@ use Rattle.aftermath.proofs.Stages.{then_on_lem}
 use Rattle.aftermath.specs.Advance.{advance_changes}
 use Rattle.advance.proofs.step_up.Goals as goal
 
-pub place-requires : goal.place-requires
-place-requires c = c.requires
-
 pub assign-requires : goal.assign-requires
 assign-requires c = (
   (let a = c.args in

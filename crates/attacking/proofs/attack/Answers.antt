@@ -8,9 +8,9 @@ use Rattle.attacking.proofs.attack.Goals as goal
 pub judge_attack-requires : goal.judge_attack-requires
 judge_attack-requires c = c.requires.0
 
-pub returns-in-Stopped : goal.returns-in-Stopped
+pub returns-in-Err : goal.returns-in-Err
 unfolding attack_rule
-returns-in-Stopped c = subst (TestedOf _ _ _) c.in-Stopped.is c.judge_attack.ensures _ _
+returns-in-Err c = subst (TestedOf _ _ _) c.in-Err.is c.judge_attack.ensures _ _
 
 pub fight-requires : goal.fight-requires
 fight-requires c =

@@ -5,17 +5,17 @@ use Rattle.position.specs.Laid.{LaidOf}
 use Rattle.position.proofs.Answers.{said, unsaid}
 use Rattle.checking.proofs.check.Goals as goal
 
-pub returns-in_default : goal.returns-in_default
-returns-in_default c = λ t. subst (LaidOf _) c.in_default.is c.shape.ensures t.shaped
+pub returns-in_err-v : goal.returns-in_err-v
+returns-in_err-v c = rw c.from_residual.ensures (λ t. c.in_err-v.ensures t.shaped)
 
 pub lawful-requires : goal.lawful-requires
-lawful-requires c = (subst (LaidOf _) c.in-Whole.is c.shape.ensures)
+lawful-requires c = c.in_ok-v.ensures
 
 pub returns-then-not-lawful : goal.returns-then-not-lawful
 returns-then-not-lawful c = λ t. unsaid c.lawful.result c.if-not-lawful.true c.lawful.ensures t.lawful
 
 pub strengths_ok-requires : goal.strengths_ok-requires
-strengths_ok-requires c = (subst (LaidOf _) c.in-Whole.is c.shape.ensures)
+strengths_ok-requires c = c.in_ok-v.ensures
 
 pub returns-then-not-strengths_ok : goal.returns-then-not-strengths_ok
 returns-then-not-strengths_ok c =
@@ -23,7 +23,7 @@ returns-then-not-strengths_ok c =
 
 pub returns : goal.returns
 returns c =
-    let l = (subst (LaidOf _) c.in-Whole.is c.shape.ensures) in (
+    let l = c.in_ok-v.ensures in (
       record {
         shaped = l.shaped;
         strengths = said c.strengths_ok.result c.if-not-strengths_ok.false c.strengths_ok.ensures;

@@ -1,19 +1,12 @@
--- `units_ok::each_ok` meets its contract. The loop's invariant: every unit before u is as it should be.
+-- `counters::each_ok` meets its contract: what the library's `all` says over the units.
 -- Assumes nothing.
-use native.Mathlib.Omega.{arith}
-use Rattle.position.proofs.Answers.{said, unsaid, none_yet, one_more, all, not_all}
+use mathlib.Core.Path.{refl}
+use borrow.Author.Tests.{tests}
+use Rattle.std.proofs.Common.{rules}
+use Rattle.acceptance.specs.Asked.{AloneOk}
+use Rattle.position.specs.Board.{board}
+use Rattle.position.proofs.Ranges.{all_named}
 use Rattle.counters.proofs.each_ok.Goals as goal
 
-pub loop-u-init : goal.loop-u-init
-loop-u-init c = none_yet
-
-pub returns-then-not-alone_ok : goal.returns-then-not-alone_ok
-returns-then-not-alone_ok c =
-    not_all c.loop-u.invariant (omega arith) (unsaid c.alone_ok.result c.if-not-alone_ok.true c.alone_ok.ensures)
-
-pub loop-u-preserved : goal.loop-u-preserved
-loop-u-preserved c =
-    one_more c.loop-u.invariant (omega arith) (said c.alone_ok.result c.if-not-alone_ok.false c.alone_ok.ensures)
-
 pub returns : goal.returns
-returns c = all c.loop-u.invariant (omega arith)
+returns c = all_named (AloneOk (board c.args.p.now)) c.requires.view.count refl c.all.ensures.ran (λ x b q k. search (rules, tests))

@@ -1,24 +1,12 @@
--- `units_ok::strengths_ok` meets its contract. The loop's invariant: the strength of every unit before u is 1..60.
+-- `counters::strengths_ok` meets its contract: what the library's `all` says over the units.
 -- Assumes nothing.
-use mathlib.Core.Path.{sym}
-use native.Mathlib.Omega.{arith}
-use Rattle.position.proofs.Answers.{said, unsaid, carry, none_yet, one_more, all, not_all}
+use mathlib.Core.Path.{refl}
+use borrow.Author.Tests.{tests}
+use Rattle.std.proofs.Common.{rules}
+use Rattle.position.specs.Layout.{strength}
+use Rattle.position.specs.Shape.{In}
+use Rattle.position.proofs.Ranges.{all_named}
 use Rattle.counters.proofs.strengths_ok.Goals as goal
 
-pub loop-u-init : goal.loop-u-init
-loop-u-init c = none_yet
-
-pub returns-then-not-within : goal.returns-then-not-within
-returns-then-not-within c =
-    not_all c.loop-u.invariant (omega arith)
-    (λ i. unsaid c.within.result c.if-not-within.true c.within.ensures
-    (carry (sym c.strength.ensures.is) i))
-
-pub loop-u-preserved : goal.loop-u-preserved
-loop-u-preserved c =
-    one_more c.loop-u.invariant (omega arith)
-    (carry c.strength.ensures.is
-    (said c.within.result c.if-not-within.false c.within.ensures))
-
 pub returns : goal.returns
-returns c = all c.loop-u.invariant (omega arith)
+returns c = all_named (λ u. In 1 (strength c.args.p.now u) 60) c.requires.view.count refl c.all.ensures.ran (λ x b q k. search (rules, tests))

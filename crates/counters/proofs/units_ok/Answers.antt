@@ -1,28 +1,28 @@
--- `units_ok::units_ok` meets its contract: each unit, the stacks and the roles are asked for, and that is all.
+-- `counters::units_ok` meets its contract: each unit, the stacks and the roles are asked for, and that is all.
 -- Assumes nothing.
+use mathlib.Core.Path.{sym, ◌∙◌}
 use native.Mathlib.Omega.{arith}
-use Rattle.position.proofs.Answers.{said, unsaid}
+use Rattle.position.proofs.Answers.{said, unsaid, told}
+use Rattle.position.proofs.Tallies.{not_both}
 use Rattle.acceptance.proofs.Asking.{units_asked, alone_of, stacks_of, roles_of}
 use Rattle.counters.proofs.units_ok.Goals as goal
+use Rattle.counters.proofs.units_ok.Goals.{then-each_ok, else-each_ok}
 
-pub returns-then-not-each_ok : goal.returns-then-not-each_ok
-returns-then-not-each_ok c = λ t. unsaid c.each_ok.result c.if-not-each_ok.true c.each_ok.ensures (alone_of t)
+pub returns-then-stacks_ok : goal.returns-then-stacks_ok
+returns-then-stacks_ok c =
+    elim c.if-each_ok.branch [
+      | then-each_ok w ↦
+          told c.roles_ok.result
+          (units_asked (said c.each_ok.result w.if-each_ok.true c.each_ok.ensures) (said w.stacks_ok.result (sym w.value-is ∙ c.if-stacks_ok.true) w.stacks_ok.ensures))
+          roles_of c.roles_ok.ensures
+      | else-each_ok w ↦ not_both c.if-each_ok.value c.if-stacks_ok.true (w.value-is ∙ w.if-each_ok.false)
+    ]
 
-pub stacks_ok-requires : goal.stacks_ok-requires
-stacks_ok-requires c = (c.requires, said c.each_ok.result c.if-not-each_ok.false c.each_ok.ensures)
-
-pub returns-then-not-stacks_ok : goal.returns-then-not-stacks_ok
-returns-then-not-stacks_ok c =
+pub returns-else-stacks_ok : goal.returns-else-stacks_ok
+returns-else-stacks_ok c =
     let l = c.requires in
-    λ t. unsaid c.stacks_ok.result c.if-not-stacks_ok.true c.stacks_ok.ensures
-    (stacks_of t (omega (arith, l.fits.hexes, l.view.hexes)))
-
-pub returns-then-not-roles_ok : goal.returns-then-not-roles_ok
-returns-then-not-roles_ok c = λ t. unsaid c.roles_ok.result c.if-not-roles_ok.true c.roles_ok.ensures (roles_of t)
-
-pub returns : goal.returns
-returns c =
-    units_asked
-    (said c.each_ok.result c.if-not-each_ok.false c.each_ok.ensures)
-    (said c.stacks_ok.result c.if-not-stacks_ok.false c.stacks_ok.ensures)
-    (said c.roles_ok.result c.if-not-roles_ok.false c.roles_ok.ensures)
+    rw c.if-stacks_ok.false
+    (λ t. elim c.if-each_ok.branch [
+      | then-each_ok w ↦ unsaid w.stacks_ok.result (sym w.value-is ∙ c.if-stacks_ok.false) w.stacks_ok.ensures (stacks_of t (omega (arith, l.fits.hexes, l.view.hexes)))
+      | else-each_ok w ↦ unsaid c.each_ok.result w.if-each_ok.false c.each_ok.ensures (alone_of t)
+    ])

@@ -1,33 +1,14 @@
--- `crowd::routes` meets its contract. The loop's invariant: `n` is how many routes below `r` are filled.
--- The measure is how many are left.
+-- `crowd::routes` meets its contract: what the library's `count` says over the routes.
 -- Assumes nothing.
-use mathlib.Core.Path.{sym, ap, ◌∙◌}
+use mathlib.Core.Path.{refl}
+use borrow.Author.Tests.{tests}
 use native.Mathlib.Omega.{arith}
-use Rattle.position.specs.Tally.{tally}
+use Rattle.std.proofs.Common.{rules}
+use Rattle.crowd.proofs.Counting.{counted}
 use Rattle.position.specs.Board.{board}
 use Rattle.position.specs.Crowd.{filled, routes}
-use Rattle.position.proofs.Tallies.{tally_zero, tally_hit, tally_miss}
 use Rattle.crowd.proofs.routes.Goals as goal
-use Rattle.crowd.proofs.routes.Goals.{then-filled, else-filled}
-
-pub loop-r-init : goal.loop-r-init
-loop-r-init c = (omega arith, omega arith, sym (tally_zero _))
-
-pub loop-r-preserved : goal.loop-r-preserved
-loop-r-preserved c =
-    let a = c.args in
-    let r = c.loop-r.r in
-    let e = sym c.filled.ensures in
-    elim c.if-filled.branch [
-      | then-filled w ↦ omega (arith, tally_hit (filled (board a.p.now)) r (e ∙ w.if-filled.true))
-      | else-filled w ↦ omega (arith, tally_miss (filled (board a.p.now)) r (e ∙ w.if-filled.false))
-    ]
 
 pub returns : goal.returns
 unfolding routes
-returns c =
-    let a = c.args in
-    record {
-      is = c.loop-r.invariant.2 ∙ ap (tally (filled (board a.p.now))) (omega arith);
-      small = omega arith;
-    }
+returns c = counted (filled (board c.args.p.now)) refl (omega arith) c.filter.ensures.source c.filter.ensures.closure c.count.ensures.ran (λ x b q k. search (rules, tests))

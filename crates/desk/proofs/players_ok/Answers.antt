@@ -1,19 +1,13 @@
--- `desk_ok::players_ok` meets its contract. The loop's invariant: every force before f has a player that it may have.
+-- `desk::players_ok` meets its contract: what the library's `all` says over the forces.
 -- Assumes nothing.
-use native.Mathlib.Omega.{arith}
-use Rattle.position.proofs.Answers.{said, unsaid, none_yet, one_more, all, not_all}
+use mathlib.Core.Path.{refl}
+use borrow.Author.Tests.{tests}
+use Rattle.std.proofs.Common.{rules}
+use Rattle.acceptance.specs.Accepted.{PlayerOk}
+use Rattle.position.specs.Board.{desk}
+use Rattle.position.specs.Layout.{forces}
+use Rattle.position.proofs.Ranges.{all_over}
 use Rattle.desk.proofs.players_ok.Goals as goal
 
-pub loop-f-init : goal.loop-f-init
-loop-f-init c = none_yet
-
-pub returns-then-not-player_ok : goal.returns-then-not-player_ok
-returns-then-not-player_ok c =
-    not_all c.loop-f.invariant (omega arith) (unsaid c.player_ok.result c.if-not-player_ok.true c.player_ok.ensures)
-
-pub loop-f-preserved : goal.loop-f-preserved
-loop-f-preserved c =
-    one_more c.loop-f.invariant (omega arith) (said c.player_ok.result c.if-not-player_ok.false c.player_ok.ensures)
-
 pub returns : goal.returns
-returns c = all c.loop-f.invariant (omega arith)
+returns c = all_over (PlayerOk (desk c.args.p.now)) forces refl c.all.ensures.ran (λ x b q k. search (rules, tests))

@@ -1,10 +1,7 @@
 -- `ending::judge_force` judges a force's units: two nationalities one after the other for force 3, else one.
 -- Assumes nothing.
-use Rattle.march.proofs.Ends.{judges_home, judges_one}
+use Rattle.march.proofs.Ends.{judges_one}
 use Rattle.ending.proofs.judge_force.Goals as goal
-
-pub returns-then-f-eq-HOME : goal.returns-then-f-eq-HOME
-returns-then-f-eq-HOME c = judges_home c.if-f-eq-HOME.true c.judge_home.ensures
 
 pub returns : goal.returns
 returns c = judges_one _ c.requires.0.view.count c.if-f-eq-HOME.false c.judge_all.ensures.1

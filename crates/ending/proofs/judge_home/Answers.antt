@@ -2,11 +2,8 @@
 -- Canada.
 -- Assumes nothing.
 use mathlib.Core.Path.{refl}
-use Rattle.march.proofs.Ends.{traced_after, judges_two}
+use Rattle.march.proofs.Ends.{judges_two}
 use Rattle.ending.proofs.judge_home.Goals as goal
-
-pub retrace-requires : goal.retrace-requires
-retrace-requires c = let j = c.judge_all.ensures in (j.0, traced_after j.1 c.trace.ensures)
 
 pub returns : goal.returns
 returns c = let l = c.requires.0 in judges_two _ l.view.count l.shaped refl c.judge_all.ensures.1 c.judge_all-2.ensures.1

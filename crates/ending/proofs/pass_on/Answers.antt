@@ -9,9 +9,6 @@ use Rattle.clock.specs.Clock.{next_clock}
 use Rattle.march.proofs.Ends.{next_bytes, all_ended}
 use Rattle.ending.proofs.pass_on.Goals as goal
 
-pub moved_on-next-requires : goal.moved_on-next-requires
-moved_on-next-requires c = let k = c.clock_of-now.ensures in (k.turn, k.force, k.phase)
-
 pub set_clock-requires : goal.set_clock-requires
 set_clock-requires c =
     let e = (c.moved_on-next.ensures ∙ ap next_clock c.clock_of-now.ensures.is) in

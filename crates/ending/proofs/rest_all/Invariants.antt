@@ -1,6 +1,5 @@
 -- `ending::rest_all` rests every unit. The loop's invariant: the units below u are rested.
 -- Assumes nothing.
-use Prim.Native.Nat.{◌-◌, ◌≤◌}
 use mathlib.Core.Path.{◌≡◌}
 use Rattle.position.specs.Board.{board}
 use Rattle.position.specs.Change.{makes}
@@ -9,7 +8,4 @@ use Rattle.march.specs.EndPhase.{rest_all}
 use Rattle.ending.proofs.rest_all.Given as goal
 
 abbrev pub invariant-loop-u : goal.invariant-loop-u
-invariant-loop-u l = (l.u ≤ l.count) × (l.p ≡ makes l.initial.p (rest_all (board l.initial.p) l.u)) × Laid l.p l.v
-
-abbrev pub decreases-loop-u : goal.decreases-loop-u
-decreases-loop-u l = l.count - l.u
+invariant-loop-u l = (l.p ≡ makes l.initial.p (rest_all (board l.initial.p) l.u)) × Laid l.p l.v

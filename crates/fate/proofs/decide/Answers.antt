@@ -1,7 +1,7 @@
 -- `fate::decide` meets its contract: whether others than supply units owe is asked first, then what the outlook is.
 -- Assumes nothing.
 use Rattle.std.proofs.Common.{Bool, ℕ, List}
-use mathlib.Core.Path.{◌≡◌, refl, sym, ap, subst, ◌∙◌}
+use mathlib.Core.Path.{◌≡◌, sym, ap, ◌∙◌}
 use Rattle.position.specs.Board.{Board, board}
 use Rattle.routes.specs.Outlook.{OutlookOf}
 use Rattle.routes.specs.declared.Outlook.{Outlook}
@@ -9,20 +9,22 @@ use Rattle.shoves.specs.Group.{group_force}
 use Rattle.retreat.specs.Fate.{lost_fate}
 use Rattle.retreat.proofs.Alone.{alone_series}
 use Rattle.retreat.proofs.Fates.{fate_illegal, fate_legal, fate_served, fate_supply, fate_trapped}
-use Rattle.retreat.proofs.Groups.{outlook_as, told_alone, told_friends, told_illegal, told_legal}
+use Rattle.retreat.proofs.Groups.{told_alone, told_friends, told_illegal, told_legal}
 use Rattle.fate.proofs.decide.Goals as goal
 
 pub returns-then-not-any_walks : goal.returns-then-not-any_walks
 returns-then-not-any_walks c =
     let s = c.args in
     let e = sym c.any_walks.ensures ∙ c.if-not-any_walks.true in
-    c.by_part.ensures ∙ fate_supply (board s.p.now) s.h s.route.now s.pushes.now e
+    c.by_part.ensures
+    ∙ ap (λ (t : Bool). lost_fate t s.pushes.now) c.is_empty.ensures
+    ∙ fate_supply (board s.p.now) s.h s.route.now s.pushes.now e
 
 -- what the outlook says
 seen :
     (b : Board) (h n : ℕ) (route : List ℕ) (x r : Outlook) → n ≡ b.desk.battle.owed → OutlookOf b (group_force b h) h n route x → x ≡ r
     → OutlookOf b (group_force b h) h b.desk.battle.owed route r
-seen b h n route x r i o e = outlook_as b h route r refl i (subst (OutlookOf b (group_force b h) h n route) e o)
+seen b h n route x r i o e = rw e at (rw i at o)
 
 pub by_pushes-requires : goal.by_pushes-requires
 by_pushes-requires c =

@@ -16,10 +16,6 @@ returns-then-owed-longer c =
     (part_run _ _ _ _ (sym c.requires.4 ∙ c.if-not-run.false)
     ∙ longer_known _ _ _ _ _ (omega (arith, c.if-owed-longer.true, c.owed.ensures.is)) (none_found _ _ c.requires.3))
 
-pub no_run-requires : goal.no_run-requires
-no_run-requires c =
-    (c.requires.0, c.requires.1, omega arith, omega (arith, c.requires.2, c.if-owed-longer.false, c.owed.ensures.is))
-
 pub returns : goal.returns
 returns c =
     c.no_run.ensures

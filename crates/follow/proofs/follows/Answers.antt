@@ -8,12 +8,6 @@ use Rattle.follow.proofs.follows.Goals as goal
 pub loop-i-init : goal.loop-i-init
 loop-i-init c = followed_none c.requires.0 refl c.requires.2
 
-pub bounds-route-i : goal.bounds-route-i
-bounds-route-i c = omega arith
-
-pub overflow_cast-route : goal.overflow_cast-route
-overflow_cast-route c = omega (arith, c.type_inv.route c.loop-i.i)
-
 pub place_in-x-requires : goal.place_in-x-requires
 place_in-x-requires c = c.requires.1
 
@@ -31,16 +25,10 @@ returns-in_default c = sym (followed_wrong c.loop-i.invariant (omega arith)
     c.place_in-x.ensures c.enter.ensures
     c.in_default.is)
 
-pub overflow_step-i : goal.overflow_step-i
-overflow_step-i c = omega arith
-
-pub loop-i-smaller : goal.loop-i-smaller
-loop-i-smaller c = omega arith
-
 pub loop-i-preserved : goal.loop-i-preserved
 loop-i-preserved c = followed_more c.loop-i.invariant (omega arith)
     c.place_in-x.ensures
-    c.enter.ensures c.in-UpTo.is
+    c.enter.ensures c.in-Some.is
 
 pub returns : goal.returns
 returns c = sym (followed_all c.loop-i.invariant (omega arith))

@@ -17,15 +17,15 @@ take-requires c = let p = c.requires in (
   p.4,
 )
 
-pub returns-in_default : goal.returns-in_default
-returns-in_default c = pushed_wrong c.own-own.ensures.0 c.take.ensures c.in_default.is
+pub returns-in_err-y : goal.returns-in_err-y
+returns-in_err-y c = rw c.from_residual.ensures (pushed_wrong c.own-own.ensures.0 c.take.ensures c.in_err-y.was)
 
 pub shift-requires : goal.shift-requires
 shift-requires c = (
   c.requires.0,
   c.requires.3,
-  (c.take.ensures.ends _ _ c.in-UpTo.is).0,
+  (c.take.ensures.ends _ _ c.in_ok-y.was).0,
 )
 
 pub returns : goal.returns
-returns c = pushed_to c.own-own.ensures.0 c.take.ensures c.in-UpTo.is c.shift.ensures
+returns c = pushed_to c.own-own.ensures.0 c.take.ensures c.in_ok-y.was c.shift.ensures

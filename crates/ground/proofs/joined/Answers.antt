@@ -1,10 +1,9 @@
 -- `ground::joined` meets its contract: hexes are joined exactly if one has a bearing from the other.
 -- Assumes nothing.
-use mathlib.Core.Path.{ap, ◌∙◌}
-use Prim.Native.Nat.{ℕ}
-use lib.Dec.{ltb}
+use mathlib.Core.Path.{◌∙◌}
 use Rattle.position.proofs.Bearings.{bearing_joined}
+use Rattle.position.proofs.Options.{told}
 use Rattle.ground.proofs.joined.Goals as goal
 
 pub returns : goal.returns
-returns c = ap (λ (k : ℕ). ltb k 6) c.bearing.ensures.is ∙ bearing_joined _ _ _
+returns c = c.is_some.ensures ∙ told _ _ c.bearing.result c.bearing.ensures ∙ bearing_joined _ _ _

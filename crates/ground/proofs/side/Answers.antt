@@ -19,7 +19,7 @@ returns-in_default c =
 pub returns : goal.returns
 returns c =
     let e = c.neighbour.ensures ∙ beside_view c.requires.0.view c.args.h c.args.d in
-    let o = sym e ∙ c.in-At.is in
+    let o = sym e ∙ c.in-Some.is in
     record {
       is = c.stored-2.ensures.is ∙ sym (side_beyond (ground c.args.p.now) c.args.h c.args.d _ (omega arith) o);
       small = c.stored-2.ensures.small;

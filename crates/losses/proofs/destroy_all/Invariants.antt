@@ -1,12 +1,8 @@
--- `losses::destroy_all` meets its contract. The loop's invariant: the units passed are destroyed. The measure is how many are left.
+-- `losses::destroy_all` meets its contract. The loop's invariant: the units passed are destroyed.
 -- Assumes nothing.
-use Prim.Native.Nat.{◌-◌}
 use Rattle.field.proofs.Making.{Making}
 use Rattle.position.specs.Change.Change.{destroyed}
 use Rattle.losses.proofs.destroy_all.Given as goal
 
-abbrev pub invariant-loop-i : goal.invariant-loop-i
-invariant-loop-i l = Making destroyed l.initial.p l.v l.units l.i l.p
-
-abbrev pub decreases-loop-i : goal.decreases-loop-i
-decreases-loop-i l = l.i-end - l.i
+abbrev pub invariant-loop-u : goal.invariant-loop-u
+invariant-loop-u l = Making destroyed l.initial.p l.v l.units l.u-index l.p

@@ -1,7 +1,5 @@
 -- `losses::each_loss` meets its contract. The loop's invariant: what meets the tests from the next place on meets them all.
--- The measure is how many places are left.
 -- Assumes nothing.
-use Prim.Native.Nat.{◌-◌}
 use mathlib.Core.List.{[]}
 use lib.ListN.{take}
 use Rattle.position.specs.Board.{board}
@@ -12,6 +10,3 @@ use Rattle.losses.proofs.each_loss.Given as goal
 
 abbrev pub invariant-loop-i : goal.invariant-loop-i
 invariant-loop-i l = Gone l.p (loss (board l.p)) and_then [] l.units l.i (take l.i l.units)
-
-abbrev pub decreases-loop-i : goal.decreases-loop-i
-decreases-loop-i l = l.i-end - l.i

@@ -6,17 +6,8 @@ use native.Mathlib.Omega.{arith}
 use Rattle.aftermath.proofs.Losing.{enough_all, enough_need}
 use Rattle.losses.proofs.enough.Goals as goal
 
-pub need-requires : goal.need-requires
-need-requires c = c.requires.0
-
-pub shown_total-requires : goal.shown_total-requires
-shown_total-requires c = (c.requires.0, c.requires.1)
-
 pub returns-then-need-shown_total : goal.returns-then-need-shown_total
 returns-then-need-shown_total c = sym (enough_need _ _ (omega (arith, c.if-need-shown_total.true, c.need.ensures.is, c.shown_total.ensures)))
-
-pub any_spared-requires : goal.any_spared-requires
-any_spared-requires c = c.requires.0
 
 pub returns : goal.returns
 returns c =

@@ -1,24 +1,15 @@
--- `losses::names_other` meets its contract. The loop's invariant: no unit passed is named and of another type. The measure is how many are left.
+-- `losses::names_other` meets its contract: what the library's `any` says over the units.
 -- Assumes nothing.
-use mathlib.Core.Path.{◌∙◌, ap, sym}
-use native.Mathlib.Omega.{arith}
-use Rattle.position.proofs.Tallies.{any_true}
+use mathlib.Core.Path.{refl, ap, ◌∙◌}
+use borrow.Author.Tests.{tests}
+use Rattle.std.proofs.Common.{rules}
 use Rattle.position.specs.Board.{board}
 use Rattle.position.specs.Tally.{any}
-use Rattle.field.proofs.Zones.{none_at_all, none_yet, one_more}
+use Rattle.position.proofs.Ranges.{any_over}
 use Rattle.aftermath.specs.Losses.{other_type}
 use Rattle.losses.proofs.names_other.Goals as goal
 
-pub loop-u-init : goal.loop-u-init
-loop-u-init c = none_yet
-
-pub returns-then-other_type : goal.returns-then-other_type
-returns-then-other_type c = sym (any_true _ _ c.loop-u.u (omega arith) (sym c.other_type.ensures ∙ c.if-other_type.true))
-
-pub loop-u-preserved : goal.loop-u-preserved
-loop-u-preserved c = one_more c.loop-u.invariant (omega arith) (sym c.other_type.ensures ∙ c.if-other_type.false)
-
 pub returns : goal.returns
 returns c =
-    let a = c.args in
-    sym (ap (any (other_type (board a.p.now) a.units.now)) (sym c.requires.view.count) ∙ none_at_all c.loop-u.invariant (omega arith))
+    let t = other_type (board c.args.p.now) c.args.units.now in
+    any_over t c.args.v.count refl c.any.ensures.ran (λ x b q k. search (rules, tests)) ∙ ap (any t) c.requires.view.count

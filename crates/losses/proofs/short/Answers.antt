@@ -4,14 +4,8 @@ use mathlib.Core.Path.{sym, ◌∙◌}
 use Rattle.aftermath.proofs.Losing.{short_need, short_special}
 use Rattle.losses.proofs.short.Goals as goal
 
-pub enough-requires : goal.enough-requires
-enough-requires c = (c.requires.0, c.requires.1)
-
 pub returns-then-not-enough : goal.returns-then-not-enough
 returns-then-not-enough c = sym (short_need _ _ (sym c.enough.ensures ∙ c.if-not-enough.true))
-
-pub passed_over-requires : goal.passed_over-requires
-passed_over-requires c = c.requires.0
 
 pub returns : goal.returns
 returns c = c.passed_over.ensures ∙ sym (short_special _ _ (sym c.enough.ensures ∙ c.if-not-enough.false))

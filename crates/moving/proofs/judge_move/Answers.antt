@@ -8,11 +8,12 @@ use mathlib.Core.List.{List}
 use lib.ListN.{length}
 use lib.Dec.{leb}
 use borrow.Author.Tests.{le-leb, lt-leb}
+use Rattle.std.proofs.lemmas.Result.{err_from_is_err_and}
 use Rattle.position.specs.Board.{board}
 use Rattle.ruling.specs.Verdict.Verdict.{refuse_if}
 use Rattle.ruling.proofs.Meets.{pass, stop}
 use Rattle.march.specs.Move.{path_length, may_move_now, move_checks}
-use Rattle.ruling.specs.Judged.{Passes, TestedOf}
+use Rattle.ruling.specs.Judged.{Passes}
 use Rattle.field.specs.Listed.{on_map_all}
 use Rattle.march.proofs.Moves.{path_short, path_long, path_fits}
 use Rattle.march.proofs.Judging.{path_through}
@@ -50,27 +51,28 @@ returns-then-count-u c =
 pub on_map_all-requires : goal.on_map_all-requires
 on_map_all-requires c = (c.requires, omega arith)
 
-pub returns-in-Stopped : goal.returns-in-Stopped
+pub returns-in_err-on_map_all : goal.returns-in_err-on_map_all
 unfolding move_checks
-returns-in-Stopped c =
-    λ l v. pass (ap not (path_fits _ (omega arith) (omega arith))) (pass (let a = c.args in
-    lt-leb (board a.p.now).units.count a.u (omega arith)) (subst (TestedOf _ _ _) c.in-Stopped.is c.on_map_all.ensures l _))
+returns-in_err-on_map_all c =
+    let e = err_from_is_err_and c.from_residual.result c.from_residual.ensures.1 in
+    rw (e.1, e.2) (λ l v. pass (ap not (path_fits _ (omega arith) (omega arith))) (pass (let a = c.args in
+    lt-leb (board a.p.now).units.count a.u (omega arith)) (c.in_err-on_map_all.ensures l _)))
 
 pub returns-then-not-may_move_now : goal.returns-then-not-may_move_now
 unfolding move_checks
 returns-then-not-may_move_now c =
-    λ l v. to_map c.args.p.now c.args.path.now c.args.u (omega arith) (omega arith) (omega arith) (subst (TestedOf _ _ _) c.in_default.is c.on_map_all.ensures).0 l _ _ _ _ (stop (ap not (sym c.may_move_now.ensures ∙ c.if-not-may_move_now.true)))
+    λ l v. to_map c.args.p.now c.args.path.now c.args.u (omega arith) (omega arith) (omega arith) c.in_ok-on_map_all.ensures.0 l _ _ _ _ (stop (ap not (sym c.may_move_now.ensures ∙ c.if-not-may_move_now.true)))
 
 pub returns-then-not_phasing : goal.returns-then-not_phasing
 unfolding move_checks
 returns-then-not_phasing c =
-    λ l v. to-now c.args.p.now c.args.path.now c.args.u (omega arith) (omega arith) (omega arith) (subst (TestedOf _ _ _) c.in_default.is c.on_map_all.ensures).0 (sym c.may_move_now.ensures ∙ c.if-not-may_move_now.false) l _ _ _ _ (stop (sym c.not_phasing.ensures ∙ c.if-not_phasing.true))
+    λ l v. to-now c.args.p.now c.args.path.now c.args.u (omega arith) (omega arith) (omega arith) c.in_ok-on_map_all.ensures.0 (sym c.may_move_now.ensures ∙ c.if-not-may_move_now.false) l _ _ _ _ (stop (sym c.not_phasing.ensures ∙ c.if-not_phasing.true))
 
 pub returns-then-forbidden : goal.returns-then-forbidden
 unfolding move_checks
 returns-then-forbidden c =
     λ l v.
-    to-now c.args.p.now c.args.path.now c.args.u (omega arith) (omega arith) (omega arith) (subst (TestedOf _ _ _) c.in_default.is c.on_map_all.ensures).0 (sym c.may_move_now.ensures ∙ c.if-not-may_move_now.false) l _ _ _ _
+    to-now c.args.p.now c.args.path.now c.args.u (omega arith) (omega arith) (omega arith) c.in_ok-on_map_all.ensures.0 (sym c.may_move_now.ensures ∙ c.if-not-may_move_now.false) l _ _ _ _
     (pass (sym c.not_phasing.ensures ∙ c.if-not_phasing.false) (stop (sym c.forbidden.ensures ∙ c.if-forbidden.true)))
 
 pub steps-requires : goal.steps-requires
@@ -81,7 +83,7 @@ unfolding move_checks
 returns c =
     path_through
     (λ l v a q m w.
-    to-now c.args.p.now c.args.path.now c.args.u (omega arith) (omega arith) (omega arith) (subst (TestedOf _ _ _) c.in_default.is c.on_map_all.ensures).0 (sym c.may_move_now.ensures ∙ c.if-not-may_move_now.false) l _ a q m
+    to-now c.args.p.now c.args.path.now c.args.u (omega arith) (omega arith) (omega arith) c.in_ok-on_map_all.ensures.0 (sym c.may_move_now.ensures ∙ c.if-not-may_move_now.false) l _ a q m
     (pass (sym c.not_phasing.ensures ∙ c.if-not_phasing.false) (pass (sym c.forbidden.ensures ∙ c.if-forbidden.false) w)))
     c.steps.result
     c.steps.ensures

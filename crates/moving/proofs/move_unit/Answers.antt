@@ -6,12 +6,12 @@ use Rattle.march.specs.Move.{move_rule}
 use Rattle.march.specs.Judged.{PathOf}
 use Rattle.moving.proofs.move_unit.Goals as goal
 
-pub returns-in-Stop : goal.returns-in-Stop
+pub returns-in-Err : goal.returns-in-Err
 unfolding move_rule
-returns-in-Stop c = subst (PathOf _ _) c.in-Stop.is c.judge_move-way.ensures [] _
+returns-in-Err c = subst (PathOf _ _) c.in-Err.is c.judge_move.ensures [] _
 
-pub returns-in-To : goal.returns-in-To
+pub returns-in-Ok : goal.returns-in-Ok
 unfolding move_rule
-returns-in-To c =
-    let o = subst (PathOf _ _) c.in-To.is c.judge_move-way.ensures in
+returns-in-Ok c =
+    let o = subst (PathOf _ _) c.in-Ok.is c.judge_move.ensures in
     o.passes [] _ _ _ [] (rw o.at c.arrive.ensures)

@@ -6,9 +6,9 @@ use Prim.Native.Nat.{ℕ, ◌+◌}
 use mathlib.Core.Path.{refl, sym, subst, ◌∙◌}
 use native.Mathlib.Omega.{arith}
 use lib.ListN.{get_or}
+use Rattle.std.proofs.lemmas.Result.{err_from_is_err_and}
 use Rattle.position.specs.Board.{board}
 use Rattle.march.specs.Move.{leg, step, after_step, steps}
-use Rattle.march.specs.Judged.{WayOf}
 use Rattle.ruling.proofs.Going.{Gone, gone_none, gone_stop, gone_end}
 use Rattle.march.proofs.Steps.{leaves_first, leaves_later}
 use Rattle.march.proofs.Judging.{gone_step}
@@ -24,26 +24,24 @@ loop-i-init c =
       sym (leaves_first b a.u (leg c.hex-at.result 0) 1 (omega arith)),
     )
 
-pub overflow_cast-x : goal.overflow_cast-x
-overflow_cast-x c = omega (arith, c.type_inv.path c.loop-i.i)
-
 pub one_step-requires : goal.one_step-requires
 one_step-requires c = (c.requires.0, c.loop-i.invariant.1, c.loop-i.invariant.2)
 
-pub returns-in-Stop : goal.returns-in-Stop
+pub returns-in_err-total : goal.returns-in_err-total
 unfolding steps
-returns-in-Stop c =
-    gone_stop c.loop-i.invariant.0 (omega arith) (subst (WayOf _ _ _ _) c.in-Stop.is c.one_step.ensures)
+returns-in_err-total c =
+    let e = err_from_is_err_and c.from_residual.result c.from_residual.ensures.1 in
+    rw (e.1, e.2) (gone_stop c.loop-i.invariant.0 (omega arith) c.in_err-total.ensures)
 
 pub loop-i-preserved : goal.loop-i-preserved
 loop-i-preserved c =
-    let w = subst (WayOf _ _ _ _) c.in-On.is c.one_step.ensures in
+    let w = c.in_ok-total.ensures in
     let i = c.loop-i in
     let a = c.args in
     let b = board a.p.now in (
       gone_step b a.u i.invariant.0 (omega arith) w,
       w.small,
-      w.enters ∙ sym (leaves_later b a.u (leg (get_or a.path.now i.i 0) c.in-On.total) (i.i + 1 + 1) (omega arith)),
+      w.enters ∙ sym (leaves_later b a.u (leg (get_or a.path.now i.i 0) c.in_ok-total.total) (i.i + 1 + 1) (omega arith)),
     )
 
 pub returns : goal.returns

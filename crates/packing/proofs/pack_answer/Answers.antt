@@ -1,15 +1,16 @@
--- `referee::pack_answer` meets its contract: the variant that was matched is the answer.
+-- `packing::pack_answer` meets its contract: the variant that was matched is the answer.
 -- Assumes nothing.
 use mathlib.Core.Path.{sym, ap, ◌∙◌}
 use Rattle.ruling.specs.Answers.{answer_as}
-use Rattle.ruling.specs.declared.Answer.{Answer}
+use Rattle.std.specs.Prelude.{Result}
+use Rattle.ruling.specs.declared.refusal.Refusal.{Refusal}
 use Rattle.ruling.specs.Packed.{packed, values_of}
 use Rattle.packing.proofs.pack_answer.Goals as goal
 
-pub returns-in-Accepted : goal.returns-in-Accepted
+pub returns-in-Ok : goal.returns-in-Ok
 unfolding packed values_of
-returns-in-Accepted c = sym (ap (λ (a : Answer). packed (answer_as a)) c.in-Accepted.is)
+returns-in-Ok c = sym (ap (λ (a : Result (Unit {0}) Refusal). packed (answer_as a)) c.in-Ok.is)
 
-pub returns-in-Refused : goal.returns-in-Refused
+pub returns-in-Err : goal.returns-in-Err
 unfolding packed values_of
-returns-in-Refused c = c.refusal.ensures ∙ sym (ap (λ (a : Answer). packed (answer_as a)) c.in-Refused.is)
+returns-in-Err c = c.refusal.ensures ∙ sym (ap (λ (a : Result (Unit {0}) Refusal). packed (answer_as a)) c.in-Err.is)

@@ -1,13 +1,9 @@
--- `ranks::arm_by` meets its contract. The loop's invariant: the places passed are armed where they are of the nationality.
--- The measure is how many are left.
+-- `ranks::arm_by` meets its contract. The loop's invariant: the fighters passed are armed where they are of the nationality.
 -- Assumes nothing.
-use Prim.Native.Nat.{◌-◌}
 use Rattle.position.specs.Board.{board}
+use Rattle.battle.specs.Mustered.{arm_own}
 use Rattle.battle.proofs.Lines.{Arming}
 use Rattle.ranks.proofs.arm_by.Given as goal
 
-abbrev pub invariant-loop-i : goal.invariant-loop-i
-invariant-loop-i l = Arming (board l.p) l.nation l.who l.n l.printed l.initial.fighting l.fighting l.i
-
-abbrev pub decreases-loop-i : goal.decreases-loop-i
-decreases-loop-i l = l.n - l.i
+abbrev pub invariant-loop-f : goal.invariant-loop-f
+invariant-loop-f l = Arming (arm_own (board l.p) l.nation) l.initial.line l.f-index l.line

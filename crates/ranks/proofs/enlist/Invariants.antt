@@ -1,11 +1,11 @@
--- `ranks::enlist` meets its contract. The loop's invariant: those passed stand in the array. The measure is how many are left.
+-- `ranks::enlist` meets its contract. The loop's invariant: the units passed are in the line.
 -- Assumes nothing.
-use Prim.Native.Nat.{◌-◌}
-use Rattle.battle.proofs.Lines.{Enlisting}
+use mathlib.Core.List.{map}
+use mathlib.Core.Path.{◌≡◌}
+use lib.ListN.{length, take}
+use Rattle.line.specs.Line.{places}
+use Rattle.battle.specs.Mustered.{recruit}
 use Rattle.ranks.proofs.enlist.Given as goal
 
 abbrev pub invariant-loop-i : goal.invariant-loop-i
-invariant-loop-i l = Enlisting l.units l.who l.i
-
-abbrev pub decreases-loop-i : goal.decreases-loop-i
-decreases-loop-i l = l.i-end - l.i
+invariant-loop-i l = (length l.line ≡ places) × (take l.i l.line ≡ map (recruit l.p) (take l.i l.units))

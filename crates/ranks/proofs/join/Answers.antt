@@ -1,4 +1,4 @@
--- `ranks::join` meets its contract. The loop's invariant: the units passed that stand there have joined. The measure is how many are left.
+-- `ranks::join` meets its contract. The loop's invariant: the units passed that stand there have joined.
 -- Assumes nothing.
 use Prim.Native.Nat.{ℕ, ◌+◌, ◌≤◌}
 use mathlib.Core.Path.{◌≡◌, ◌∙◌, sym}
@@ -21,25 +21,16 @@ unfolding defenders
 room b target m n e l = rw e l
 
 pub loop-u-init : goal.loop-u-init
-loop-u-init c = joining_none c.requires.2
+loop-u-init c = joining_none c.told-line
 
-pub overflow_cast-who : goal.overflow_cast-who
-overflow_cast-who c = omega (arith, c.requires.0.view.count, c.requires.0.shaped.count)
-
-pub offset_bounds-who-n : goal.offset_bounds-who-n
-offset_bounds-who-n c = omega (arith, joining_room c.loop-u.invariant (omega arith) (room _ _ _ _ c.requires.0.view.count c.requires.1) (stands_here _ _ _ (sym c.hex.ensures.is ∙ c.if-hex-target.true)))
-
-pub bounds-who-n : goal.bounds-who-n
-bounds-who-n c = joining_room c.loop-u.invariant (omega arith) (room _ _ _ _ c.requires.0.view.count c.requires.1) (stands_here _ _ _ (sym c.hex.ensures.is ∙ c.if-hex-target.true))
-
-pub overflow_add-n : goal.overflow_add-n
-overflow_add-n c = omega (arith, joining_room c.loop-u.invariant (omega arith) (room _ _ _ _ c.requires.0.view.count c.requires.1) (stands_here _ _ _ (sym c.hex.ensures.is ∙ c.if-hex-target.true)))
+pub bounds-line-n : goal.bounds-line-n
+bounds-line-n c = joining_room c.loop-u.invariant (omega arith) (room _ _ _ _ c.requires.0.view.count c.requires.1) (stands_here _ _ _ (sym c.hex.ensures.is ∙ c.if-hex-target.true))
 
 pub loop-u-preserved : goal.loop-u-preserved
 loop-u-preserved c =
     elim c.if-hex-target.branch [
-      | then-hex-target w ↦ joining_hit c.loop-u.invariant (omega arith) (room _ _ _ _ c.requires.0.view.count c.requires.1) (stands_here _ _ _ (sym c.hex.ensures.is ∙ w.if-hex-target.true)) w.who-is w.n-is
-      | else-hex-target w ↦ joining_miss c.loop-u.invariant (omega arith) (stands_off _ _ _ (λ e. w.if-hex-target.false (c.hex.ensures.is ∙ e))) w.who-is w.n-is
+      | then-hex-target w ↦ joining_hit c.loop-u.invariant (omega arith) (room _ _ _ _ c.requires.0.view.count c.requires.1) (stands_here _ _ _ (sym c.hex.ensures.is ∙ w.if-hex-target.true)) w.recruit.ensures w.line-is w.n-is
+      | else-hex-target w ↦ joining_miss c.loop-u.invariant (omega arith) (stands_off _ _ _ (λ e. w.if-hex-target.false (c.hex.ensures.is ∙ e))) w.line-is w.n-is
     ]
 
 pub returns : goal.returns

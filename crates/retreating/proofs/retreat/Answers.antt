@@ -4,8 +4,8 @@ use mathlib.Core.Path.{◌≡◌, subst, sym, ◌∙◌}
 use native.Mathlib.Omega.{arith}
 use Rattle.std.proofs.Common.{ℕ, List}
 use Rattle.position.specs.Board.{Board, board}
-use Rattle.ruling.specs.declared.Tested.{Tested}
-use Rattle.ruling.specs.declared.Tested.TheVariants.{Passed}
+use Rattle.std.specs.Prelude.{Result, Ok}
+use Rattle.ruling.specs.declared.refusal.Refusal.{Refusal}
 use Rattle.ruling.specs.Judged.{Passes, TestedOf}
 use Rattle.retreat.specs.declared.Fate.{Fate}
 use Rattle.retreat.specs.Fate.{fate_of}
@@ -17,8 +17,8 @@ use Rattle.retreating.proofs.retreat.Goals as goal
 
 -- the questions of the group are passed
 asked :
-    (p : List ℕ) (h : ℕ) (route pushes : List ℕ) (r : Tested) → TestedOf p (group_checks (board p) h route pushes) (RetreatNow (board p) h) r
-    → r ≡ Passed → Passes p (group_checks (board p) h route pushes) × RetreatNow (board p) h
+    (p : List ℕ) (h : ℕ) (route pushes : List ℕ) (r : Result (Unit {0}) Refusal) {u : Unit {0}} → TestedOf p (group_checks (board p) h route pushes) (RetreatNow (board p) h) r
+    → r ≡ Ok u → Passes p (group_checks (board p) h route pushes) × RetreatNow (board p) h
 asked p h route pushes r t e = subst (TestedOf p (group_checks (board p) h route pushes) (RetreatNow (board p) h)) e t
 
 -- what the group's fate says
@@ -29,8 +29,8 @@ said b h route pushes r f d e = subst (FateSays b h route pushes) (sym d ∙ e) 
 pub judge_group-requires : goal.judge_group-requires
 judge_group-requires c = c.requires.0
 
-pub returns-in-Stopped : goal.returns-in-Stopped
-returns-in-Stopped c = stops_group _ _ _ (subst (TestedOf _ _ _) c.in-Stopped.is c.judge_group.ensures)
+pub returns-in-Err : goal.returns-in-Err
+returns-in-Err c = stops_group _ _ _ (subst (TestedOf _ _ _) c.in-Err.is c.judge_group.ensures)
 
 pub decide-requires : goal.decide-requires
 decide-requires c =

@@ -1,19 +1,14 @@
--- `roles_ok::all_of` meets its contract. The loop's invariant: every unit before u that has the role is of the force.
+-- `roles::all_of` meets its contract: what the library's `all` says over the units.
 -- Assumes nothing.
-use native.Mathlib.Omega.{arith}
-use Rattle.position.proofs.Answers.{said, unsaid, none_yet, one_more, all, not_all}
+use mathlib.Core.Path.{◌≡◌, refl}
+use borrow.Author.Tests.{tests}
+use Rattle.std.proofs.Common.{rules}
+use Rattle.position.specs.Board.{board, force_of}
+use Rattle.position.specs.Layout.{role}
+use Rattle.position.proofs.Ranges.{all_named}
 use Rattle.roles.proofs.all_of.Goals as goal
 
-pub loop-u-init : goal.loop-u-init
-loop-u-init c = none_yet
-
-pub returns-then-not-is_of : goal.returns-then-not-is_of
-returns-then-not-is_of c =
-    not_all c.loop-u.invariant (omega arith) (unsaid c.is_of.result c.if-not-is_of.true c.is_of.ensures)
-
-pub loop-u-preserved : goal.loop-u-preserved
-loop-u-preserved c =
-    one_more c.loop-u.invariant (omega arith) (said c.is_of.result c.if-not-is_of.false c.is_of.ensures)
-
 pub returns : goal.returns
-returns c = all c.loop-u.invariant (omega arith)
+returns c =
+    let a = c.args in
+    all_named (λ u. role a.p.now u ≡ a.r → force_of (board a.p.now) u ≡ a.f) c.requires.view.count refl c.all.ensures.ran (λ x b q k. search (rules, tests))

@@ -8,8 +8,8 @@ pub returns-in_default : goal.returns-in_default
 returns-in_default c = unchecked _ c.check.ensures c.in_default.is
 
 pub close-requires : goal.close-requires
-close-requires c = (whole c.check.ensures c.in-Whole.is).1
+close-requires c = (whole c.check.ensures c.in-Some.is).1
 
 pub returns : goal.returns
 unfolding rule_of
-returns c = checked (whole c.check.ensures c.in-Whole.is).0 c.close.ensures
+returns c = checked (whole c.check.ensures c.in-Some.is).0 c.close.ensures

@@ -8,8 +8,8 @@ pub returns-in_default : goal.returns-in_default
 returns-in_default c = unchecked _ c.check.ensures c.in_default.is
 
 pub retreat-requires : goal.retreat-requires
-retreat-requires c = let w = whole c.check.ensures c.in-Whole.is in (w.1, w.0)
+retreat-requires c = let w = whole c.check.ensures c.in-Some.is in (w.1, w.0)
 
 pub returns : goal.returns
 unfolding rule_of
-returns c = checked (whole c.check.ensures c.in-Whole.is).0 c.retreat.ensures
+returns c = checked (whole c.check.ensures c.in-Some.is).0 c.retreat.ensures

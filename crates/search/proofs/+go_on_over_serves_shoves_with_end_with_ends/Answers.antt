@@ -72,21 +72,21 @@ serves-over-requires t c = let p = c.requires in (
     ap length c.loop-d.invariant.same ∙ p.0,
     p.1,
     p.2,
-    next_below _ _ _ _ (sym c.next_in.ensures ∙ c.in-At.is),
+    next_below _ _ _ _ (sym c.next_in.ensures ∙ c.in-Some.is),
     omega arith,
   ),
 )
 
 pub serves-returns-then-over : goal.serves-returns-then-over
 serves-returns-then-over t c = (
-  sym (served c.loop-d.invariant (λ e. omega (arith, e, c.requires.4)) (omega arith) (sym c.next_in.ensures ∙ c.in-At.is) (sym c.over.ensures.0
+  sym (served c.loop-d.invariant (λ e. omega (arith, e, c.requires.4)) (omega arith) (sym c.next_in.ensures ∙ c.in-Some.is) (sym c.over.ensures.0
       ∙ c.if-over.true)),
   c.over.ensures.1 ∙ c.loop-d.invariant.same,
 )
 
 pub serves-loop-d-preserved : goal.serves-loop-d-preserved
 serves-loop-d-preserved t c =
-    unserved_over c.loop-d.invariant (omega arith) (sym c.next_in.ensures ∙ c.in-At.is) (sym c.over.ensures.0 ∙ c.if-over.false) c.over.ensures.1
+    unserved_over c.loop-d.invariant (omega arith) (sym c.next_in.ensures ∙ c.in-Some.is) (sym c.over.ensures.0 ∙ c.if-over.false) c.over.ensures.1
 
 pub serves-returns : goal.serves-returns
 serves-returns t c = (

@@ -22,15 +22,15 @@ last_over-requires c = let p = c.requires in (
   p.1,
   p.2,
   next_below _ _ _ _
-      (sym c.next_in.ensures ∙ c.in-At.is),
+      (sym c.next_in.ensures ∙ c.in-Some.is),
   p.3,
 )
 
 pub returns-then-last_over : goal.returns-then-last_over
-returns-then-last_over c = sym (served c.loop-d.invariant (λ e. omega arith) (omega arith) (sym c.next_in.ensures ∙ c.in-At.is) (sym c.last_over.ensures ∙ c.if-last_over.true))
+returns-then-last_over c = sym (served c.loop-d.invariant (λ e. omega arith) (omega arith) (sym c.next_in.ensures ∙ c.in-Some.is) (sym c.last_over.ensures ∙ c.if-last_over.true))
 
 pub loop-d-preserved : goal.loop-d-preserved
-loop-d-preserved c = unserved_over c.loop-d.invariant (omega arith) (sym c.next_in.ensures ∙ c.in-At.is) (sym c.last_over.ensures ∙ c.if-last_over.false) refl
+loop-d-preserved c = unserved_over c.loop-d.invariant (omega arith) (sym c.next_in.ensures ∙ c.in-Some.is) (sym c.last_over.ensures ∙ c.if-last_over.false) refl
 
 pub returns : goal.returns
 returns c = sym (unserved c.loop-d.invariant (λ e. omega arith) (omega arith))

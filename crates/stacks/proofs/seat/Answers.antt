@@ -2,7 +2,7 @@
 -- Assumes nothing.
 use Prim.Native.Nat.{◌<◌}
 use native.Mathlib.Omega.{arith}
-use Rattle.acceptance.proofs.Seating.{seated_past, seated_of, adds_fits, counts_low, counts_high, refused_low, refused_high}
+use Rattle.acceptance.proofs.Seating.{seated_past, seated_of, counts_low, counts_high, refused_low, refused_high}
 use Rattle.stacks.proofs.seat.Goals as goal
 
 pub returns-then-h-base : goal.returns-then-h-base
@@ -11,12 +11,6 @@ returns-then-h-base c = record { on = λ g. seated_past g (λ k l e. omega (arit
 pub returns-then-k-ge-BLOCK : goal.returns-then-k-ge-BLOCK
 returns-then-k-ge-BLOCK c = record { on = λ g. seated_past g (λ k l e. omega (arith, c.hex-h.ensures.is, e)) }
 
-pub overflow_add-seats : goal.overflow_add-seats
-overflow_add-seats c = omega (arith, adds_fits c.adds-low.ensures (omega (arith, c.force_of-f.ensures, c.requires.2)) (omega arith), c.wide-m.ensures.small)
-
-pub overflow_cast-seats : goal.overflow_cast-seats
-overflow_cast-seats c = omega (arith, adds_fits c.adds-low.ensures (omega (arith, c.force_of-f.ensures, c.requires.2)) (omega arith), c.wide-m.ensures.small)
-
 pub returns-then-k-lt-TABLE : goal.returns-then-k-lt-TABLE
 returns-then-k-lt-TABLE c =
     let f = c.force_of-f.ensures in
@@ -24,15 +18,6 @@ returns-then-k-lt-TABLE c =
     seated_of c.adds-low.result
     (λ p. record { on = counts_low _ _ _ _ c.if-k-lt-TABLE.true c.wide-m.ensures.is f few (omega (arith, c.hex-h.ensures.is)) c.adds-low.ensures p })
     (λ z. record { under = λ g o. refused_low _ _ _ _ c.if-k-lt-TABLE.true c.wide-m.ensures.is f few z (omega arith) g o (omega (arith, c.hex-h.ensures.is)) c.adds-low.ensures })
-
-pub overflow_mul-seats : goal.overflow_mul-seats
-overflow_mul-seats c = omega (arith, adds_fits c.adds-high.ensures (omega (arith, c.force_of-f.ensures, c.requires.2)) (omega (arith, c.wide-n.ensures.small)))
-
-pub overflow_add-seats-2 : goal.overflow_add-seats-2
-overflow_add-seats-2 c = omega (arith, adds_fits c.adds-high.ensures (omega (arith, c.force_of-f.ensures, c.requires.2)) (omega (arith, c.wide-n.ensures.small)), c.wide-n.ensures.small)
-
-pub overflow_cast-seats-2 : goal.overflow_cast-seats-2
-overflow_cast-seats-2 c = omega (arith, adds_fits c.adds-high.ensures (omega (arith, c.force_of-f.ensures, c.requires.2)) (omega (arith, c.wide-n.ensures.small)), c.wide-n.ensures.small)
 
 pub returns : goal.returns
 returns c =

@@ -6,7 +6,7 @@ use Rattle.acceptance.specs.Seats.{Seated}
 use Rattle.stacks.proofs.seat_all.Given as goal
 
 abbrev pub invariant-loop-u : goal.invariant-loop-u
-invariant-loop-u l = (l.u ≤ l.count) × Seated (board l.p) l.base l.u l.seats
+invariant-loop-u l = (l.u ≤ l.v.count) × Seated (board l.p) l.base l.u l.seats
 
 abbrev pub decreases-loop-u : goal.decreases-loop-u
-decreases-loop-u l = l.count - l.u
+decreases-loop-u l = l.v.count - l.u

@@ -8,6 +8,7 @@ use Rattle.position.specs.Bits.{has}
 use Rattle.position.specs.Board.{Board, board, force_of}
 use Rattle.position.specs.Ground.{bearing, standable}
 use Rattle.position.proofs.Sides.{next_in_lem}
+use Rattle.position.proofs.Ranges.{sought_at, sought_none}
 use Rattle.field.specs.Scene.{scene}
 use Rattle.field.specs.Zone.{holds_enemy, holds_neutral}
 use Rattle.paint.specs.Paint.{Marked, enemy_mark}
@@ -44,29 +45,29 @@ module _ (b : Board) where
 pub returns-then-leaves : goal.returns-then-leaves
 returns-then-leaves c = stops_zone _ _ _ _ _ _ (sym c.requires.2 ∙ c.if-leaves.true)
 
-pub returns-then-d-ge6 : goal.returns-then-d-ge6
-returns-then-d-ge6 c =
+pub returns-in_default : goal.returns-in_default
+returns-in_default c =
     let a = c.args in
     stops_ground _ _ _ _ _ _ (sym c.requires.2 ∙ c.if-leaves.false)
-    (no_step_apart (board a.p.now) a.at a.x (omega (arith, c.if-d-ge6.true, c.bearing-d.ensures.is)))
+    (no_step_apart (board a.p.now) a.at a.x (omega (arith, sought_none _ _ _ c.bearing.ensures c.in_default.is)))
 
 pub returns-then-not-standable : goal.returns-then-not-standable
 returns-then-not-standable c =
     let a = c.args in
     stops_ground _ _ _ _ _ _ (sym c.requires.2 ∙ c.if-leaves.false)
-    (way (board a.p.now) a.at a.x c.bearing-d.ensures.is c.if-d-ge6.false c.standable.ensures c.if-not-standable.true)
+    (way (board a.p.now) a.at a.x (sought_at _ _ _ c.bearing.ensures c.in-Some.is).0 (sought_at _ _ _ c.bearing.ensures c.in-Some.is).1 c.standable.ensures c.if-not-standable.true)
 
 pub look-marks-requires : goal.look-marks-requires
 look-marks-requires c =
     let a = c.args in
-    (c.requires.0, next_in_lem c.requires.0.view _ _ _ (turned_next (board a.p.now) a.at a.x (omega (arith, c.if-d-ge6.false, c.bearing-d.ensures.is))))
+    (c.requires.0, next_in_lem c.requires.0.view _ _ _ (turned_next (board a.p.now) a.at a.x (omega (arith, (sought_at _ _ _ c.bearing.ensures c.in-Some.is).0, (sought_at _ _ _ c.bearing.ensures c.in-Some.is).1))))
 
 pub returns-then-has : goal.returns-then-has
 returns-then-has c =
     let a = c.args in
     let b = board a.p.now in
     stops_enemy _ _ _ _ _ _ (sym c.requires.2 ∙ c.if-leaves.false)
-    (way b a.at a.x c.bearing-d.ensures.is c.if-d-ge6.false c.standable.ensures c.if-not-standable.false)
+    (way b a.at a.x (sought_at _ _ _ c.bearing.ensures c.in-Some.is).0 (sought_at _ _ _ c.bearing.ensures c.in-Some.is).1 c.standable.ensures c.if-not-standable.false)
     (foe b a.u a.x c.force_of-f.ensures c.look-marks.ensures c.has.ensures ∙ c.if-has.true)
 
 pub returns-then-neutral_there : goal.returns-then-neutral_there
@@ -74,7 +75,7 @@ returns-then-neutral_there c =
     let a = c.args in
     let b = board a.p.now in
     stops_neutral _ _ _ _ _ _ (sym c.requires.2 ∙ c.if-leaves.false)
-    (way b a.at a.x c.bearing-d.ensures.is c.if-d-ge6.false c.standable.ensures c.if-not-standable.false)
+    (way b a.at a.x (sought_at _ _ _ c.bearing.ensures c.in-Some.is).0 (sought_at _ _ _ c.bearing.ensures c.in-Some.is).1 c.standable.ensures c.if-not-standable.false)
     (foe b a.u a.x c.force_of-f.ensures c.look-marks.ensures c.has.ensures ∙ c.if-has.false)
     (neutral b a.u a.x c.force_of-f.ensures c.neutral_there.ensures ∙ c.if-neutral_there.true)
 
@@ -85,7 +86,7 @@ returns-then-allowed-total c =
     stops_spent _ _ _ _ _ _
     (record {
       zone = sym c.requires.2 ∙ c.if-leaves.false;
-      ground = way b a.at a.x c.bearing-d.ensures.is c.if-d-ge6.false c.standable.ensures c.if-not-standable.false;
+      ground = way b a.at a.x (sought_at _ _ _ c.bearing.ensures c.in-Some.is).0 (sought_at _ _ _ c.bearing.ensures c.in-Some.is).1 c.standable.ensures c.if-not-standable.false;
       foe = foe b a.u a.x c.force_of-f.ensures c.look-marks.ensures c.has.ensures ∙ c.if-has.false;
       neutral = neutral b a.u a.x c.force_of-f.ensures c.neutral_there.ensures ∙ c.if-neutral_there.false;
     })
@@ -101,7 +102,7 @@ returns c =
           passes_step _ _ _ _ _ _
           (record {
             zone = sym c.requires.2 ∙ c.if-leaves.false;
-            ground = way b a.at a.x c.bearing-d.ensures.is c.if-d-ge6.false c.standable.ensures c.if-not-standable.false;
+            ground = way b a.at a.x (sought_at _ _ _ c.bearing.ensures c.in-Some.is).0 (sought_at _ _ _ c.bearing.ensures c.in-Some.is).1 c.standable.ensures c.if-not-standable.false;
             foe = foe b a.u a.x c.force_of-f.ensures c.look-marks.ensures c.has.ensures ∙ c.if-has.false;
             neutral = neutral b a.u a.x c.force_of-f.ensures c.neutral_there.ensures ∙ c.if-neutral_there.false;
           })

@@ -1,12 +1,9 @@
 -- `supply::grades` meets its contract: what is painted is graded.
 -- Assumes nothing.
 use native.Mathlib.Omega.{arith}
-use Rattle.position.proofs.Sides.{area_view, on_view, on_first}
+use Rattle.position.proofs.Sides.{area_view, on_view}
 use Rattle.supply.proofs.Grading.{map_shows}
 use Rattle.supply.proofs.grades.Goals as goal
-
-pub whole-at-requires : goal.whole-at-requires
-whole-at-requires c = on_first c.requires.0
 
 pub paint-requires : goal.paint-requires
 paint-requires c =

@@ -1,6 +1,5 @@
 -- `down` meets its contract. The invariant: what was swept so far.
 -- Assumes nothing.
-use Prim.Native.Nat.{◌-◌}
 use Rattle.position.specs.Board.{ground}
 use Rattle.position.specs.Ground.{next}
 use Rattle.walk.specs.Swept.{Swept}
@@ -8,6 +7,3 @@ use Rattle.sweeping.proofs.down.Given as goal
 
 abbrev pub invariant-loop-row : goal.invariant-loop-row
 invariant-loop-row l = Swept (next (ground l.p)) l.initial.buf l.buf
-
-abbrev pub decreases-loop-row : goal.decreases-loop-row
-decreases-loop-row l = l.h - l.row

@@ -13,9 +13,6 @@ returns-then-buf-at-ne1 c = swept_none _
 pub returns-then-not-from_east : goal.returns-then-not-from_east
 returns-then-not-from_east c = swept_none _
 
-pub bounds-buf-at-2 : goal.bounds-buf-at-2
-bounds-buf-at-2 c = spot_in c.args.buf.now c.requires.laid.0.view c.requires.laid.1 c.requires.buf_len
-
 pub returns : goal.returns
 unfolding mark
 returns c = swept_join _ _ c.if-buf-at-ne1.false (c.from_east.ensures c.if-not-from_east.false)

@@ -10,15 +10,9 @@ bounds-buf-at c = spot_in c.args.buf.now c.requires.laid.0.view c.requires.laid.
 pub returns-then-buf-at-ne1 : goal.returns-then-buf-at-ne1
 returns-then-buf-at-ne1 c = swept_none _
 
-pub bounds-buf-at-then-from_west : goal.bounds-buf-at-then-from_west
-bounds-buf-at-then-from_west c = spot_in c.args.buf.now c.requires.laid.0.view c.requires.laid.1 c.requires.buf_len
-
 pub returns-then-from_west : goal.returns-then-from_west
 unfolding mark
 returns-then-from_west c = swept_join _ _ c.if-buf-at-ne1.false (c.from_west.ensures c.if-from_west.true)
-
-pub bounds-buf-at-then-from_behind : goal.bounds-buf-at-then-from_behind
-bounds-buf-at-then-from_behind c = spot_in c.args.buf.now c.requires.laid.0.view c.requires.laid.1 c.requires.buf_len
 
 pub returns-then-from_behind : goal.returns-then-from_behind
 unfolding mark

@@ -1,13 +1,9 @@
--- `westward` meets its contract. The invariant: what was swept so far, and how far it is still to go.
+-- `westward` meets its contract. The invariant: what was swept so far.
 -- Assumes nothing.
-use Prim.Native.Nat.{◌≤◌}
 use Rattle.position.specs.Board.{ground}
 use Rattle.position.specs.Ground.{next}
 use Rattle.walk.specs.Swept.{Swept}
 use Rattle.sweeping.proofs.westward.Given as goal
 
 abbrev pub invariant-loop-c : goal.invariant-loop-c
-invariant-loop-c l = Swept (next (ground l.p)) l.initial.buf l.buf × (l.c ≤ l.w)
-
-abbrev pub decreases-loop-c : goal.decreases-loop-c
-decreases-loop-c l = l.c
+invariant-loop-c l = Swept (next (ground l.p)) l.initial.buf l.buf

@@ -44,14 +44,14 @@ pub loop-t-smaller : goal.loop-t-smaller
 loop-t-smaller c =
     let g = two_way (ground c.args.p.now) in
     let a = c.loop-t in
-    let t : Step _ _ _ _ _ _ _ _ × SpotOf _ _ _ = rw c.in-To.is at c.step.ensures in
+    let t : Step _ _ _ _ _ _ _ _ × SpotOf _ _ _ = rw c.in-Some.is at c.step.ensures in
     step_falls g a.buf a.s.hex a.from a.invariant.1 t.0
 
 pub loop-t-preserved : goal.loop-t-preserved
 loop-t-preserved c =
     let g = two_way (ground c.args.p.now) in
     let a = c.loop-t in
-    let t : Step _ _ _ _ _ _ _ _ × SpotOf _ _ _ = rw c.in-To.is at c.step.ensures in (
+    let t : Step _ _ _ _ _ _ _ _ × SpotOf _ _ _ = rw c.in-Some.is at c.step.ensures in (
       kept_trans a.invariant.0 (step_kept g a.buf a.s.hex a.from a.invariant.1 t.0),
       step_way g a.buf a.s.hex a.from a.invariant.1 t.0,
       t.1,

@@ -1,23 +1,24 @@
--- `settle` meets its contract. The invariant: the marks below hex i are settled, and the others are as they were.
+-- `settle` meets its contract. The invariant: the marks below the index are settled, and the others are as they were.
 -- Assumes nothing.
-use mathlib.Core.Path.{refl}
+use Prim.Native.Nat.{ℕ}
+use mathlib.Core.Path.{◌≡◌, refl, ap, ◌∙◌}
 use mathlib.Core.Logic.{inl, inr}
+use native.Mathlib.Omega.{arith}
+use borrow.Author.Tests.{le-leb, lt-leb}
+use lib.Dec.{leb}
+use mir.Val.{bool_byte}
 use Rattle.walk.specs.Chain.{mark}
-use Rattle.walk.proofs.Runs.{settle_none, settle_turn, settle_all}
+use Rattle.walk.specs.Trail.{Done}
+use Rattle.walk.proofs.Marks.{le_or}
+use Rattle.walk.proofs.Runs.{settle_turn}
 use Rattle.walking.proofs.settle.Goals as goal
-use Rattle.walking.proofs.settle.Goals.{then-m-ge2, else-m-ge2}
 
-pub loop-i-init : goal.loop-i-init
-loop-i-init c = settle_none _
+settled : (m v : ℕ) → v ≡ bool_byte (leb 2 m) → Done m v
+settled m v e =
+    le_or 2 m (λ l. inl (l, e ∙ ap bool_byte (le-leb 2 m l))) (λ l. inr (l, e ∙ ap bool_byte (lt-leb 2 m l)))
 
-pub loop-i-preserved : goal.loop-i-preserved
+pub loop-m-preserved : goal.loop-m-preserved
 unfolding mark
-loop-i-preserved c =
-    let a = c.loop-i in
-    elim c.if-m-ge2.branch [
-      | then-m-ge2 w ↦ settle_turn 1 w.buf-is c.loop-i-test.true a.invariant (inl (w.if-m-ge2.true, refl))
-      | else-m-ge2 w ↦ settle_turn 0 w.buf-is c.loop-i-test.true a.invariant (inr (w.if-m-ge2.false, refl))
-    ]
-
-pub returns : goal.returns
-returns c = settle_all c.loop-i-test.false c.loop-i.invariant
+loop-m-preserved c =
+    let l = c.loop-m in
+    settle_turn c.from.result refl (omega arith) l.invariant (settled (mark l.buf l.m-index) c.from.result c.from.ensures)

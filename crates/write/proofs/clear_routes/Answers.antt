@@ -15,15 +15,6 @@ pub loop-r-init : goal.loop-r-init
 unfolding clear_routes
 loop-r-init c = (omega arith, refl, c.requires)
 
-pub set_route-requires : goal.set_route-requires
-set_route-requires c = (c.loop-r.invariant.2, omega arith, omega arith, omega arith, omega arith)
-
-pub overflow_step-r : goal.overflow_step-r
-overflow_step-r c = omega arith
-
-pub loop-r-smaller : goal.loop-r-smaller
-loop-r-smaller c = omega arith
-
 pub loop-r-preserved : goal.loop-r-preserved
 unfolding make clear_routes
 loop-r-preserved c = (
@@ -31,9 +22,6 @@ loop-r-preserved c = (
   c.set_route.ensures ∙ ap (λ (q : List ℕ). set_route q c.loop-r.r nowhere nowhere nowhere nowhere) c.loop-r.invariant.1 ∙ rw add-one,
   laid_route _ _ _ _ _ c.loop-r.invariant.2 c.set_route.ensures,
 )
-
-pub shape_of-p : goal.shape_of-p
-shape_of-p c = omega (arith, c.loop-r.invariant.2.fits.whole, c.requires.fits.whole)
 
 pub returns : goal.returns
 unfolding make

@@ -1,22 +1,13 @@
--- `routes_ok::routes_ok` meets its contract. The loop's invariant: every route before r is as it should be.
+-- `routes_ok::routes_ok` meets its contract: what the library's `all` says over the numbers.
 -- Assumes nothing.
-use native.Mathlib.Omega.{arith}
-use Rattle.position.proofs.Answers.{said, unsaid, none_yet, one_more, all, not_all}
+use mathlib.Core.Path.{refl}
+use borrow.Author.Tests.{tests}
+use Rattle.std.proofs.Common.{rules}
+use Rattle.position.specs.Board.{board}
+use Rattle.position.specs.Layout.{route_count}
+use Rattle.position.proofs.Ranges.{all_over}
+use Rattle.acceptance.specs.Accepted.{RouteOk}
 use Rattle.checking.proofs.routes_ok.routes_ok.Goals as goal
 
-pub loop-r-init : goal.loop-r-init
-loop-r-init c = none_yet
-
-pub route_ok-requires : goal.route_ok-requires
-route_ok-requires c = (c.requires, omega arith)
-
-pub returns-then-not-route_ok : goal.returns-then-not-route_ok
-returns-then-not-route_ok c =
-    not_all c.loop-r.invariant (omega arith) (unsaid c.route_ok.result c.if-not-route_ok.true c.route_ok.ensures)
-
-pub loop-r-preserved : goal.loop-r-preserved
-loop-r-preserved c =
-    one_more c.loop-r.invariant (omega arith) (said c.route_ok.result c.if-not-route_ok.false c.route_ok.ensures)
-
 pub returns : goal.returns
-returns c = all c.loop-r.invariant (omega arith)
+returns c = all_over (RouteOk (board c.args.p.now)) route_count refl c.all.ensures.ran (λ x b q k. search (rules, tests))

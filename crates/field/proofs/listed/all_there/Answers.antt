@@ -1,5 +1,4 @@
 -- `listed::all_there` meets its contract. The loop's invariant: what meets the tests from the next place on meets them all.
--- The measure is how many places are left.
 -- Assumes nothing.
 use Prim.Native.Nat.{◌+◌}
 use native.Mathlib.Omega.{arith}
@@ -13,12 +12,9 @@ use Rattle.field.proofs.listed.all_there.Goals as goal
 pub loop-i-init : goal.loop-i-init
 loop-i-init c = record { gone = gone_none; counted = λ j l. absurd (omega arith) }
 
-pub overflow_cast-units : goal.overflow_cast-units
-overflow_cast-units c = omega (arith, c.type_inv.units c.loop-i.i)
-
-pub returns-then-count-units : goal.returns-then-count-units
+pub returns-then-count-u : goal.returns-then-count-u
 unfolding all_there
-returns-then-count-units c =
+returns-then-count-u c =
     let a = c.args in
     λ l v.
     gone_stop c.loop-i.invariant.gone (omega arith)

@@ -1,5 +1,4 @@
 -- `listed::on_map_from` meets its contract. The loop's invariant: what meets the tests from the next place on meets them all.
--- The measure is how many places are left.
 -- Assumes nothing.
 use native.Mathlib.Omega.{arith}
 use Rattle.field.proofs.Lists.{map_end, map_more, map_none, map_stop}
@@ -8,11 +7,8 @@ use Rattle.field.proofs.listed.on_map_from.Goals as goal
 pub loop-i-init : goal.loop-i-init
 loop-i-init c = map_none
 
-pub overflow_cast-path : goal.overflow_cast-path
-overflow_cast-path c = omega (arith, c.type_inv.path c.loop-i.i)
-
-pub returns-then-hexes-path : goal.returns-then-hexes-path
-returns-then-hexes-path c = map_stop c.loop-i.invariant (omega arith) (omega arith)
+pub returns-then-hexes-h : goal.returns-then-hexes-h
+returns-then-hexes-h c = map_stop c.loop-i.invariant (omega arith) (omega arith)
 
 pub loop-i-preserved : goal.loop-i-preserved
 loop-i-preserved c = map_more c.loop-i.invariant (omega arith) (omega arith)

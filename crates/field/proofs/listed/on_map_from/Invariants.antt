@@ -1,12 +1,7 @@
 -- `listed::on_map_from` meets its contract. The loop's invariant: what meets the tests from the next place on meets them all.
--- The measure is how many places are left.
 -- Assumes nothing.
-use Prim.Native.Nat.{◌-◌}
 use Rattle.field.proofs.Lists.{OnMap}
 use Rattle.field.proofs.listed.on_map_from.Given as goal
 
 abbrev pub invariant-loop-i : goal.invariant-loop-i
 invariant-loop-i l = OnMap l.k l.p l.path l.i
-
-abbrev pub decreases-loop-i : goal.decreases-loop-i
-decreases-loop-i l = l.i-end - l.i

@@ -1,13 +1,13 @@
--- `zone::holds_neutral` meets its contract: the desk names no players, and so none is neutral, or the loop is asked.
+-- `zone::holds_neutral` meets its contract: where the desk names no players none is neutral, else the units are asked.
 -- Assumes nothing.
-use mathlib.Core.Path.{sym, ◌∙◌}
+use mathlib.Core.Bool.{not}
+use mathlib.Core.Path.{sym, ap, ◌∙◌}
+use borrow.Author.Tests.{eq-eqb}
 use Rattle.position.proofs.Players.{none_neutral}
 use Rattle.field.proofs.Zones.{holds_no_neutral}
 use Rattle.field.proofs.zone.holds_neutral.Goals as goal
 
-pub returns-then-v-eq0 : goal.returns-then-v-eq0
-returns-then-v-eq0 c =
-    sym (holds_no_neutral _ _ _ (none_neutral c.args.p.now (sym c.requires.view.players ∙ c.if-v-eq0.true) c.args.f))
-
-pub returns : goal.returns
-returns c = c.holds_related.ensures
+pub returns-else-v-ne0 : goal.returns-else-v-ne0
+returns-else-v-ne0 c =
+    ap not (eq-eqb c.args.v.players 0 c.if-v-ne0.false)
+    ∙ sym (holds_no_neutral _ _ _ (none_neutral c.args.p.now (sym c.requires.view.players ∙ c.if-v-ne0.false) c.args.f))

@@ -1,23 +1,31 @@
--- `near` meets its contract: each arm is one of the six directions.
+-- `near` meets its contract: the place beside is the neighbour's, as the definition says, and column and row are the place's.
 -- Assumes nothing.
-use mathlib.Core.Path.{◌≡◌}
+use mathlib.Core.Path.{sym}
 use native.Mathlib.Omega.{arith}
+use Rattle.grid.proofs.Spots.{spot_column, spot_row, beside_at, beside_off}
+use Rattle.grid.proofs.Tests.{found}
 use Rattle.grid.proofs.near.near.Goals as goal
 
-pub returns-in-0 : goal.returns-in-0
-returns-in-0 c = rw c.in-0.is c.north.ensures
+pub overflow_add-s : goal.overflow_add-s
+overflow_add-s c = omega (arith, spot_column c.requires.0, c.requires.0.on.wide64)
 
-pub returns-in-1 : goal.returns-in-1
-returns-in-1 c = rw c.in-1.is c.north_east.ensures
+pub overflow_add-s-2 : goal.overflow_add-s-2
+overflow_add-s-2 c = omega (arith, spot_row c.requires.0, c.requires.0.on.high64)
 
-pub returns-in-2 : goal.returns-in-2
-returns-in-2 c = rw c.in-2.is c.south_east.ensures
+pub place_beside-p-requires : goal.place_beside-p-requires
+place_beside-p-requires c = omega (arith, spot_column c.requires.0, spot_row c.requires.0, c.requires.0.on.wide64, c.requires.0.on.high64)
 
-pub returns-in-3 : goal.returns-in-3
-returns-in-3 c = rw c.in-3.is c.south.ensures
+pub hex_at-requires : goal.hex_at-requires
+hex_at-requires c = (c.requires.0.on.wide64, c.requires.0.on.high64)
 
-pub returns-in-4 : goal.returns-in-4
-returns-in-4 c = rw c.in-4.is c.south_west.ensures
+pub returns-in_err-hex : goal.returns-in_err-hex
+returns-in_err-hex c = rw c.from_residual.ensures (beside_off c.requires.0 c.args.dir _ (sym c.in_err-hex.ensures) c.place_beside-p.ensures)
 
-pub returns-in_default : goal.returns-in_default
-returns-in_default c = let e : c.args.dir ≡ 5 = omega arith in rw e c.north_west.ensures
+pub returns : goal.returns
+returns c = beside_at c.requires.0 c.args.dir c.in_ok-hex.hex _ (sym c.in_ok-hex.ensures) c.place_beside-p.ensures
+
+pub overflow_sub-result : goal.overflow_sub-result
+overflow_sub-result c = (found _ _ _ _ (sym c.in_ok-hex.ensures)).left
+
+pub overflow_sub-result-2 : goal.overflow_sub-result-2
+overflow_sub-result-2 c = (found _ _ _ _ (sym c.in_ok-hex.ensures)).top

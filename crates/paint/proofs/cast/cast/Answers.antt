@@ -8,10 +8,6 @@ use Rattle.paint.proofs.Adding.{adds_none, adds_as}
 use Rattle.paint.proofs.Units.{shown_no_cast, part_none, part_reaches}
 use Rattle.paint.proofs.cast.cast.Goals as goal
 
-pub around-requires : goal.around-requires
-around-requires c =
-    (c.requires.0, c.requires.1, c.requires.2.spot)
-
 pub returns-then-casts_against : goal.returns-then-casts_against
 returns-then-casts_against c =
     let a = c.args in

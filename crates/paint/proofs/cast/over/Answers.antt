@@ -22,7 +22,7 @@ between-requires c =
     let a = c.args in
     let m = ground a.p.now in
     let n = a.s.hex in
-    let t = near_at c.args.v.width c.args.v.height c.args.s.hex c.args.d c.near.result c.near.ensures c.in-At.is in
+    let t = near_at c.args.v.width c.args.v.height c.args.s.hex c.args.d c.near.result c.near.ensures c.in-Some.is in
     let e = sym (beside_view c.requires.0.view n a.d) ∙ t.0 in
     (c.requires.0, c.requires.3, e)
 
@@ -38,20 +38,20 @@ returns-then-surface-eq-ALL_SEA c =
     let a = c.args in
     let m = ground a.p.now in
     let n = a.s.hex in
-    let t = near_at c.args.v.width c.args.v.height c.args.s.hex c.args.d c.near.result c.near.ensures c.in-At.is in
+    let t = near_at c.args.v.width c.args.v.height c.args.s.hex c.args.d c.near.result c.near.ensures c.in-Some.is in
     let e = sym (beside_view c.requires.0.view n a.d) ∙ t.0 in
     adds_none (λ k h i. cast_none m n a.d k h (covers_sea m n a.d _ e h (omega (arith, c.surface.ensures.is))))
 
 pub stamp-requires : goal.stamp-requires
 stamp-requires c =
-    ((near_at c.args.v.width c.args.v.height c.args.s.hex c.args.d c.near.result c.near.ensures c.in-At.is).1, c.requires.1, zone_stamp)
+    ((near_at c.args.v.width c.args.v.height c.args.s.hex c.args.d c.near.result c.near.ensures c.in-Some.is).1, c.requires.1, zone_stamp)
 
 pub returns : goal.returns
 returns c =
     let a = c.args in
     let m = ground a.p.now in
     let n = a.s.hex in
-    let t = near_at c.args.v.width c.args.v.height c.args.s.hex c.args.d c.near.result c.near.ensures c.in-At.is in
+    let t = near_at c.args.v.width c.args.v.height c.args.s.hex c.args.d c.near.result c.near.ensures c.in-Some.is in
     let e = sym (beside_view c.requires.0.view n a.d) ∙ t.0 in
     adds_as c.stamp.ensures
     (λ k h i. cast_only m n a.d k h _ (covers_land m n a.d _ e h (omega (arith, c.between.ensures.is)) (λ z. omega (arith, c.surface.ensures.is, z))))

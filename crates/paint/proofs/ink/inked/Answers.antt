@@ -1,18 +1,11 @@
 -- `ink::inked` meets its contract: a mark is added where it was not there.
 -- Assumes nothing.
 use mathlib.Core.Path.{sym, ◌∙◌}
-use native.Mathlib.Omega.{arith}
-use Rattle.paint.proofs.Inks.{inked_has, inked_new, inked_fits, stamp_some}
+use Rattle.paint.proofs.Inks.{inked_has, inked_new, inked_fits}
 use Rattle.paint.proofs.ink.inked.Goals as goal
-
-pub has-requires : goal.has-requires
-has-requires c = (stamp_some (c).requires.0).0
 
 pub returns-then-has : goal.returns-then-has
 returns-then-has c = (sym (inked_has _ _ (sym c.has.ensures ∙ c.if-has.true)), c.requires.1)
-
-pub overflow_add-result : goal.overflow_add-result
-overflow_add-result c = omega (arith, inked_fits c.requires.0 (sym c.has.ensures ∙ c.if-has.false) c.requires.1)
 
 pub returns : goal.returns
 returns c =

@@ -7,24 +7,9 @@ use Rattle.grid.proofs.Regions.{inside_facts, inside_not}
 use Rattle.paint.proofs.Adding.{adds_set, adds_outside}
 use Rattle.paint.proofs.ink.stamp.Goals as goal
 
-pub contains-requires : goal.contains-requires
-contains-requires c = (c.requires.0, c.requires.1.region)
-
 pub place-i-requires : goal.place-i-requires
 place-i-requires c =
     (c.requires.0, c.requires.1.region, inside_facts _ _ _ _ (sym c.contains.ensures ∙ c.if-contains.true))
-
-pub bounds-buf-i : goal.bounds-buf-i
-bounds-buf-i c = omega (arith, c.place-i.ensures.1, c.requires.1.long)
-
-pub inked-requires : goal.inked-requires
-inked-requires c = (c.requires.2, c.wide-m.ensures.small)
-
-pub overflow_cast-buf : goal.overflow_cast-buf
-overflow_cast-buf c = omega (arith, c.inked.ensures.1)
-
-pub bounds-buf-i-then-contains : goal.bounds-buf-i-then-contains
-bounds-buf-i-then-contains c = omega (arith, c.place-i.ensures.1, c.requires.1.long)
 
 pub returns-then-contains : goal.returns-then-contains
 returns-then-contains c =

@@ -6,7 +6,7 @@ use native.Mathlib.Omega.{arith}
 use Rattle.field.proofs.Zones.{force_in_lem}
 use Rattle.paint.specs.Paint.{by_depot}
 use Rattle.paint.proofs.Adding.{adds_none, adds_as}
-use Rattle.paint.proofs.Units.{depot_stamp, shown_depot, shown_no_depot, shown_other_depot, part_none, part_only}
+use Rattle.paint.proofs.Units.{shown_depot, shown_no_depot, shown_other_depot, part_none, part_only}
 use Rattle.paint.proofs.stand.depot.Goals as goal
 
 pub returns-then-force_of-f : goal.returns-then-force_of-f
@@ -15,10 +15,6 @@ returns-then-force_of-f c =
     let b = board a.p.now in
     let q = force_in_lem b a.u in
     adds_none (λ k h i. part_none (scene b) a.f a.u by_depot (shown_other_depot (scene b) a.f a.u (λ e. omega (arith, q, c.force_of.ensures, e))) k h)
-
-pub stamp-requires : goal.stamp-requires
-stamp-requires c =
-    (c.requires.2.spot, c.requires.1, depot_stamp)
 
 pub returns-then-kind-eq-SUPPLY : goal.returns-then-kind-eq-SUPPLY
 returns-then-kind-eq-SUPPLY c =

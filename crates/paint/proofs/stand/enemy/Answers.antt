@@ -4,12 +4,8 @@ use Rattle.position.specs.Board.{board}
 use Rattle.field.specs.Scene.{scene}
 use Rattle.paint.specs.Paint.{by_enemy}
 use Rattle.paint.proofs.Adding.{adds_none, adds_as}
-use Rattle.paint.proofs.Units.{enemy_told, enemy_stamp, shown_enemy, shown_friend, part_none, part_only}
+use Rattle.paint.proofs.Units.{enemy_told, shown_enemy, shown_friend, part_none, part_only}
 use Rattle.paint.proofs.stand.enemy.Goals as goal
-
-pub stamp-requires : goal.stamp-requires
-stamp-requires c =
-    (c.requires.2.spot, c.requires.1, enemy_stamp)
 
 pub returns-then-enemy : goal.returns-then-enemy
 returns-then-enemy c =

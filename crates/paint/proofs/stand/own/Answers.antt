@@ -6,12 +6,8 @@ use native.Mathlib.Omega.{arith}
 use Rattle.field.proofs.Zones.{force_in_lem}
 use Rattle.paint.specs.Paint.{by_own}
 use Rattle.paint.proofs.Adding.{adds_none, adds_as}
-use Rattle.paint.proofs.Units.{own_stamp, shown_own, shown_other, part_none, part_only}
+use Rattle.paint.proofs.Units.{shown_own, shown_other, part_none, part_only}
 use Rattle.paint.proofs.stand.own.Goals as goal
-
-pub stamp-requires : goal.stamp-requires
-stamp-requires c =
-    (c.requires.2.spot, c.requires.1, own_stamp)
 
 pub returns-then-force_of-f : goal.returns-then-force_of-f
 returns-then-force_of-f c =

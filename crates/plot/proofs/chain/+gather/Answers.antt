@@ -33,12 +33,12 @@ loop-d-preserved-in_default t c = (
 )
 
 pub yields-requires : goal.yields-requires
-yields-requires t c = (c.requires.0, next_below _ _ _ _ (sym c.next_in.ensures ∙ c.in-At.is))
+yields-requires t c = (c.requires.0, next_below _ _ _ _ (sym c.next_in.ensures ∙ c.in-Some.is))
 
 pub loop-d-preserved-then-not-yields : goal.loop-d-preserved-then-not-yields
 loop-d-preserved-then-not-yields t c = (
   omega arith,
-  upto_held _ _ _ _ _ _ (sym c.next_in.ensures ∙ c.in-At.is) _ c.loop-d.invariant.1 (sym c.yields.ensures ∙ c.if-not-yields.true) refl,
+  upto_held _ _ _ _ _ _ (sym c.next_in.ensures ∙ c.in-Some.is) _ c.loop-d.invariant.1 (sym c.yields.ensures ∙ c.if-not-yields.true) refl,
 )
 
 pub mark_last-requires : goal.mark_last-requires
@@ -46,13 +46,13 @@ mark_last-requires t c = let p = c.requires in (
   p.0,
   c.loop-d.invariant.1.long ∙ p.1,
   p.2,
-  close_more 2 (omega (arith, p.4.few)) (close_step _ _ _ _ (sym c.next_in.ensures ∙ c.in-At.is) p.5),
+  close_more 2 (omega (arith, p.4.few)) (close_step _ _ _ _ (sym c.next_in.ensures ∙ c.in-Some.is) p.5),
 )
 
 pub loop-d-preserved-then-left-lt3 : goal.loop-d-preserved-then-left-lt3
 loop-d-preserved-then-left-lt3 t c = (
   omega arith,
-  upto_ends _ _ _ _ _ _ (sym c.next_in.ensures ∙ c.in-At.is) _ _ c.loop-d.invariant.1 (sym c.yields.ensures ∙ c.if-not-yields.false) c.longer-used.ensures.0 (marks_left _ _ _ _ (omega
+  upto_ends _ _ _ _ _ _ (sym c.next_in.ensures ∙ c.in-Some.is) _ _ c.loop-d.invariant.1 (sym c.yields.ensures ∙ c.if-not-yields.false) c.longer-used.ensures.0 (marks_left _ _ _ _ (omega
       arith) c.mark_last.ensures),
 )
 
@@ -61,7 +61,7 @@ pub gather-requires : goal.gather-requires
 gather-requires t c =
     let q = c.requires in
     let used = c.longer-used.ensures in
-    let step = sym c.next_in.ensures ∙ c.in-At.is in
+    let step = sym c.next_in.ensures ∙ c.in-Some.is in
     let loose = sym c.yields.ensures ∙ c.if-not-yields.false in
     let pushed = push_uses _ _ used.0 (next_below _ _ _ _ step) loose in
     let long = c.loop-d.invariant.1.long in
@@ -71,7 +71,7 @@ gather-requires t c =
 pub loop-d-preserved : goal.loop-d-preserved
 loop-d-preserved t c = (
   omega arith,
-  upto_ends _ _ _ _ _ _ (sym c.next_in.ensures ∙ c.in-At.is) _ _ c.loop-d.invariant.1 (sym c.yields.ensures ∙ c.if-not-yields.false) c.longer-used.ensures.0 c.gather.ensures,
+  upto_ends _ _ _ _ _ _ (sym c.next_in.ensures ∙ c.in-Some.is) _ _ c.loop-d.invariant.1 (sym c.yields.ensures ∙ c.if-not-yields.false) c.longer-used.ensures.0 c.gather.ensures,
 )
 
 pub returns : goal.returns

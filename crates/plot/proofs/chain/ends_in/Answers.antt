@@ -9,8 +9,5 @@ returns-then-y-x c = sym (end_before _ _ _ (omega arith))
 pub returns-then-x-y : goal.returns-then-x-y
 returns-then-x-y c = sym (end_after _ _ _ (omega arith))
 
-pub is_marked-requires : goal.is_marked-requires
-is_marked-requires c = omega arith
-
 pub returns : goal.returns
 returns c = end_read _ _ _ c.is_marked.result (omega arith) (omega arith) c.is_marked.ensures

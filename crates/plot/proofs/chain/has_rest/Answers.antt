@@ -13,13 +13,13 @@ pub loop-d-preserved-in_default : goal.loop-d-preserved-in_default
 loop-d-preserved-in_default c = (omega arith, any_miss _ _ (way_off _ _ _ _ _ (sym c.next_in.ensures ∙ c.in_default.is)) ∙ c.loop-d.invariant.1)
 
 pub rests-requires : goal.rests-requires
-rests-requires c = (c.requires.0, next_below _ _ _ _ (sym c.next_in.ensures ∙ c.in-At.is))
+rests-requires c = (c.requires.0, next_below _ _ _ _ (sym c.next_in.ensures ∙ c.in-Some.is))
 
 pub returns-then-rests : goal.returns-then-rests
-returns-then-rests c = sym (way_all _ _ _ _ ∙ any_true _ 6 _ c.loop-d-test.true (way_at _ _ _ _ _ _ (sym c.next_in.ensures ∙ c.in-At.is) ∙ sym c.rests.ensures ∙ c.if-rests.true))
+returns-then-rests c = sym (way_all _ _ _ _ ∙ any_true _ 6 _ c.loop-d-test.true (way_at _ _ _ _ _ _ (sym c.next_in.ensures ∙ c.in-Some.is) ∙ sym c.rests.ensures ∙ c.if-rests.true))
 
 pub loop-d-preserved : goal.loop-d-preserved
-loop-d-preserved c = (omega arith, any_miss _ _ (way_at _ _ _ _ _ _ (sym c.next_in.ensures ∙ c.in-At.is) ∙ sym c.rests.ensures ∙ c.if-rests.false) ∙ c.loop-d.invariant.1)
+loop-d-preserved c = (omega arith, any_miss _ _ (way_at _ _ _ _ _ _ (sym c.next_in.ensures ∙ c.in-Some.is) ∙ sym c.rests.ensures ∙ c.if-rests.false) ∙ c.loop-d.invariant.1)
 
 pub returns : goal.returns
 returns c =

@@ -5,12 +5,6 @@ use native.Mathlib.Omega.{arith}
 use Rattle.plot.proofs.Ends.{ends_never, ends_rest, marks_as, marks_none}
 use Rattle.plot.proofs.chain.mark_last.Goals as goal
 
-pub has_rest-requires : goal.has_rest-requires
-has_rest-requires c = (c.requires.0, c.requires.3.below)
-
-pub mark_rests-requires : goal.mark_rests-requires
-mark_rests-requires c = c.requires
-
 pub returns-then-has_rest : goal.returns-then-has_rest
 returns-then-has_rest c = marks_as (λ y k. ends_rest _ _ _ _ _ y (omega arith) (sym c.has_rest.ensures ∙ c.if-has_rest.true)) c.mark_rests.ensures
 

@@ -13,22 +13,22 @@ pub loop-d-preserved-in_default : goal.loop-d-preserved-in_default
 loop-d-preserved-in_default c = (omega arith, upto_skip _ c.loop-d.invariant.1 (rest_off _ _ _ _ _ (sym c.next_in.ensures ∙ c.in_default.is)))
 
 pub rests-requires : goal.rests-requires
-rests-requires c = (c.requires.0, next_below _ _ _ _ (sym c.next_in.ensures ∙ c.in-At.is))
+rests-requires c = (c.requires.0, next_below _ _ _ _ (sym c.next_in.ensures ∙ c.in-Some.is))
 
 pub overflow_add-z : goal.overflow_add-z
-overflow_add-z c = let k = (close_step _ _ _ _ (sym c.next_in.ensures ∙ c.in-At.is) c.requires.3) in omega arith
+overflow_add-z c = let k = (close_step _ _ _ _ (sym c.next_in.ensures ∙ c.in-Some.is) c.requires.3) in omega arith
 
 pub overflow_sub-z : goal.overflow_sub-z
-overflow_sub-z c = let k = (close_step _ _ _ _ (sym c.next_in.ensures ∙ c.in-At.is) c.requires.3) in omega arith
+overflow_sub-z c = let k = (close_step _ _ _ _ (sym c.next_in.ensures ∙ c.in-Some.is) c.requires.3) in omega arith
 
 pub mark-requires : goal.mark-requires
 mark-requires c =
-    let k = (close_step _ _ _ _ (sym c.next_in.ensures ∙ c.in-At.is) c.requires.3) in
+    let k = (close_step _ _ _ _ (sym c.next_in.ensures ∙ c.in-Some.is) c.requires.3) in
     (c.loop-d.invariant.1.long ∙ c.requires.1, omega arith)
 
 pub loop-d-preserved : goal.loop-d-preserved
 loop-d-preserved c =
-    let e = sym c.next_in.ensures ∙ c.in-At.is in
+    let e = sym c.next_in.ensures ∙ c.in-Some.is in
     let r = c.rests.ensures in
     let k = c.loop-d.invariant.1 in (
       omega arith,

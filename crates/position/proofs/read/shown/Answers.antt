@@ -3,7 +3,6 @@
 use mathlib.Core.Path.{sym, ap, ◌∙◌}
 use native.Mathlib.Omega.{arith}
 use Rattle.position.specs.Bits.{has, tried}
-use Rattle.position.specs.Layout.{marks}
 use Rattle.position.proofs.Effects.{shown_is, shown_not}
 use Rattle.position.proofs.read.shown.Goals as goal
 

@@ -5,7 +5,6 @@ use native.Mathlib.Omega.{arith}
 use Rattle.position.specs.Board.{board}
 use Rattle.position.proofs.Sides.{area_view, on_view}
 use Rattle.paint.proofs.Adding.{adds_none, adds_as}
-use Rattle.paint.proofs.Units.{spare_stamp}
 use Rattle.pushes.proofs.Drawing.{bars_none, bars_off, bars_here}
 use Rattle.pushes.proofs.draw.bar.Goals as goal
 
@@ -23,12 +22,6 @@ returns-then-hexes-h c =
 
 pub spot-s-requires : goal.spot-s-requires
 spot-s-requires c = on_view c.requires.0 _ (omega arith)
-
-pub stamp-requires : goal.stamp-requires
-stamp-requires c = (c.spot-s.ensures.0, c.requires.1, spare_stamp)
-
-pub shape_of-room : goal.shape_of-room
-shape_of-room c = c.stamp.ensures.long
 
 pub returns : goal.returns
 returns c =

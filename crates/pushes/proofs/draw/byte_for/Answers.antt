@@ -23,7 +23,7 @@ returns-in_default c =
 pub stand_at-requires : goal.stand_at-requires
 stand_at-requires c =
     let view = c.requires.0.view in
-    let q = hex_here c.hex_of.ensures c.in-At.is in
+    let q = hex_here c.hex_of.ensures c.in-Some.is in
     let k = rw (view.width, view.height) at q in
     (c.requires.0, omega (arith, q.0.on.below, area_view view), c.requires.3 _ k.0 k.1)
 
@@ -32,11 +32,11 @@ returns c =
     let a = c.args in
     let view = c.requires.0.view in
     let b = board a.p.now in
-    let k = rw (view.width, view.height) at (hex_here c.hex_of.ensures c.in-At.is) in
+    let k = rw (view.width, view.height) at (hex_here c.hex_of.ensures c.in-Some.is) in
     let n = c.stand_number.ensures.0 ∙ ap stand_number c.stand_at.ensures in (
       λ y i e.
           ap₂ (λ (m n : ℕ). m + n) c.open_bits.ensures.0 n
-          ∙ sym (byte-of b a.f a.start c.in-At.x)
+          ∙ sym (byte-of b a.f a.start c.in-Some.x)
           ∙ ap (byte_of b a.f a.start) (place_one k.0 i (k.1 ∙ sym e)),
       omega (arith, c.open_bits.ensures.1, c.stand_number.ensures.1),
     )

@@ -6,7 +6,7 @@ use Rattle.position.specs.Board.{ground}
 use Rattle.pushes.specs.Drawn.{open_bits}
 use Rattle.pushes.proofs.Drawing.{opens_at, opens_off, bits_none, bits_open, bits_shut, bits_low}
 use Rattle.pushes.proofs.draw.open_bits.Goals as goal
-use Rattle.pushes.proofs.draw.open_bits.Goals.{in-At, in_default}
+use Rattle.pushes.proofs.draw.open_bits.Goals.{in-Some, in_default}
 
 pub loop-d-init : goal.loop-d-init
 loop-d-init c = (omega arith, sym (bits_none _ _))
@@ -24,7 +24,7 @@ loop-d-preserved c =
     let e = c.next.ensures in (
       omega arith,
       elim c.match-next.branch [
-        | in-At w ↦ omega (arith, w.m-is, w.side_bit-m.ensures, c.loop-d.invariant.1, bits_open m a.x d (opens_at m a.x d e w.in-At.is))
+        | in-Some w ↦ omega (arith, w.m-is, w.side_bit-m.ensures, c.loop-d.invariant.1, bits_open m a.x d (opens_at m a.x d e w.in-Some.is))
         | in_default w ↦ omega (arith, w.m-is, c.loop-d.invariant.1, bits_shut m a.x d (opens_off m a.x d e w.in_default.is))
       ],
     )

@@ -1,11 +1,7 @@
 -- `draw::show` meets its contract: over what is painted come the bars.
 -- Assumes nothing.
-use Rattle.paint.proofs.Adding.{room_kept}
 use Rattle.pushes.proofs.Drawing.{shown}
 use Rattle.pushes.proofs.draw.show.Goals as goal
-
-pub bar_all-requires : goal.bar_all-requires
-bar_all-requires c = (c.requires.0, room_kept c.requires.1 c.room-1.given)
 
 pub returns : goal.returns
 returns c =

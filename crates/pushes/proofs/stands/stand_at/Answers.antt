@@ -1,11 +1,10 @@
 -- `stands::stand_at` meets its contract: test by test.
 -- Assumes nothing.
 use Prim.Native.Nat.{ℕ}
-use mathlib.Core.Path.{◌≡◌, sym, ap, subst, ◌∙◌}
+use mathlib.Core.Path.{◌≡◌, sym, subst, ◌∙◌}
 use mathlib.Core.Bool.{true}
 use Rattle.position.specs.Board.{board}
 use Rattle.routes.specs.Bears.{bears}
-use Rattle.chains.specs.Stand.{stand}
 use Rattle.pushes.proofs.Standing.{stand_barred, stand_zone, borne, stand_vacant, other_firm, other_loose}
 use Rattle.pushes.proofs.stands.stand_at.Goals as goal
 
@@ -36,11 +35,6 @@ own_stand-requires c =
       subst (λ (h : ℕ). bears (board a.p.now) a.f h ≡ true) c.if-h-a.true (borne (board c.args.p.now) c.args.f c.args.a c.args.h c.requires.2
           (sym c.standable.ensures ∙ c.if-not-standable.false) (sym c.has.ensures ∙ c.if-has.false)),
     )
-
-pub returns-then-h-a : goal.returns-then-h-a
-returns-then-h-a c =
-    let a = c.args in
-    c.own_stand.ensures ∙ ap (stand (board a.p.now) a.f a.a) (sym c.if-h-a.true)
 
 pub returns-then-has-2 : goal.returns-then-has-2
 returns-then-has-2 c =

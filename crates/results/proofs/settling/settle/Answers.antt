@@ -12,8 +12,6 @@ use Rattle.results.specs.Results.{suffers}
 use Rattle.results.proofs.settling.settle.Goals as goal
 
 -- the layout stays, from one part to the next
-pub turn_all-requires : goal.turn_all-requires
-turn_all-requires c = c.requires.0
 
 pub mark_all-requires : goal.mark_all-requires
 mark_all-requires c = rw c.turn_all.ensures (turned_over c.requires.0 c.args.all.now).laid

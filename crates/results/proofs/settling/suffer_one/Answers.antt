@@ -8,8 +8,5 @@ use Rattle.results.proofs.settling.suffer_one.Goals as goal
 pub returns-then-fate-eq-LOST : goal.returns-then-fate-eq-LOST
 returns-then-fate-eq-LOST c = c.destroy.ensures ∙ ap (make c.args.p.now) (sym (suffers_lost _ _ c.if-fate-eq-LOST.true))
 
-pub assign-requires : goal.assign-requires
-assign-requires c = c.requires
-
 pub returns : goal.returns
 returns c = c.assign.ensures ∙ ap (make c.args.p.now) (sym (suffers_role _ _ c.if-fate-eq-LOST.false))

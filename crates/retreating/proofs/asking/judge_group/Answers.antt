@@ -2,8 +2,8 @@
 -- Assumes nothing.
 use mathlib.Core.Path.{subst, sym, ◌∙◌}
 use native.Mathlib.Omega.{arith}
+use Rattle.std.proofs.lemmas.Result.{err_from_is_err_and}
 use Rattle.position.specs.Board.{board}
-use Rattle.ruling.specs.Judged.{TestedOf}
 use Rattle.retreat.proofs.Groups.{
   passes_group,
   stops_hex,
@@ -33,22 +33,24 @@ returns-then-hexes-h c =
     stops_hex s.p.now (board s.p.now) s.h s.route.now s.pushes.now
     (omega (arith, c.if-route-gt3.false)) (omega (arith, c.if-pushes-gt9.false)) (omega (arith, c.if-hexes-h.true))
 
-pub returns-in-Stopped : goal.returns-in-Stopped
-returns-in-Stopped c =
-    let s = c.args in
+pub returns-in_err-on_map_all : goal.returns-in_err-on_map_all
+returns-in_err-on_map_all c =
+    let e = err_from_is_err_and c.from_residual.result c.from_residual.ensures.1 in
+    rw (e.1, e.2) (let s = c.args in
     stops_route s.p.now (board s.p.now) s.h s.route.now s.pushes.now
     (omega (arith, c.if-route-gt3.false)) (omega (arith, c.if-pushes-gt9.false))
     (omega (arith, c.if-hexes-h.false, c.requires.view.hexes))
-    (subst (TestedOf _ _ _) c.in-Stopped.is c.on_map_all.ensures)
+    c.in_err-on_map_all.ensures)
 
-pub returns-in-Stopped-on_map_from : goal.returns-in-Stopped-on_map_from
-returns-in-Stopped-on_map_from c =
-    let s = c.args in
+pub returns-in_err-on_map_from : goal.returns-in_err-on_map_from
+returns-in_err-on_map_from c =
+    let e = err_from_is_err_and c.from_residual-in_err-on_map_from.result c.from_residual-in_err-on_map_from.ensures.1 in
+    rw (e.1, e.2) (let s = c.args in
     stops_pushes s.p.now (board s.p.now) s.h s.route.now s.pushes.now
     (omega (arith, c.if-route-gt3.false)) (omega (arith, c.if-pushes-gt9.false))
     (omega (arith, c.if-hexes-h.false, c.requires.view.hexes))
-    (subst (TestedOf _ _ _) c.in_default.is c.on_map_all.ensures).0
-    (subst (TestedOf _ _ _) c.in-Stopped-on_map_from.is c.on_map_from.ensures)
+    c.in_ok-on_map_all.ensures.0
+    c.in_err-on_map_from.ensures)
 
 pub returns-then-stage-ne-RETREATS : goal.returns-then-stage-ne-RETREATS
 returns-then-stage-ne-RETREATS c =
@@ -56,8 +58,8 @@ returns-then-stage-ne-RETREATS c =
     stops_stage s.p.now (board s.p.now) s.h s.route.now s.pushes.now
     (omega (arith, c.if-route-gt3.false)) (omega (arith, c.if-pushes-gt9.false))
     (omega (arith, c.if-hexes-h.false, c.requires.view.hexes))
-    (subst (TestedOf _ _ _) c.in_default.is c.on_map_all.ensures).0
-    (subst (TestedOf _ _ _) c.in_default-on_map_from.is c.on_map_from.ensures).0
+    c.in_ok-on_map_all.ensures.0
+    c.in_ok-on_map_from.ensures.0
     (λ e. c.if-stage-ne-RETREATS.true (c.stage.ensures.is ∙ e))
 
 pub returns-then-not-any_owes : goal.returns-then-not-any_owes
@@ -66,8 +68,8 @@ returns-then-not-any_owes c =
     stops_role s.p.now (board s.p.now) s.h s.route.now s.pushes.now
     (omega (arith, c.if-route-gt3.false)) (omega (arith, c.if-pushes-gt9.false))
     (omega (arith, c.if-hexes-h.false, c.requires.view.hexes))
-    (subst (TestedOf _ _ _) c.in_default.is c.on_map_all.ensures).0
-    (subst (TestedOf _ _ _) c.in_default-on_map_from.is c.on_map_from.ensures).0
+    c.in_ok-on_map_all.ensures.0
+    c.in_ok-on_map_from.ensures.0
     (sym c.stage.ensures.is ∙ c.if-stage-ne-RETREATS.false)
     (sym c.any_owes.ensures ∙ c.if-not-any_owes.true)
 
@@ -77,7 +79,7 @@ returns c =
     passes_group s.p.now (board s.p.now) s.h s.route.now s.pushes.now
     (omega (arith, c.if-route-gt3.false)) (omega (arith, c.if-pushes-gt9.false))
     (omega (arith, c.if-hexes-h.false, c.requires.view.hexes))
-    (subst (TestedOf _ _ _) c.in_default.is c.on_map_all.ensures).0
-    (subst (TestedOf _ _ _) c.in_default-on_map_from.is c.on_map_from.ensures).0
+    c.in_ok-on_map_all.ensures.0
+    c.in_ok-on_map_from.ensures.0
     (sym c.stage.ensures.is ∙ c.if-stage-ne-RETREATS.false)
     (sym c.any_owes.ensures ∙ c.if-not-any_owes.false)

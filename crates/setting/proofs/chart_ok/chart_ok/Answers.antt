@@ -1,19 +1,13 @@
--- `chart_ok::chart_ok` meets its contract. The loop's invariant: every terrain before t is as it should be.
+-- `chart_ok::chart_ok` meets its contract: what the library's `all` says over the terrains.
 -- Assumes nothing.
-use native.Mathlib.Omega.{arith}
-use Rattle.position.proofs.Answers.{said, unsaid, none_yet, one_more, all, not_all}
+use mathlib.Core.Path.{refl}
+use borrow.Author.Tests.{tests}
+use Rattle.std.proofs.Common.{rules}
+use Rattle.position.specs.Board.{chart}
+use Rattle.position.specs.Layout.{chart_rows}
+use Rattle.position.proofs.Ranges.{all_over}
+use Rattle.setting.specs.Setting.{TerrainOk}
 use Rattle.setting.proofs.chart_ok.chart_ok.Goals as goal
 
-pub loop-t-init : goal.loop-t-init
-loop-t-init c = none_yet
-
-pub returns-then-not-terrain_ok : goal.returns-then-not-terrain_ok
-returns-then-not-terrain_ok c =
-    not_all c.loop-t.invariant (omega arith) (unsaid c.terrain_ok.result c.if-not-terrain_ok.true c.terrain_ok.ensures)
-
-pub loop-t-preserved : goal.loop-t-preserved
-loop-t-preserved c =
-    one_more c.loop-t.invariant (omega arith) (said c.terrain_ok.result c.if-not-terrain_ok.false c.terrain_ok.ensures)
-
 pub returns : goal.returns
-returns c = all c.loop-t.invariant (omega arith)
+returns c = all_over (TerrainOk (chart c.args.p.now)) chart_rows refl c.all.ensures.ran (λ x b q k. search (rules, tests))

@@ -1,31 +1,21 @@
--- `map_ok::hexes_ok` meets its contract. The loop's invariant: every hex before h is as it should be.
+-- `map_ok::hexes_ok` meets its contract: what the library's `all` says over the blocks of sixteen hexes, and over the rest.
 -- Assumes nothing.
-use Prim.Native.Nat.{◌+◌}
+use mathlib.Core.Path.{refl}
 use native.Mathlib.Omega.{arith}
-use Rattle.position.proofs.Answers.{said, unsaid, none_yet, several_more}
-use Rattle.position.proofs.Shapes.{sizes}
+use borrow.Author.Tests.{tests}
+use Rattle.std.proofs.Common.{rules, ℕ, ◌+◌, ◌*◌, ◌<◌, ◌/◌}
+use Rattle.position.specs.Board.{ground}
+use Rattle.position.proofs.Answers.{said, told}
+use Rattle.position.proofs.Ranges.{all_over}
+use Rattle.setting.specs.Setting.{HexOk}
+use Rattle.setting.proofs.Spans.{all_from, whole}
 use Rattle.setting.proofs.map_ok.hexes_ok.Goals as goal
 
-pub loop-h-init : goal.loop-h-init
-loop-h-init c = none_yet
-
-pub overflow_add-h : goal.overflow_add-h
-overflow_add-h c = omega (arith, c.loop-h.invariant.most, (sizes c.requires).hexes)
-
-pub sixteen_ok-requires : goal.sixteen_ok-requires
-sixteen_ok-requires c = (c.requires, c.loop-h-test.true)
-
-pub returns-then-not-sixteen_ok : goal.returns-then-not-sixteen_ok
-returns-then-not-sixteen_ok c =
-    λ f. unsaid c.sixteen_ok.result c.if-not-sixteen_ok.true c.sixteen_ok.ensures
-    (λ k j. f (c.loop-h.h + k) (omega arith))
-
-pub loop-h-preserved : goal.loop-h-preserved
-loop-h-preserved c =
-    several_more c.loop-h.invariant (omega arith) (said c.sixteen_ok.result c.if-not-sixteen_ok.false c.sixteen_ok.ensures)
-
-pub rest_ok-requires : goal.rest_ok-requires
-rest_ok-requires c = (c.requires, c.loop-h.invariant.most, c.loop-h.invariant.held)
-
-pub returns : goal.returns
-returns c = c.rest_ok.ensures
+pub returns-then-all : goal.returns-then-all
+returns-then-all c =
+    let hexes = c.args.v.hexes in
+    let Fit = HexOk (ground c.args.p.now) in
+    let blocks : (k : ℕ) → k < hexes / 16 → (j : ℕ) → j < 16 → Fit (16 * k + j) = said c.all.result c.if-all.true
+    (all_over (λ k. (j : ℕ) → j < 16 → Fit (16 * k + j)) (hexes / 16) refl c.all.ensures.ran (λ x b q k. search (rules, tests))) in
+    told c.all-then-all.result (λ rest h l. whole blocks rest h (omega (arith, c.requires.view.hexes))) (λ f h m l. f h (omega (arith, c.requires.view.hexes)))
+    (all_from Fit (16 * (hexes / 16)) hexes refl c.all-then-all.ensures.ran (λ x b q k. search (rules, tests)))

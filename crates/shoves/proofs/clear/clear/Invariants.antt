@@ -1,12 +1,7 @@
--- `clear::clear` meets its contract. The loop's invariant: the pushes of the chain from number j on are carried out. The measure is how many
--- of them are left.
+-- `clear::clear` meets its contract. The loop's invariant: the pushes of the chain from number j on are carried out.
 -- Assumes nothing.
-use Prim.Native.Nat.{◌-◌}
 use Rattle.shoves.proofs.Clearing.{DoneFrom}
 use Rattle.shoves.proofs.clear.clear.Given as goal
 
 abbrev pub invariant-loop-j : goal.invariant-loop-j
 invariant-loop-j l = DoneFrom l.initial.p l.v l.h l.pushes l.k l.end l.p l.j
-
-abbrev pub decreases-loop-j : goal.decreases-loop-j
-decreases-loop-j l = l.j - l.k

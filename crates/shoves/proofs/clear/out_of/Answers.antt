@@ -1,6 +1,5 @@
 -- `clear::out_of` meets its contract.
 -- Assumes nothing.
-use Prim.Native.Nat.{◌-◌}
 use mathlib.Core.Path.{sym}
 use native.Mathlib.Omega.{arith}
 use Rattle.shoves.proofs.Clearing.{out_first, out_later}
@@ -8,9 +7,6 @@ use Rattle.shoves.proofs.clear.out_of.Goals as goal
 
 pub returns-then-j-k : goal.returns-then-j-k
 returns-then-j-k c = sym (out_first _ _ _ _ c.if-j-k.true)
-
-pub overflow_cast-result : goal.overflow_cast-result
-overflow_cast-result c = omega (arith, c.type_inv.pushes (c.args.j - 1))
 
 pub returns : goal.returns
 returns c = sym (out_later _ _ _ _ (omega arith))

@@ -1,5 +1,5 @@
--- `group::free_all` meets its contract. The loop's invariant: the units passed that owed there have no role any more, the others are
--- as they were. The measure is how many are left.
+-- `group::free_all` meets its contract. The loop's invariant: the units passed that owed there have no role any more, the others are as
+-- they were.
 -- Assumes nothing.
 use native.Mathlib.Omega.{arith}
 use mathlib.Core.Path.{refl}
@@ -10,15 +10,9 @@ use Rattle.shoves.proofs.group.free_all.Goals as goal
 pub loop-u-init : goal.loop-u-init
 loop-u-init c = sweep_none c.requires
 
-pub free_one-requires : goal.free_one-requires
-free_one-requires c = c.loop-u.invariant.laid
-
 pub loop-u-preserved : goal.loop-u-preserved
 loop-u-preserved c =
     sweep_more (alike_owing _) own_frees c.loop-u.invariant (omega arith) _ refl c.free_one.ensures
-
-pub shape_of-p : goal.shape_of-p
-shape_of-p c = omega (arith, c.loop-u.invariant.laid.fits.whole, c.requires.fits.whole)
 
 pub returns : goal.returns
 unfolding group

@@ -1,13 +1,9 @@
--- `group::free_all` meets its contract. The loop's invariant: the units passed that owed there have no role any more, the others are
--- as they were. The measure is how many are left.
+-- `group::free_all` meets its contract. The loop's invariant: the units passed that owed there have no role any more, the others are as
+-- they were.
 -- Assumes nothing.
-use Prim.Native.Nat.{◌-◌}
 use Rattle.shoves.specs.Shoves.{frees}
 use Rattle.shoves.proofs.Sweeps.{Sweep, owing}
 use Rattle.shoves.proofs.group.free_all.Given as goal
 
 abbrev pub invariant-loop-u : goal.invariant-loop-u
 invariant-loop-u l = Sweep (owing l.a) frees l.initial.p l.v l.u l.p
-
-abbrev pub decreases-loop-u : goal.decreases-loop-u
-decreases-loop-u l = l.count - l.u

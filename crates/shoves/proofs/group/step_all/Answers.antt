@@ -1,5 +1,4 @@
 -- `group::step_all` meets its contract. The loop's invariant: the units passed that owed there have gone, the others are as they were.
--- The measure is how many are left.
 -- Assumes nothing.
 use native.Mathlib.Omega.{arith}
 use Rattle.shoves.specs.Group.{group}
@@ -11,16 +10,10 @@ use Rattle.shoves.proofs.group.step_all.Goals as goal
 pub loop-u-init : goal.loop-u-init
 loop-u-init c = sweep_none c.requires
 
-pub step_one-requires : goal.step_one-requires
-step_one-requires c = c.loop-u.invariant.laid
-
 pub loop-u-preserved : goal.loop-u-preserved
 loop-u-preserved c =
     let e = goes_same _ _ _ _ c.loop-u.invariant.kinds in
     sweep_more (alike_owing _) (own_goes _ _) c.loop-u.invariant (omega arith) _ e c.step_one.ensures
-
-pub shape_of-p : goal.shape_of-p
-shape_of-p c = omega (arith, c.loop-u.invariant.laid.fits.whole, c.requires.fits.whole)
 
 pub returns : goal.returns
 unfolding group group_to

@@ -1,7 +1,5 @@
 -- `group::step_all` meets its contract. The loop's invariant: the units passed that owed there have gone, the others are as they were.
--- The measure is how many are left.
 -- Assumes nothing.
-use Prim.Native.Nat.{◌-◌}
 use Rattle.position.specs.Board.{board}
 use Rattle.shoves.specs.Shoves.{goes_to}
 use Rattle.shoves.proofs.Sweeps.{Sweep, owing}
@@ -9,6 +7,3 @@ use Rattle.shoves.proofs.group.step_all.Given as goal
 
 abbrev pub invariant-loop-u : goal.invariant-loop-u
 invariant-loop-u l = Sweep (owing l.a) (goes_to (board l.initial.p) l.x) l.initial.p l.v l.u l.p
-
-abbrev pub decreases-loop-u : goal.decreases-loop-u
-decreases-loop-u l = l.count - l.u

@@ -1,11 +1,8 @@
 -- `grade::landed_by` meets its contract: a coastal hex with a supply unit, or else the force on a landing.
 -- Assumes nothing.
 use mathlib.Core.Path.{sym, ◌∙◌}
-use mathlib.Core.Bool.{false}
 use Rattle.position.specs.Board.{board}
-use Rattle.position.specs.Bits.{has}
 use Rattle.field.specs.Scene.{scene}
-use Rattle.supply.specs.Open.{coastal}
 use Rattle.supply.proofs.Grading.{depot_inland, depot_none, landed_depot, landed_own, landed_not}
 use Rattle.supply.proofs.grade.landed_by.Goals as goal
 use Rattle.supply.proofs.grade.landed_by.Goals.{then-coastal+else-has, else-coastal}

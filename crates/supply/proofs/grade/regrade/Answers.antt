@@ -1,37 +1,9 @@
 -- `grade::regrade` meets its contract. The loop's invariant: the hexes below h hold their grades, and the others what was traced.
 -- Assumes nothing.
-use mathlib.Core.Path.{ap, ◌∙◌}
 use native.Mathlib.Omega.{arith}
-use Rattle.position.specs.Board.{board}
-use Rattle.field.specs.Scene.{scene}
-use Rattle.paint.proofs.Bytes.{pass_none, pass_set}
-use Rattle.supply.specs.Traced.{regrade_by}
 use Rattle.supply.proofs.Grading.{all_regraded}
 use Rattle.supply.proofs.grade.regrade.Goals as goal
 
-pub loop-h-init : goal.loop-h-init
-loop-h-init c = (omega arith, pass_none)
-
-pub bounds-buf-h : goal.bounds-buf-h
-bounds-buf-h c = let s = c.requires in omega (arith, c.loop-h.invariant.1.long, s.1.long, s.0.view.hexes)
-
-pub overflow_cast-buf : goal.overflow_cast-buf
-overflow_cast-buf c = omega (arith, c.regrade_by.ensures.small)
-
-pub bounds-buf-h-in-loop-h : goal.bounds-buf-h-in-loop-h
-bounds-buf-h-in-loop-h c = let s = c.requires in omega (arith, c.loop-h.invariant.1.long, s.1.long, s.0.view.hexes)
-
-pub loop-h-preserved : goal.loop-h-preserved
-loop-h-preserved c =
-    let t = c.loop-h.invariant.1 in
-    let r = c.regrade_by in (
-      omega arith,
-      pass_set t (omega (arith, t.long, c.requires.1.long, c.requires.0.view.hexes)) r.result
-          (r.ensures.is ∙ ap (regrade_by (scene (board c.args.p.now)) c.loop-h.h) c.wide-m.ensures.is),
-    )
-
-pub shape_of-buf : goal.shape_of-buf
-shape_of-buf c = c.loop-h.invariant.1.long
-
 pub returns : goal.returns
-returns c = let s = c.requires in all_regraded s.1 c.loop-h.invariant.1 (omega (arith, s.0.view.hexes))
+returns c =
+    all_regraded c.requires.1 c.loop-h.invariant (omega (arith, c.requires.0.view.hexes, c.requires.1.long))

