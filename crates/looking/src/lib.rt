@@ -38,9 +38,11 @@ pub fn look(p: &[u8], v: View, buf: &[u8], s: Spot, from: usize, m: u8) -> Optio
     requires buf_len { length buf.now ≡ v.hexes }
     ensures { FirstOf (next (ground p.now)) (mark buf.now) m s.hex from result }
 {
-    for dir in from..6 {
-        if leads(p, v, buf, s, dir, near::near(v.width, v.height, s, dir), m) {
-            return Some(dir);
+    for dir in 0..6 {
+        if from <= dir {
+            if leads(p, v, buf, s, dir, near::near(v.width, v.height, s, dir), m) {
+                return Some(dir);
+            }
         }
     }
     None

@@ -9,6 +9,7 @@ use Rattle.position.proofs.Tallies.{same_or}
 use Rattle.walk.specs.Chain.{mark}
 use Rattle.walk.specs.Trail.{Shut}
 use Rattle.looking.proofs.look.Goals as goal
+use Rattle.looking.proofs.look.Goals.{then-from-dir+else-leads, else-from-dir}
 
 pub loop-dir-init : goal.loop-dir-init
 loop-dir-init c = λ e p q. absurd (omega arith)
@@ -28,7 +29,9 @@ loop-dir-preserved c =
     let a = c.args in
     λ e p l.
     same_or e c.loop-dir.dir
-    (λ q. subst (Shut (next (ground a.p.now)) (mark a.buf.now) a.m a.s.hex) (sym q) (rw c.if-leads.false at c.leads.ensures))
+    (λ q. elim c.if-from-dir.branch [
+      then-from-dir+else-leads w ↦ subst (Shut (next (ground a.p.now)) (mark a.buf.now) a.m a.s.hex) (sym q) (rw w.if-leads.false at w.leads.ensures)
+      | else-from-dir w ↦ absurd (omega arith) ])
     (λ n. c.loop-dir.invariant e p (omega arith))
 
 pub returns : goal.returns

@@ -1,31 +1,64 @@
--- `near` meets its contract: the place beside is the neighbour's, as the definition says, and column and row are the place's.
+-- `near` meets its contract: where the moves lead, the direction leads, and where one leads off the map, it does.
 -- Assumes nothing.
-use mathlib.Core.Path.{sym}
-use native.Mathlib.Omega.{arith}
-use Rattle.grid.proofs.Spots.{spot_column, spot_row, beside_at, beside_off}
-use Rattle.grid.proofs.Tests.{found}
+use Rattle.std.proofs.Common.{◌≡◌, arith}
+use Rattle.grid.proofs.Spots.{spot_column, spot_row, near_off, near_moved}
+use Rattle.grid.proofs.Step.{aside, down}
 use Rattle.grid.proofs.near.near.Goals as goal
 
-pub overflow_add-s : goal.overflow_add-s
-overflow_add-s c = omega (arith, spot_column c.requires.0, c.requires.0.on.wide64)
+pub returns-in_err-east-in-1 : goal.returns-in_err-east-in-1
+unfolding aside down
+returns-in_err-east-in-1 c =
+    rw (c.in-1.is, c.from_residual.ensures) (near_off c.requires.0 1 (λ x y p q g. omega (arith, g.over, c.in_err-east-in-1.ensures)))
 
-pub overflow_add-s-2 : goal.overflow_add-s-2
-overflow_add-s-2 c = omega (arith, spot_row c.requires.0, c.requires.0.on.high64)
+pub returns-in_err-east-in-2 : goal.returns-in_err-east-in-2
+unfolding aside down
+returns-in_err-east-in-2 c =
+    rw (c.in-2.is, c.from_residual-in_err-east-in-2.ensures) (near_off c.requires.0 2 (λ x y p q g. omega (arith, g.over, c.in_err-east-in-2.ensures)))
 
-pub place_beside-p-requires : goal.place_beside-p-requires
-place_beside-p-requires c = omega (arith, spot_column c.requires.0, spot_row c.requires.0, c.requires.0.on.wide64, c.requires.0.on.high64)
+pub returns-in_err-west-in-4 : goal.returns-in_err-west-in-4
+unfolding aside down
+returns-in_err-west-in-4 c =
+    rw (c.in-4.is, c.from_residual-in_err-west-in-4.ensures) (near_off c.requires.0 4 (λ x y p q g. omega (arith, g.over, c.in_err-west-in-4.ensures)))
 
-pub hex_at-requires : goal.hex_at-requires
-hex_at-requires c = (c.requires.0.on.wide64, c.requires.0.on.high64)
+pub returns-in_err-west-in_default : goal.returns-in_err-west-in_default
+unfolding aside down
+returns-in_err-west-in_default c =
+    let e : c.args.dir ≡ 5 = omega arith in
+    rw (e, c.from_residual-in_err-west-in_default.ensures) (near_off c.requires.0 5 (λ x y p q g. omega (arith, g.over, c.in_err-west-in_default.ensures)))
 
-pub returns-in_err-hex : goal.returns-in_err-hex
-returns-in_err-hex c = rw c.from_residual.ensures (beside_off c.requires.0 c.args.dir _ (sym c.in_err-hex.ensures) c.place_beside-p.ensures)
+pub returns-in-0 : goal.returns-in-0
+unfolding aside down
+returns-in-0 c = rw c.in-0.is (near_moved c.requires.0 0 _ c.above.ensures (λ x y p q. omega arith) (λ n x y p q g. omega (arith, g.deeper, g.over)))
 
-pub returns : goal.returns
-returns c = beside_at c.requires.0 c.args.dir c.in_ok-hex.hex _ (sym c.in_ok-hex.ensures) c.place_beside-p.ensures
+pub returns-in_ok-east-in-1 : goal.returns-in_ok-east-in-1
+unfolding aside down
+returns-in_ok-east-in-1 c =
+    let t = c.in_ok-east-in-1.ensures in
+    rw c.in-1.is
+    (near_moved c.requires.0 1 _ c.upper.ensures (λ x y p q. omega (arith, t.1, t.2)) (λ n x y p q g. omega (arith, g.deeper, g.over, t.1, t.2)))
 
-pub overflow_sub-result : goal.overflow_sub-result
-overflow_sub-result c = (found _ _ _ _ (sym c.in_ok-hex.ensures)).left
+pub returns-in_ok-east-in-2 : goal.returns-in_ok-east-in-2
+unfolding aside down
+returns-in_ok-east-in-2 c =
+    let t = c.in_ok-east-in-2.ensures in
+    rw c.in-2.is
+    (near_moved c.requires.0 2 _ c.lower.ensures (λ x y p q. omega (arith, t.1, t.2)) (λ n x y p q g. omega (arith, g.deeper, g.over, t.1, t.2)))
 
-pub overflow_sub-result-2 : goal.overflow_sub-result-2
-overflow_sub-result-2 c = (found _ _ _ _ (sym c.in_ok-hex.ensures)).top
+pub returns-in-3 : goal.returns-in-3
+unfolding aside down
+returns-in-3 c = rw c.in-3.is (near_moved c.requires.0 3 _ c.below.ensures (λ x y p q. omega arith) (λ n x y p q g. omega (arith, g.deeper, g.over)))
+
+pub returns-in_ok-west-in-4 : goal.returns-in_ok-west-in-4
+unfolding aside down
+returns-in_ok-west-in-4 c =
+    let t = c.in_ok-west-in-4.ensures in
+    rw c.in-4.is
+    (near_moved c.requires.0 4 _ c.lower-in-4.ensures (λ x y p q. omega (arith, t.1, t.2)) (λ n x y p q g. omega (arith, g.deeper, g.over, t.1, t.2)))
+
+pub returns-in_ok-west-in_default : goal.returns-in_ok-west-in_default
+unfolding aside down
+returns-in_ok-west-in_default c =
+    let t = c.in_ok-west-in_default.ensures in
+    let e : c.args.dir ≡ 5 = omega arith in
+    rw e
+    (near_moved c.requires.0 5 _ c.upper-in_default.ensures (λ x y p q. omega (arith, t.1, t.2)) (λ n x y p q g. omega (arith, g.deeper, g.over, t.1, t.2)))
