@@ -15,7 +15,6 @@ mod asking;
 use battle::Fought;
 use position::{View, read};
 use results::{codes, settling};
-use ruling::Refusal;
 
 // The battle of an attack that is let through.
 fn fight(
@@ -40,8 +39,9 @@ fn fight(
     let code = read::code(p, v, column, die);
     let o = codes::upshot(code);
     let need = codes::need_of(o, attackers.printed, defenders.printed);
-    let all = fighters.map(|f| f.unit);
-    settling::settle(p, v, target, units, &all[..n], o, need);
+    let mut who = [0u16; 21];
+    ranks::units_of(&fighters[..n], &mut who);
+    settling::settle(p, v, target, units, &who[..n], o, need);
     paint::clear(scratch);
     Fought::Done(column + 1, code)
 }

@@ -28,10 +28,7 @@ use Rattle.ruling.specs.Values.{fought_with}
 use Rattle.ruling.specs.Verdict.{Met, Outcome, judged, outcome, turned_all}
 use Rattle.ruling.specs.Verdict.Ruling.{accepted}
 use Rattle.walk.proofs.Marks.{le_or}
-use denote.Param.Members.{Mut}
-use Rattle.std.specs.Array.{IsMapOf}
-use Rattle.std.specs.Fn.{Called}
-use Rattle.std.proofs.lemmas.List.{get_or-map, map-append, take-map}
+use Rattle.std.proofs.lemmas.List.{get_or-map, map-append}
 use Rattle.line.specs.Line.{fighter_of, fighting_total, most, places, printed_total}
 use Rattle.line.specs.declared.Fighter.{Fighter}
 use Rattle.field.proofs.Lists.{Passing, map_long, sieve_at, sieve_long}
@@ -43,7 +40,7 @@ use Rattle.battle.specs.Asked.{Faces, Engaged}
 use Rattle.battle.specs.Battle.{battle, code_of, column_of, need_for, ruled}
 use Rattle.results.specs.Participants.{defenders, participants}
 use Rattle.battle.specs.Line.{attack_line, defence_line, fighter, line}
-use Rattle.battle.specs.Mustered.{AllStanding, Musters, Standing, armed, recruit}
+use Rattle.battle.specs.Mustered.{AllStanding, Musters, Standing, armed, recruit, unit_of}
 use Rattle.odds.specs.Odds.{column, multiple_at}
 use Rattle.results.specs.Results.{battle_changes, lost, need_of, upshot}
 use Rattle.results.specs.declared.Upshot.{Upshot}
@@ -324,25 +321,18 @@ sides {p} {target} {units} {n} {fs} w =
     }
 
 -- the units of the line
-units_back : (b : Board) (s : ℕ → ℕ) (us : List ℕ) → map (λ (x : Fighter). x.unit) (map (fighter_by b s) us) ≡ us
+units_back : (b : Board) (s : ℕ → ℕ) (us : List ℕ) → map unit_of (map (fighter_by b s) us) ≡ us
 unfolding fighter_by fighter
 units_back b s [] = refl
 units_back b s (u ∷ us) = ap (λ (l : List ℕ). u ∷ l) (units_back b s us)
 
-module _ {F : Type 0} {g : Mut F (Fighter × Unit {0}) ℕ} {f : F} {fs : List Fighter} {all : List ℕ} {m : ℕ} (h : IsMapOf g f fs all m) (z : length fs ≡ m) (reads : (p q : F) (x : Fighter) (r : ℕ) → Called g p (x, tt) r q → r ≡ x.unit) where
-  all_units : all ≡ map (λ (x : Fighter). x.unit) fs
-  all_units =
-      let d = fighter_of 0 0 0 in
-      ext_get_or 0 all (map (λ (x : Fighter). x.unit) fs) (h.long ∙ sym z ∙ sym (length-map fs (λ (x : Fighter). x.unit)))
-      (λ i l.
-      let k = h.at i d 0 (omega (arith, h.long)) in
-      reads k.0 k.1 (get_or fs i d) (get_or all i 0) k.2 ∙ sym (get_or-map (λ (x : Fighter). x.unit) fs i d 0 (omega (arith, h.long, z))))
-
-  -- the participants, as the line's units are read back
-  pub lent_all : {p : List ℕ} {target : ℕ} {units : List ℕ} {n : ℕ} → Ranked p target units n fs → take n all ≡ participants (board p) target units
-  lent_all {p} {target} {units} {n} w =
-      let b = board p in
-      ap (take n) all_units
-      ∙ take-map (λ (x : Fighter). x.unit) n fs
-      ∙ ap (map (λ (x : Fighter). x.unit)) w.held
-      ∙ units_back b (strength p) (participants b target units)
+-- the participants, as the line's units are read back
+pub lent_all : {p : List ℕ} {target : ℕ} {units : List ℕ} {n : ℕ} {fs : List Fighter} (all : List ℕ)
+    → Ranked p target units n fs → take (length (take n fs)) all ≡ map unit_of (take n fs) → take n all ≡ participants (board p) target units
+lent_all {p} {target} {units} {n} {fs} all w e =
+    let b = board p in
+    let z : length (take n fs) ≡ n = length-take-le n fs (omega (arith, w.size, w.most)) in
+    ap (λ (k : ℕ). take k all) (sym z)
+    ∙ e
+    ∙ ap (map unit_of) w.held
+    ∙ units_back b (strength p) (participants b target units)

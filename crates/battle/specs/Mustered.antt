@@ -52,3 +52,7 @@ arm_own b nation x = cond (eqb (nation_of b x) nation) (armed b x) x
 -- those of the US are armed, and then those of Canada
 unfoldable pub arm_home : Board → List Fighter → List Fighter
 arm_home b line = map (arm_own b canada) (map (arm_own b us) line)
+
+-- the unit of a fighter
+abbrev pub unit_of : Fighter → ℕ
+unit_of x = x.unit

@@ -35,7 +35,7 @@ const DESK_LENGTH: usize = layout::PLAYERS + layout::FORCES;
 
 // Whether a scenario is open, and the first line that could not be read; the map's size, once it is told; how many columns, units and routes
 // are told, and whether the players are; the five bodies, each with room for the most that it can hold; and what was said before.
-#[derive(Drop)]
+#[derive(Clone, Copy)]
 pub struct Draft {
     pub open: bool,
     pub unread: Option<usize>,

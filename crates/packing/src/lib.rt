@@ -14,11 +14,18 @@ use march::Moved;
 use retreat::Retreated;
 use ruling::Refusal;
 
-// A refusal: its number in the low byte, its place in bits 8 to 23.
-fn refusal(r: Refusal) -> u64
+// A refusal: its number in the low byte, its place in bits 8 to 23, whatever they are.
+pub fn refusal(n: usize, k: usize) -> u64
+    ensures { result ≡ refusal_of n k }
+{
+    (n % 256 + 256 * (k % 65536)) as u64
+}
+
+// The rule that a call is refused by.
+fn refused(r: Refusal) -> u64
     ensures { result ≡ refusal_of (number_of r) (place_of r) }
 {
-    (r.number() % 256 + 256 * (r.place() % 65536)) as u64
+    refusal(r.number(), r.place())
 }
 
 pub fn pack_answer(a: Result<(), Refusal>) -> u64
@@ -26,7 +33,7 @@ pub fn pack_answer(a: Result<(), Refusal>) -> u64
 {
     match a {
         Ok(()) => 0,
-        Err(r) => refusal(r),
+        Err(r) => refused(r),
     }
 }
 
@@ -35,7 +42,7 @@ pub fn pack_moved(a: Moved) -> u64
 {
     match a {
         Moved::Done => 0,
-        Moved::Refused(r) => refusal(r),
+        Moved::Refused(r) => refused(r),
     }
 }
 
@@ -45,7 +52,7 @@ pub fn pack_fought(a: Fought) -> u64
 {
     match a {
         Fought::Done(column, code) => (256 * (column % 256) + 65536 * (code % 65536)) as u64,
-        Fought::Refused(r) => refusal(r),
+        Fought::Refused(r) => refused(r),
     }
 }
 
@@ -56,6 +63,6 @@ pub fn pack_retreated(a: Retreated) -> u64
     match a {
         Retreated::To(end) => (256 + 65536 * (end % 65536)) as u64,
         Retreated::Destroyed => 512,
-        Retreated::Refused(r) => refusal(r),
+        Retreated::Refused(r) => refused(r),
     }
 }

@@ -96,6 +96,9 @@ pub fn stack(page: &mut Page, p: &[u8], v: View, h: usize, at: Place)
     requires { Laid p.now v }
 {
     let crowd = crowd::crowd(p, v, h);
+    if crowd == 0 {
+        return;
+    }
     let there = (0..v.count).filter(|u| read::hex(p, v, *u) == h);
     for (k, u) in there.enumerate() {
         let unit = Unit::of(p, v, u);

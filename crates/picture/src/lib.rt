@@ -12,8 +12,9 @@ mod sheet;
 
 ghost use Rattle.position.specs.Laid.{Laid};
 
+pub use hexes::Ground;
 use page::Page;
-use position::View;
+use position::{View, kind};
 
 // The picture of a position that is accepted.
 fn drawn(page: &mut Page, p: &[u8], v: View, nationality: Option<usize>)
@@ -27,7 +28,7 @@ fn drawn(page: &mut Page, p: &[u8], v: View, nationality: Option<usize>)
 // The position as a picture. For a nationality the hexes that are supplied and the Enemy zones are shaded.
 pub fn picture(page: &mut Page, p: &[u8], nationality: Option<usize>) {
     match checking::check(p) {
-        Some(v) => drawn(page, p, v, nationality),
+        Some(v) => drawn(page, p, v, nationality.filter(|n| *n <= kind::CANADA)),
         None => page.text("no picture: the position is not accepted\n"),
     }
 }

@@ -11,7 +11,7 @@ ghost use Rattle.supply.specs.Traced.{Traced};
 ghost use Rattle.results.specs.Participants.{defenders};
 ghost use Rattle.battle.specs.Line.{strength_of};
 ghost use Rattle.line.specs.Line.{places};
-ghost use Rattle.battle.specs.Mustered.{recruit, Joins, Musters, Standing, AllStanding, nation_at, armed, arm_own, arm_home};
+ghost use Rattle.battle.specs.Mustered.{recruit, Joins, Musters, Standing, AllStanding, nation_at, armed, arm_own, arm_home, unit_of};
 
 use field::unit;
 use line::Fighter;
@@ -137,4 +137,14 @@ pub fn arm_all(p: &[u8], v: View, line: &mut [Fighter], scratch: &mut [u8])
         arm(p, v, nation, line, scratch);
     }
     arm_home(p, v, line, scratch);
+}
+
+// The units of the line, read back into an array: those that the result is carried out on.
+pub fn units_of(line: &[Fighter], who: &mut [u16; 21])
+    requires { length line.now ≤ places }
+    ensures { take (length line.now) who.new ≡ map unit_of line.now }
+{
+    for (i, f) in line.iter().enumerate() {
+        who[i] = f.unit;
+    }
 }

@@ -29,7 +29,7 @@ pub enum Stage {
 
 // The line's first word; its first 40 numbers, and after how many of them a slash stood; and what its hex digits have made so far,
 // if they have begun.
-#[derive(Drop)]
+#[derive(Clone, Copy)]
 pub struct Line {
     pub stage: Stage,
     word: Word,

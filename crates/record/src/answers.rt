@@ -40,7 +40,7 @@ impl Answers {
     // Refused by a number and a place; the rule in words.
     fn refused(&mut self, call: Call, refusal: Refusal) {
         self.page.pair("no ", refusal.number(), refusal.place());
-        self.end(|page| wording::reason(page, call, refusal));
+        self.end(|page| wording::reason(page, call, refusal.number(), refusal.place()));
     }
 
     // Accepted, or refused.

@@ -34,6 +34,11 @@ abbrev pub LeadsOf : (ℕ → ℕ → Option ℕ) → (ℕ → ℕ) → ℕ → 
 LeadsOf next f m a d true = Opens next f m a d
 LeadsOf next f m a d false = Shut next f m a d
 
+-- the same where a direction below c is passed over, and leads to none
+abbrev pub LooksOf : (ℕ → ℕ → Option ℕ) → (ℕ → ℕ) → ℕ → ℕ → ℕ → ℕ → Bool → Type 0
+LooksOf next f m a c d true = Opens next f m a d
+LooksOf next f m a c d false = c ≤ d → Shut next f m a d
+
 -- d is the first direction, neither below c nor below k, in which a step from hex a leads to a hex marked m; 6 if there is none
 pub record First (next : ℕ → ℕ → Option ℕ) (f : ℕ → ℕ) (m a c k d : ℕ) : Type 0 where
   pub most : d ≤ 6

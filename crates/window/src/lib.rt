@@ -30,6 +30,15 @@ pub fn free(m: usize) -> bool
     !bits::has(paint::ZONE, m)
 }
 
+// Whether hex `x` is at distance i + 1 from the start.
+#[tactic(auto, using(position::proofs::Sides::on_view, routes::proofs::Steps::far_view))]
+pub fn as_far(p: &[u8], v: View, start: usize, i: usize, x: usize) -> bool
+    requires { Laid p.now v × (start < v.hexes) × (x < v.hexes) × (i < 3) }
+    ensures { result ≡ eqb (distance_of (width p.now) start x) (i + 1) }
+{
+    grid::distance(v.width, v.height, start, x) == i + 1
+}
+
 // The hexes round hex `start`, where a group of force `f` begins its retreat: a position, and the marks of a region of its map.
 #[derive(Clone, Copy)]
 pub struct Painted<'a> {
@@ -45,15 +54,6 @@ pub struct Painted<'a> {
 }
 
 impl Painted<'_> {
-    // Whether hex `x` is at distance i + 1 from the start.
-    #[tactic(auto, using(position::proofs::Sides::on_view, routes::proofs::Steps::far_view))]
-    fn as_far(&self, i: usize, x: usize) -> bool
-        requires { (x < self.now.v.hexes) × (i < 3) }
-        ensures { result ≡ eqb (distance_of (width self.now.p.now) self.now.start x) (i + 1) }
-    {
-        grid::distance(self.v.width, self.v.height, self.start, x) == i + 1
-    }
-
     // Whether the group may enter hex `x` of the region.
     #[tactic(auto, using(routes::proofs::Windows::refuge_free, routes::proofs::Windows::refuge_barred, routes::proofs::Windows::window_marked))]
     fn refuge(&self, x: usize) -> bool
@@ -70,11 +70,11 @@ impl Painted<'_> {
 
     // Whether a run may enter hex `x` after `i` steps.
     #[tactic(auto, using(position::proofs::Sides::on_view, routes::proofs::Steps::far_view), unfolding(routes::specs::Legal::enters))]
-    fn enters(&self, i: usize, x: usize) -> bool
+    pub fn enters(&self, i: usize, x: usize) -> bool
         requires { (x < self.now.v.hexes) × (i < 3) }
         ensures { result ≡ enters (board self.now.p.now) self.now.f self.now.start i x }
     {
-        if self.as_far(i, x) {
+        if as_far(self.p, self.v, self.start, i, x) {
             return self.refuge(x);
         }
         false

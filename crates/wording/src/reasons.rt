@@ -135,8 +135,33 @@ fn words(call: Call, refusal: Refusal) -> &'static str {
     }
 }
 
-// The rule that a call is refused by, in words.
-pub fn reason(page: &mut Page, call: Call, refusal: Refusal) {
-    subject(page, call, refusal.place());
-    page.text(words(call, refusal));
+// The rule of a number, if one has it.
+fn rule(n: usize, place: usize) -> Option<Refusal> {
+    Some(match n {
+        1 => Refusal::Unaccepted,
+        2 => Refusal::Untimely,
+        3 => Refusal::OutOfRange(place),
+        4 => Refusal::WrongUnit(place),
+        5 => Refusal::Forbidden(place),
+        6 => Refusal::NamedTwice(place),
+        7 => Refusal::NoWay(place),
+        8 => Refusal::EnemyThere(place),
+        9 => Refusal::AfterZone(place),
+        10 => Refusal::OverAllowance(place),
+        11 => Refusal::Full(place),
+        12 => Refusal::NoTarget,
+        13 => Refusal::NotBeside(place),
+        14 => Refusal::WrongRoute,
+        15 => Refusal::LossesShort,
+        16 => Refusal::LastPhase,
+        17 => Refusal::WrongPushes,
+        18 => Refusal::NeutralThere(place),
+        _ => return None,
+    })
+}
+
+// The rule that a call is refused by, in words. Any numbers have some: what is no rule's is written as `?`.
+pub fn reason(page: &mut Page, call: Call, n: usize, place: usize) {
+    subject(page, call, place);
+    page.text(rule(n, place).map_or("?", |refusal| words(call, refusal)));
 }

@@ -38,7 +38,7 @@ settle-requires c =
       c.requires.0,
       c.requires.2.range.most,
       omega (arith, (hexes_most c.requires.0.shaped), c.requires.2.range.aimed),
-      lent_all c.map-all.ensures.items w.size (λ p q x r k. search (rules, tests)) w,
+      lent_all c.units_of.new.who w c.units_of.ensures,
       rw c.upshot-o.ensures (upshot_fits c.code-code.result c.code-code.ensures.small),
       rw c.need_of-need.ensures (need_fits c.upshot-o.result _ _ (omega (arith, a.printed.small, a.fighting.small)) (omega (arith, d.printed.small, d.fighting.small))),
     )
@@ -59,5 +59,5 @@ returns c =
     (c.need_of-need.ensures ∙ ap (λ (o : Upshot). need_of o c.sum_up-attackers.result.printed c.sum_up-defenders.result.printed) c.upshot-o.ensures))
     (c.settle.ensures
     ∙ ap₂ (λ (x : List ℕ) (o : Upshot). makes (turned_all p x) (battle_changes b a.target a.units.now o c.need_of-need.result))
-    (lent_all c.map-all.ensures.items w.size (λ p q x r k. search (rules, tests)) w) c.upshot-o.ensures)
+    (lent_all c.units_of.new.who w c.units_of.ensures) c.upshot-o.ensures)
     (all_clear c.arm_all.new.scratch b.map.hexes c.clear.ensures (omega (arith, c.requires.2.range.scratch, c.arm_all.auto.scratch)))

@@ -1,43 +1,66 @@
--- `look` meets its contract. The loop's invariant: no step leads to such a hex in a direction passed.
+-- `look` meets its contract: the first direction that leads to such a hex is the one that is answered, as those before it lead to none.
 -- Assumes nothing.
-use Prim.Native.Nat.{ℕ}
-use mathlib.Core.Path.{sym, subst}
 use native.Mathlib.Omega.{arith}
-use Rattle.position.specs.Board.{ground}
-use Rattle.position.specs.Ground.{next}
-use Rattle.position.proofs.Tallies.{same_or}
-use Rattle.walk.specs.Chain.{mark}
-use Rattle.walk.specs.Trail.{Shut}
+use Rattle.walk.proofs.Looks.{first_none, first_here, first_on}
 use Rattle.looking.proofs.look.Goals as goal
-use Rattle.looking.proofs.look.Goals.{then-from-dir+else-leads, else-from-dir}
 
-pub loop-dir-init : goal.loop-dir-init
-loop-dir-init c = λ e p q. absurd (omega arith)
+pub returns-then-opens : goal.returns-then-opens
+returns-then-opens c = (
+    (first_here 0 (omega arith) (rw c.if-opens.true at c.opens.ensures)),
+    omega arith,
+  )
 
-pub returns-then-leads : goal.returns-then-leads
-returns-then-leads c = (
-  record {
-    most = omega arith;
-    past = λ e p k l. c.loop-dir.invariant e p l;
-    found = λ l. rw c.if-leads.true at c.leads.ensures;
-  },
-  omega arith,
-)
+pub returns-then-opens-2 : goal.returns-then-opens-2
+returns-then-opens-2 c = (
+    (first_on 0 (rw c.if-opens.false at c.opens.ensures)
+    (first_here 1 (omega arith) (rw c.if-opens-2.true at c.opens-2.ensures))),
+    omega arith,
+  )
 
-pub loop-dir-preserved : goal.loop-dir-preserved
-loop-dir-preserved c =
-    let a = c.args in
-    λ e p l.
-    same_or e c.loop-dir.dir
-    (λ q. elim c.if-from-dir.branch [
-      then-from-dir+else-leads w ↦ subst (Shut (next (ground a.p.now)) (mark a.buf.now) a.m a.s.hex) (sym q) (rw w.if-leads.false at w.leads.ensures)
-      | else-from-dir w ↦ absurd (omega arith) ])
-    (λ n. c.loop-dir.invariant e p (omega arith))
+pub returns-then-opens-3 : goal.returns-then-opens-3
+returns-then-opens-3 c = (
+    (first_on 0 (rw c.if-opens.false at c.opens.ensures)
+    (first_on 1 (rw c.if-opens-2.false at c.opens-2.ensures)
+    (first_here 2 (omega arith) (rw c.if-opens-3.true at c.opens-3.ensures)))),
+    omega arith,
+  )
+
+pub returns-then-opens-4 : goal.returns-then-opens-4
+returns-then-opens-4 c = (
+    (first_on 0 (rw c.if-opens.false at c.opens.ensures)
+    (first_on 1 (rw c.if-opens-2.false at c.opens-2.ensures)
+    (first_on 2 (rw c.if-opens-3.false at c.opens-3.ensures)
+    (first_here 3 (omega arith) (rw c.if-opens-4.true at c.opens-4.ensures))))),
+    omega arith,
+  )
+
+pub returns-then-opens-5 : goal.returns-then-opens-5
+returns-then-opens-5 c = (
+    (first_on 0 (rw c.if-opens.false at c.opens.ensures)
+    (first_on 1 (rw c.if-opens-2.false at c.opens-2.ensures)
+    (first_on 2 (rw c.if-opens-3.false at c.opens-3.ensures)
+    (first_on 3 (rw c.if-opens-4.false at c.opens-4.ensures)
+    (first_here 4 (omega arith) (rw c.if-opens-5.true at c.opens-5.ensures)))))),
+    omega arith,
+  )
+
+pub returns-then-opens-6 : goal.returns-then-opens-6
+returns-then-opens-6 c = (
+    (first_on 0 (rw c.if-opens.false at c.opens.ensures)
+    (first_on 1 (rw c.if-opens-2.false at c.opens-2.ensures)
+    (first_on 2 (rw c.if-opens-3.false at c.opens-3.ensures)
+    (first_on 3 (rw c.if-opens-4.false at c.opens-4.ensures)
+    (first_on 4 (rw c.if-opens-5.false at c.opens-5.ensures)
+    (first_here 5 (omega arith) (rw c.if-opens-6.true at c.opens-6.ensures))))))),
+    omega arith,
+  )
 
 pub returns : goal.returns
 returns c =
-    record {
-      most = omega arith;
-      past = λ e p k l. c.loop-dir.invariant e p (omega arith);
-      found = λ l. absurd (omega arith);
-    }
+    first_on 0 (rw c.if-opens.false at c.opens.ensures)
+    (first_on 1 (rw c.if-opens-2.false at c.opens-2.ensures)
+    (first_on 2 (rw c.if-opens-3.false at c.opens-3.ensures)
+    (first_on 3 (rw c.if-opens-4.false at c.opens-4.ensures)
+    (first_on 4 (rw c.if-opens-5.false at c.opens-5.ensures)
+    (first_on 5 (rw c.if-opens-6.false at c.opens-6.ensures)
+    first_none)))))

@@ -13,4 +13,4 @@ returns-in-Ok c = sym (ap (λ (a : Result (Unit {0}) Refusal). packed (answer_as
 
 pub returns-in-Err : goal.returns-in-Err
 unfolding packed values_of
-returns-in-Err c = c.refusal.ensures ∙ sym (ap (λ (a : Result (Unit {0}) Refusal). packed (answer_as a)) c.in-Err.is)
+returns-in-Err c = c.refused.ensures ∙ sym (ap (λ (a : Result (Unit {0}) Refusal). packed (answer_as a)) c.in-Err.is)

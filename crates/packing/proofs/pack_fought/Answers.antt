@@ -12,4 +12,4 @@ returns-in-Done c = sym (ap (λ (a : Fought). packed (fought_as a)) c.in-Done.is
 
 pub returns-in-Refused : goal.returns-in-Refused
 unfolding packed values_of
-returns-in-Refused c = c.refusal.ensures ∙ sym (ap (λ (a : Fought). packed (fought_as a)) c.in-Refused.is)
+returns-in-Refused c = c.refused.ensures ∙ sym (ap (λ (a : Fought). packed (fought_as a)) c.in-Refused.is)

@@ -16,4 +16,4 @@ returns-in-Destroyed c = sym (ap (λ (a : Retreated). packed (retreated_as a)) c
 
 pub returns-in-Refused : goal.returns-in-Refused
 unfolding packed values_of
-returns-in-Refused c = c.refusal.ensures ∙ sym (ap (λ (a : Retreated). packed (retreated_as a)) c.in-Refused.is)
+returns-in-Refused c = c.refused.ensures ∙ sym (ap (λ (a : Retreated). packed (retreated_as a)) c.in-Refused.is)
