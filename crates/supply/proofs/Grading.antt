@@ -1,12 +1,13 @@
 -- What was painted, asked: a hex is open, a source, and graded by its marks as by the units themselves.
 -- Assumes nothing.
 use Prim.Native.Nat.{ℕ, ◌<◌, ◌≤◌}
-use mathlib.Core.Path.{◌≡◌, refl, sym, subst, ◌∙◌}
+use mathlib.Core.Path.{◌≡◌, refl, sym, ap, subst, ◌∙◌}
 use mathlib.Core.Bool.{Bool, true, false, ◌&&◌, and-false}
-use mathlib.Core.List.{List}
+use mathlib.Core.List.{List, [], ◌++◌}
 use native.Mathlib.Omega.{arith}
 use lib.Dec.{eqb}
-use lib.ListN.{length}
+use lib.ListN.{length, take, drop, drop_of_length-le, take-append-drop}
+use Rattle.std.proofs.lemmas.List.{append-nil}
 use borrow.Author.Tests.{lt-ltb, le-ltb, le-leb, lt-leb, eq-eqb, ne_eqb}
 use Rattle.grid.specs.declared.region.Region.{Region}
 use Rattle.grid.specs.Map.{On}
@@ -146,6 +147,13 @@ module _ (s : Scene) (n : ℕ) (l : List ℕ) (shows : MapShows s (force n) l) (
   pub grade_is : grade_by s n h (mark l h) ≡ grade s n h
   unfolding grade_by grade
   grade_is = simp (lt-ltb h s.map.hexes le, open_is, source_is)
+
+-- a pass over all hexes of a buffer, which are lent as a part of it
+pub pass_whole : {f : ℕ → ℕ → ℕ} {i : ℕ} (k : ℕ) (l m : List ℕ) → length l ≤ k → Pass f i (take k l) m → Pass f i l (m ++ drop k l)
+pass_whole k l m le p =
+    let d : drop k l ≡ [] = drop_of_length-le l le in
+    let t : take k l ≡ l = sym (append-nil (take k l)) ∙ ap (λ (x : List ℕ). take k l ++ x) (sym d) ∙ take-append-drop k l in
+    rw (d, append-nil m) (rw t at p)
 
 -- a pass that writes each hex's grade over its marks
 pub all_graded : {s : Scene} {n i : ℕ} {l m : List ℕ} → MapShows s (force n) l → Pass (grade_by s n) i l m → s.map.hexes ≤ i → Grades s n m

@@ -112,7 +112,7 @@ pub fn grade(p: &[u8], v: View, buf: &mut [u8], n: usize)
     requires { Laid p.now v × MapShows (scene (board p.now)) (force n) buf.old }
     ensures { Grades (scene (board p.now)) n buf.new }
 {
-    for (h, m) in buf.iter_mut().enumerate() {
+    for (h, m) in buf[..v.hexes].iter_mut().enumerate() {
         *m = grade_by(p, v, n, h, layout::wide(*m)) as u8;
     }
 }
@@ -136,7 +136,7 @@ pub fn regrade(p: &[u8], v: View, buf: &mut [u8])
     requires { Laid p.now v × Traced (scene (board p.now)) us buf.old }
     ensures { Grades (scene (board p.now)) canada buf.new }
 {
-    for (h, m) in buf.iter_mut().enumerate() {
+    for (h, m) in buf[..v.hexes].iter_mut().enumerate() {
         *m = regrade_by(p, v, h, layout::wide(*m)) as u8;
     }
 }

@@ -7,4 +7,4 @@ use Rattle.supply.specs.Graded.{grade_by}
 use Rattle.supply.proofs.grade.grade.Given as goal
 
 abbrev pub invariant-loop-h : goal.invariant-loop-h
-invariant-loop-h l = Pass (grade_by (scene (board l.p)) l.n) l.h l.initial.buf l.buf
+invariant-loop-h l = Pass (grade_by (scene (board l.p)) l.n) l.h l.initial.m-items l.m-items

@@ -7,4 +7,4 @@ use Rattle.supply.specs.Traced.{regrade_by}
 use Rattle.supply.proofs.grade.regrade.Given as goal
 
 abbrev pub invariant-loop-h : goal.invariant-loop-h
-invariant-loop-h l = Pass (regrade_by (scene (board l.p))) l.h l.initial.buf l.buf
+invariant-loop-h l = Pass (regrade_by (scene (board l.p))) l.h l.initial.m-items l.m-items
