@@ -10,7 +10,7 @@ use native.Mathlib.Omega.{arith}
 use borrow.Author.Tests.{eqb-false, eqb-true, leb-true, ne_eqb}
 use lib.Dec.{eqb}
 use lib.ListN.{get_or-append, drop, get_or, length, length-append, length-drop, length-map, replicate, take, take-append-drop}
-use lib.Seq.{drop-append-le, drop_at, ext_get_or, get_or-append-add, length-take-le, take_at, take-take}
+use lib.Seq.{drop-append-le, drop_at, get_or-append-add, length-take-le, take_at, take-take}
 use Rattle.position.proofs.Crowds.{crowd_is}
 use Rattle.acceptance.proofs.Lawfuls.{standable_on}
 use Rattle.position.proofs.Tallies.{equals, neither, not_both, same_or, tally_some}

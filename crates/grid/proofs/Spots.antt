@@ -47,7 +47,7 @@ module _ {w h : ℕ} {s : Spot} (o : SpotOf w h s) where
   pub near_at : (d : ℕ) (t : Spot) → SpotOf w h t → Goes d s.column s.row t.column t.row → NearOf w h s.hex d (Some t)
   near_at d t k g = (
     steps w h s.hex d t.column t.row o.on (omega (arith, k.column, column k.on)) (omega (arith, k.row, row k.on)) (rw (o.column, o.row) at g)
-    ∙ ap Some (ap₂ (λ (r c : ℕ). r * w + c) k.row k.column ∙ number w t.hex),
+        ∙ ap Some (ap₂ (λ (r c : ℕ). r * w + c) k.row k.column ∙ number w t.hex),
     k,
   )
 

@@ -4,8 +4,6 @@ use Prim.Native.Nat.{ℕ}
 use mathlib.Core.List.{List, map}
 use mathlib.Core.Path.{◌∙◌, ap, ap₂, sym}
 use native.Mathlib.Omega.{arith}
-use borrow.Author.Tests.{tests}
-use Rattle.std.proofs.Common.{rules}
 use Rattle.position.proofs.Shapes.{hexes_most}
 use Rattle.position.specs.Board.{board}
 use Rattle.position.specs.Change.{makes}

@@ -1,7 +1,7 @@
 -- `above` meets its contract: a row higher the hex is as many hexes before as the map is wide.
 -- Assumes nothing.
 use Rattle.std.proofs.Common.{arith, ◌-◌}
-use Rattle.grid.proofs.Spots.{spot_column, spot_row, spot_number, row_above, spot_at}
+use Rattle.grid.proofs.Spots.{spot_column, spot_row, row_above, spot_at}
 use Rattle.grid.proofs.near.above.Goals as goal
 
 pub overflow_sub-result : goal.overflow_sub-result

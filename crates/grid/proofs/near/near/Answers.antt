@@ -1,7 +1,7 @@
 -- `near` meets its contract: where the moves lead, the direction leads, and where one leads off the map, it does.
 -- Assumes nothing.
 use Rattle.std.proofs.Common.{◌≡◌, arith}
-use Rattle.grid.proofs.Spots.{spot_column, spot_row, near_off, near_moved}
+use Rattle.grid.proofs.Spots.{near_off, near_moved}
 use Rattle.grid.proofs.Step.{aside, down}
 use Rattle.grid.proofs.near.near.Goals as goal
 
