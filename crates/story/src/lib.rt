@@ -9,7 +9,7 @@ pub mod units;
 ghost use Rattle.position.specs.Laid.{Laid};
 
 use page::Page;
-use position::{View, kind};
+use position::View;
 pub use table::{Desk, Odds};
 pub use tiles::Tile;
 pub use units::Unit;
@@ -54,7 +54,7 @@ fn drawn(page: &mut Page, p: &[u8], v: View, nationality: Option<usize>)
 // The position as a map of text, its units and its desk. Where a nationality is named, the hexes that are supplied for it are marked.
 pub fn map(page: &mut Page, p: &[u8], nationality: Option<usize>) {
     match checking::check(p) {
-        Some(v) => drawn(page, p, v, nationality.filter(|n| *n <= kind::CANADA)),
+        Some(v) => drawn(page, p, v, nationality),
         None => page.text("no map: the position is not accepted\n"),
     }
 }

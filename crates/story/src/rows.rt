@@ -4,7 +4,7 @@ ghost use Rattle.position.specs.Laid.{Laid};
 
 use crate::tiles;
 use page::Page;
-use position::View;
+use position::{View, kind};
 
 // Half the room of a hex on its line.
 const HALF: usize = 7;
@@ -51,12 +51,12 @@ impl Sheet<'_> {
     }
 }
 
-// The map, on which the hexes that are supplied for the nationality are marked.
+// The map, on which the hexes that are supplied for the nationality are marked. For a number that is none no hex is.
 pub fn map(page: &mut Page, p: &[u8], v: View, nationality: Option<usize>)
     requires { Laid p.now v }
 {
     let mut supplied = [0; ROOM];
-    if let Some(n) = nationality {
+    if let Some(n) = nationality.filter(|n| *n <= kind::CANADA) {
         supply::fill(p, v, n, &mut supplied[..v.hexes]);
     }
     let sheet = Sheet {
